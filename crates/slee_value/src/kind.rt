@@ -1,0 +1,9 @@
+/// The type of a value.
+#[derive(Debug, Clone, Copy, PartialEq, Eq)]
+pub enum Kind {
+    Int,
+    Text,
+    Bool,
+    Activity,
+    Timer,
+}
