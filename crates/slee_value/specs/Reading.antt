@@ -42,6 +42,14 @@ Gives view (Err e) read = Fails e read
 abbrev pub Part : Type 0 → Type 0
 Part A = Result (A × List ℕ) Fault
 
+-- what is read, made into something else
+abbrev pub mapped : {A B : Type 0} → (A → B) → (List ℕ → Part A) → List ℕ → Part B
+mapped make read bytes = read bytes >>= λ x. Ok (make x.0, x.1)
+
+-- one part and then another
+abbrev pub pair : {A B : Type 0} → (List ℕ → Part A) → (List ℕ → Part B) → List ℕ → Part (A × B)
+pair first second bytes = first bytes >>= λ x. second x.1 >>= λ y. Ok ((x.0, y.0), y.1)
+
 -- a number of this width
 abbrev pub number_at : Width → List ℕ → Part ℕ
 number_at w bytes = if nat_lt (length bytes) (byte_len w) then ended else Ok (from_le_bytes w (take (byte_len w) bytes), drop (byte_len w) bytes)
@@ -87,19 +95,19 @@ text_at bytes = do
 
 -- the values of each type, behind the byte for it
 abbrev pub int_at : List ℕ → Part Value
-int_at bytes = number_at w64 bytes >>= λ n. Ok (Int (cast_signed w64 n.0), n.1)
+int_at = mapped (λ n. Int (cast_signed w64 n)) (number_at w64)
 
 abbrev pub text_value_at : List ℕ → Part Value
-text_value_at bytes = text_at bytes >>= λ text. Ok (Text text.0, text.1)
+text_value_at = mapped (λ text. Text text) text_at
 
 abbrev pub flag_value_at : List ℕ → Part Value
-flag_value_at bytes = flag_at bytes >>= λ flag. Ok (Flag flag.0, flag.1)
+flag_value_at = mapped (λ flag. Flag flag) flag_at
 
 abbrev pub activity_at : List ℕ → Part Value
-activity_at bytes = number_at w64 bytes >>= λ n. Ok (Activity (record { 0 = n.0 }), n.1)
+activity_at = mapped (λ n. Activity (record { 0 = n })) (number_at w64)
 
 abbrev pub timer_at : List ℕ → Part Value
-timer_at bytes = number_at w64 bytes >>= λ n. Ok (Timer (record { 0 = n.0 }), n.1)
+timer_at = mapped (λ n. Timer (record { 0 = n })) (number_at w64)
 
 -- no value has this byte for its type
 abbrev pub no_type : List ℕ → Part Value
