@@ -50,6 +50,12 @@ done x = Ok x
 pub ok_is : {A : Type 0} (x y : A) → done x ≡ done y → x ≡ y
 ok_is x y e = cc
 
+abbrev failed : {A : Type 0} → Fault → Result A Fault
+failed d = Err d
+
+pub err_is : {A : Type 0} (d f : Fault) → failed {A = A} d ≡ failed f → d ≡ f
+err_is d f e = cc
+
 -- a part that was read and one that failed are two
 pub not_both : {A B : Type 0} (r : Result A Fault) (x : A) (d : Fault) → r ≡ Ok x → r ≡ Err d → B
 not_both r x d p q = absurd cc

@@ -1,5 +1,5 @@
 -- Reading bytes from left to right, with the first byte that can't go on.
-use Rattle.std.specs.Prelude.{◌≡◌, ℕ, zero, suc, ◌+◌, ◌-◌, Bool, true, false, ◌&&◌, ◌||◌, List, [], ◌∷◌, length, take, drop, slice_index, Option, Some, None, Result, Ok, Err, nat_lt, nat_le, ◌==◌, if◌then◌else◌}
+use Rattle.std.specs.Prelude.{◌≡◌, ℕ, ℤ, zero, suc, ◌+◌, ◌-◌, Bool, true, false, ◌&&◌, ◌||◌, List, [], ◌∷◌, length, take, drop, slice_index, Option, Some, None, Result, Ok, Err, nat_lt, nat_le, ◌==◌, if◌then◌else◌}
 use Rattle.std.specs.Int.{Width, w32, w64, byte_len, from_le_bytes, cast_signed}
 use Rattle.std.specs.Str.{is_utf8}
 use Rattle.std.specs.Str.Lossy.{utf8_valid_len, utf8_invalid_len}
@@ -54,6 +54,10 @@ pair first second bytes = first bytes >>= λ x. second x.1 >>= λ y. Ok ((x.0, y
 abbrev pub number_at : Width → List ℕ → Part ℕ
 number_at w bytes = if nat_lt (length bytes) (byte_len w) then ended else Ok (from_le_bytes w (take (byte_len w) bytes), drop (byte_len w) bytes)
 
+-- a number of 64 bits with a sign
+abbrev pub i64_at : List ℕ → Part ℤ
+i64_at = mapped (cast_signed w64) (number_at w64)
+
 abbrev pub flag_at : List ℕ → Part Bool
 flag_at [] = ended
 flag_at (zero ∷ rest) = Ok (false, rest)
@@ -95,7 +99,7 @@ text_at bytes = do
 
 -- the values of each type, behind the byte for it
 abbrev pub int_at : List ℕ → Part Value
-int_at = mapped (λ n. Int (cast_signed w64 n)) (number_at w64)
+int_at = mapped (λ n. Int n) i64_at
 
 abbrev pub text_value_at : List ℕ → Part Value
 text_value_at = mapped (λ text. Text text) text_at
