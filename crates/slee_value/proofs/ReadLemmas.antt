@@ -84,7 +84,7 @@ Takes-then a x b y c p q = record { parts = p.parts ∙ ap (λ (t : List ℕ). x
 
 -- something that fits is spelled so: these bytes and more
 abbrev pub Begins : {A : Type 0} → (A → List ℕ) → (A → Type 0) → List ℕ → Type 0
-Begins {A} spell fits front = (x : A) × (rest : List ℕ) × fits x × AreBytes rest × (spell x ≡ front ++ rest)
+Begins {A} spell fits front = (x : A) × (rest : List ℕ) × fits x × (spell x ≡ front ++ rest)
 
 -- the bytes up to where so many are left begin something, and with one byte more they begin nothing
 pub record IsStuck {A : Type 0} (spell : A → List ℕ) (fits : A → Type 0) (bytes : List ℕ) (left : ℕ) : Type 0 where
@@ -100,6 +100,7 @@ pub record Reads {A : Type 0} (spell : A → List ℕ) (fits : A → Type 0) (re
   pub again : (x : A) (rest : List ℕ) → fits x → read (spell x ++ rest) ≡ Ok (x, rest)
   pub stuck : (bytes : List ℕ) (f : Fault) → AreBytes bytes → read bytes ≡ Err f → IsStuck spell fits bytes f.left
   pub some : Begins spell fits []
+  pub bytes : (x : A) → fits x → AreBytes (spell x)
 
 -- ---- what is read, made into something else
 
@@ -122,12 +123,13 @@ reads_mapped {A} {B} make part spell fits spell' fits' read spells fit spells' f
             back = s.back;
             parts = s.parts;
             left_is = s.left_is;
-            begins = (make s.begins.0, s.begins.1, fit s.begins.0 s.begins.2, s.begins.3, spells s.begins.0 s.begins.2 ∙ s.begins.4);
-            ends = λ b more k q. s.ends b more k (part q.0, q.1, fit' q.0 q.2, q.3, spells' q.0 q.2 ∙ q.4);
+            begins = (make s.begins.0, s.begins.1, fit s.begins.0 s.begins.2, spells s.begins.0 s.begins.2 ∙ s.begins.3);
+            ends = λ b more k q. s.ends b more k (part q.0, q.1, fit' q.0 q.2, spells' q.0 q.2 ∙ q.3);
           })
         | inr d ↦ absurd cc
       ];
-  some = (make reads.some.0, reads.some.1, fit reads.some.0 reads.some.2, reads.some.3, spells reads.some.0 reads.some.2 ∙ reads.some.4);
+  some = (make reads.some.0, reads.some.1, fit reads.some.0 reads.some.2, spells reads.some.0 reads.some.2 ∙ reads.some.3);
+  bytes = λ y f. subst AreBytes (spells' y f) (reads.bytes (part y) (fit' y f));
 }
 
 -- ---- one part and then another
@@ -163,10 +165,10 @@ module _ {A B : Type 0} (sa : A → List ℕ) (fa : A → Type 0) (ra : List ℕ
         back = s.back;
         parts = s.parts;
         left_is = s.left_is;
-        begins = (let y = other.some in ((s.begins.0, y.0), s.begins.1 ++ sb y.0, (s.begins.2, y.2), bytes_append s.begins.1 (sb y.0) s.begins.3 (subst AreBytes (sym y.4) y.3), ap (λ (t : List ℕ). t ++ sb y.0) s.begins.4 ∙ append_assoc s.front s.begins.1 (sb y.0)));
+        begins = (let y = other.some in ((s.begins.0, y.0), s.begins.1 ++ sb y.0, (s.begins.2, y.2), ap (λ (t : List ℕ). t ++ sb y.0) s.begins.3 ∙ append_assoc s.front s.begins.1 (sb y.0)));
         ends = λ b more k q.
-            elim (fronts (sa q.0.0) (sb q.0.1) (s.front ++ b ∷ []) q.1 q.4) [
-              | inl r ↦ s.ends b more k (q.0.0, r.0, q.2.0, bytes_left r.0 (sb q.0.1) (subst AreBytes (sym r.2) q.3), r.1)
+            elim (fronts (sa q.0.0) (sb q.0.1) (s.front ++ b ∷ []) q.1 q.3) [
+              | inl r ↦ s.ends b more k (q.0.0, r.0, q.2.0, r.1)
               | inr r ↦ (
                   let whole : bytes ≡ sa q.0.0 ++ (r.0 ++ more) = s.parts ∙ ap (λ (t : List ℕ). s.front ++ t) k ∙ sym (append_assoc s.front (b ∷ []) more) ∙ ap (λ (t : List ℕ). t ++ more) r.1 ∙ append_assoc (sa q.0.0) r.0 more in
                   not_both (ra bytes) (q.0.0, r.0 ++ more) f (ap ra whole ∙ one.again q.0.0 (r.0 ++ more) q.2.0) e)
@@ -183,11 +185,11 @@ module _ {A B : Type 0} (sa : A → List ℕ) (fa : A → Type 0) (ra : List ℕ
         back = s.back;
         parts = t.0.parts ∙ ap (λ (z : List ℕ). sa x.0 ++ z) s.parts ∙ sym (append_assoc (sa x.0) s.front s.back);
         left_is = s.left_is;
-        begins = ((x.0, s.begins.0), s.begins.1, (t.1, s.begins.2), s.begins.3, ap (λ (z : List ℕ). sa x.0 ++ z) s.begins.4 ∙ sym (append_assoc (sa x.0) s.front s.begins.1));
+        begins = ((x.0, s.begins.0), s.begins.1, (t.1, s.begins.2), ap (λ (z : List ℕ). sa x.0 ++ z) s.begins.3 ∙ sym (append_assoc (sa x.0) s.front s.begins.1));
         ends = λ b more k q.
-            let split : sa q.0.0 ++ sb q.0.1 ≡ sa x.0 ++ ((s.front ++ b ∷ []) ++ q.1) = q.4 ∙ ap (λ (z : List ℕ). z ++ q.1) (append_assoc (sa x.0) s.front (b ∷ [])) ∙ append_assoc (sa x.0) (s.front ++ b ∷ []) q.1 in
+            let split : sa q.0.0 ++ sb q.0.1 ≡ sa x.0 ++ ((s.front ++ b ∷ []) ++ q.1) = q.3 ∙ ap (λ (z : List ℕ). z ++ q.1) (append_assoc (sa x.0) s.front (b ∷ [])) ∙ append_assoc (sa x.0) (s.front ++ b ∷ []) q.1 in
             let both : done (q.0.0, sb q.0.1) ≡ done (x.0, (s.front ++ b ∷ []) ++ q.1) = sym (one.again q.0.0 (sb q.0.1) q.2.0) ∙ ap ra split ∙ one.again x.0 ((s.front ++ b ∷ []) ++ q.1) t.1 in
-            s.ends b more k (q.0.1, q.1, q.2.1, q.3, ap (λ (z : A × List ℕ). z.1) (ok_is (q.0.0, sb q.0.1) (x.0, (s.front ++ b ∷ []) ++ q.1) both));
+            s.ends b more k (q.0.1, q.1, q.2.1, ap (λ (z : A × List ℕ). z.1) (ok_is (q.0.0, sb q.0.1) (x.0, (s.front ++ b ∷ []) ++ q.1) both));
       }
 
   pub reads_pair : Reads (spell_pair sa sb) (fits_pair fa fb) (pair ra rb)
@@ -202,7 +204,8 @@ module _ {A B : Type 0} (sa : A → List ℕ) (fa : A → Type 0) (ra : List ℕ
               | inr q ↦ absurd cc
             ])
         ];
-    some = (let x = one.some in let y = other.some in ((x.0, y.0), sa x.0 ++ sb y.0, (x.2, y.2), bytes_append (sa x.0) (sb y.0) (subst AreBytes (sym x.4) x.3) (subst AreBytes (sym y.4) y.3), refl));
+    some = (let x = one.some in let y = other.some in ((x.0, y.0), sa x.0 ++ sb y.0, (x.2, y.2), refl));
+    bytes = λ x f. bytes_append (sa x.0) (sb x.1) (one.bytes x.0 f.0) (other.bytes x.1 f.1);
   }
 
 -- ---- one of several, by its first byte
@@ -230,24 +233,23 @@ case_again {A} {C} spell fits read tag make spell' fits' body is reads x rest f 
 
 pub case_stuck : {A C : Type 0} (spell : C → List ℕ) (fits : C → Type 0) (read : List ℕ → Part C) (tag : ℕ) (make : A → C) (spell' : A → List ℕ) (fits' : A → Type 0) (body : List ℕ → Part A)
     → IsCase spell fits read tag make spell' fits' body → Reads spell' fits' body
-    → ((x : C) (rest : List ℕ) → fits x → read (spell x ++ rest) ≡ Ok (x, rest))
+    → ((x : C) (rest : List ℕ) → fits x → read (spell x ++ rest) ≡ Ok (x, rest)) → ((x : C) → fits x → AreBytes (spell x))
     → (bytes : List ℕ) (f : Fault) → AreBytes (tag ∷ bytes) → read (tag ∷ bytes) ≡ Err f → IsStuck spell fits (tag ∷ bytes) f.left
-case_stuck {A} {C} spell fits read tag make spell' fits' body is reads again bytes f h e =
+case_stuck {A} {C} spell fits read tag make spell' fits' body is reads again are_bytes bytes f h e =
     elim (bind_err (body bytes) (λ (p : A × List ℕ). Ok (make p.0, p.1)) f (sym (is.reads bytes) ∙ e)) [
       | inl d ↦ (let s = reads.stuck bytes f h.1 d in record {
           front = tag ∷ s.front;
           back = s.back;
           parts = ap (λ (z : List ℕ). tag ∷ z) s.parts;
           left_is = s.left_is;
-          begins = (make s.begins.0, s.begins.1, is.fit s.begins.0 s.begins.2, s.begins.3, is.spells s.begins.0 ∙ ap (λ (z : List ℕ). tag ∷ z) s.begins.4);
+          begins = (make s.begins.0, s.begins.1, is.fit s.begins.0 s.begins.2, is.spells s.begins.0 ∙ ap (λ (z : List ℕ). tag ∷ z) s.begins.3);
           ends = λ b more k q.
               let t : List ℕ = (s.front ++ b ∷ []) ++ q.1 in
-              let one : read (tag ∷ t) ≡ Ok (q.0, []) = ap read (sym (append-nil (spell q.0) ∙ q.4)) ∙ again q.0 [] q.2 in
+              let one : read (tag ∷ t) ≡ Ok (q.0, []) = ap read (sym (append-nil (spell q.0) ∙ q.3)) ∙ again q.0 [] q.2 in
               let p = bind_ok (body t) (λ (z : A × List ℕ). Ok (make z.0, z.1)) (q.0, []) (sym (is.reads t) ∙ one) in
-              let front_bytes : AreBytes (s.front ++ b ∷ []) = bytes_left (s.front ++ b ∷ []) more (subst AreBytes (s.parts ∙ ap (λ (z : List ℕ). s.front ++ z) k ∙ sym (append_assoc s.front (b ∷ []) more)) h.1) in
-              let u = reads.takes t p.0 (bytes_append (s.front ++ b ∷ []) q.1 front_bytes q.3) p.1 in
+              let u = reads.takes t p.0 (subst AreBytes q.3 (are_bytes q.0 q.2)).1 p.1 in
               let nothing : p.0.1 ≡ [] = ap (λ (z : C × List ℕ). z.1) (ok_is (make p.0.0, p.0.1) (q.0, []) p.2) in
-              s.ends b more k (p.0.0, q.1, u.1, q.3, sym (u.0.parts ∙ ap (λ (z : List ℕ). spell' p.0.0 ++ z) nothing ∙ append-nil (spell' p.0.0)));
+              s.ends b more k (p.0.0, q.1, u.1, sym (u.0.parts ∙ ap (λ (z : List ℕ). spell' p.0.0 ++ z) nothing ∙ append-nil (spell' p.0.0)));
         })
       | inr d ↦ absurd cc
     ]
@@ -263,7 +265,7 @@ no_case {C} spell fits read tag bytes f again some fails left = record {
   left_is = left;
   begins = some;
   ends = λ b more k q.
-      let one : read (tag ∷ q.1) ≡ Ok (q.0, []) = ap read (sym (append-nil (spell q.0) ∙ q.4 ∙ ap (λ (z : ℕ). z ∷ q.1) (same_head b tag more bytes (sym k)))) ∙ again q.0 [] q.2 in
+      let one : read (tag ∷ q.1) ≡ Ok (q.0, []) = ap read (sym (append-nil (spell q.0) ∙ q.3 ∙ ap (λ (z : ℕ). z ∷ q.1) (same_head b tag more bytes (sym k)))) ∙ again q.0 [] q.2 in
       not_both (read (tag ∷ q.1)) (q.0, []) (fails q.1).0 one (fails q.1).1;
 }
   where

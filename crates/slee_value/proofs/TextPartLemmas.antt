@@ -1,15 +1,20 @@
 -- Texts are read as they are spelled.
-use Rattle.std.proofs.Common.{◌≡◌, ℕ, zero, suc, ◌+◌, ◌-◌, ◌^◌, ◌<◌, ◌≤◌, Bool, true, false, cond, ltb, List, [], ◌∷◌, ◌++◌, length, get_or, take, drop, Option, Some, None, Result, Ok, Err, refl, sym, ap, subst, ◌∙◌, append_assoc, arith, IsUtf8}
+use Rattle.std.proofs.Common.{◌≡◌, ℕ, zero, suc, ◌+◌, ◌-◌, ◌^◌, ◌<◌, ◌≤◌, Bool, true, false, ◌&&◌, cond, ltb, List, [], ◌∷◌, ◌++◌, length, get_or, take, drop, Option, Some, None, Result, Ok, Err, refl, sym, ap, subst, ◌∙◌, append_assoc, arith, IsUtf8}
 use Rattle.std.specs.Int.{w32, to_le_bytes}
 use Rattle.std.specs.Str.{is_utf8}
+use lib.Utf8.{scalar, scalars, encode, encodes, scalar_cases}
 use Rattle.std.proofs.lemmas.Bool.{ltb-false}
 use Rattle.std.proofs.lemmas.Str.{IsUtf8-from_is_utf8, IsUtf8-nil}
 use Rattle.std.proofs.lemmas.List.{take_at, drop_at, take-append-drop, length-append, length-take}
 use Rattle.slee_value.specs.Bytes.{spelled_u32, spelled_text, FitsText}
 use Rattle.slee_value.specs.Reading.{Fault, Part, ◌>>=◌, number_at, text_at, text_fault, unless_fault}
-use Rattle.slee_value.proofs.ReadLemmas.{AreBytes, bytes_right, Takes, Takes-then, Begins, IsStuck, Reads, bind_ok, ok_is}
+use Rattle.slee_value.proofs.ReadLemmas.{AreBytes, bytes_right, bytes_append, Takes, Takes-then, Begins, IsStuck, Reads, bind_ok, ok_is}
 use Rattle.slee_value.proofs.PartLemmas.{reads_u32}
 use Rattle.slee_value.proofs.TextLemmas.{text_whole}
+
+both : (a b : Bool) → (a && b) ≡ true → (a ≡ true) × (b ≡ true)
+both true b e = (refl, e)
+both false b e = absurd cc
 
 -- what nothing is wrong with
 pub fault_none : {A : Type 0} (o : Option Fault) (x y : A) → unless_fault o x ≡ Ok y → (o ≡ None) × (x ≡ y)
@@ -50,10 +55,22 @@ text_again text rest f =
       ∙ rw (fine, take_at text rest (length text) refl, drop_at text rest (length text) refl) refl
 
 text_some : Begins spelled_text FitsText []
-text_some = ([], 0 ∷ 0 ∷ 0 ∷ 0 ∷ [], record { utf8 = IsUtf8-nil; short = omega arith }, (omega arith, (omega arith, (omega arith, (omega arith, tt)))), refl)
+text_some = ([], 0 ∷ 0 ∷ 0 ∷ 0 ∷ [], record { utf8 = IsUtf8-nil; short = omega arith }, refl)
+
+-- the bytes of a character, and of a text
+encode_bytes : (c : ℕ) → scalar c ≡ true → AreBytes (encode c)
+unfolding encode
+encode_bytes c e = ?
+
+encodes_bytes : (cs : List ℕ) → scalars cs ≡ true → AreBytes (encodes cs)
+encodes_bytes [] e = tt
+encodes_bytes (c ∷ cs) e = bytes_append (encode c) (encodes cs) (encode_bytes c (both (scalar c) (scalars cs) e).0) (encodes_bytes cs (both (scalar c) (scalars cs) e).1)
+
+utf8_bytes : (text : List ℕ) → IsUtf8 text → AreBytes text
+utf8_bytes text u = subst AreBytes u.1.1 (encodes_bytes u.0 u.1.0)
 
 text_stuck : (bytes : List ℕ) (f : Fault) → AreBytes bytes → text_at bytes ≡ Err f → IsStuck spelled_text FitsText bytes f.left
 text_stuck bytes f h e = ?
 
 pub reads_text : Reads spelled_text FitsText text_at
-reads_text = record { takes = text_takes; again = text_again; stuck = text_stuck; some = text_some }
+reads_text = record { takes = text_takes; again = text_again; stuck = text_stuck; some = text_some; bytes = λ text f. bytes_append (spelled_u32 (length text)) text (reads_u32.bytes (length text) f.short) (utf8_bytes text f.utf8) }

@@ -46,16 +46,23 @@ value_again (Activity activity) rest f = case_again _ _ _ _ _ _ _ _ activity_cas
 value_again (Timer timer) rest f = case_again _ _ _ _ _ _ _ _ timer_case reads_u64 timer.0 rest f
 
 value_some : Begins spelling_of_value Fits []
-value_some = (Flag false, 2 ∷ 0 ∷ [], tt, (omega arith, (omega arith, tt)), refl)
+value_some = (Flag false, 2 ∷ 0 ∷ [], tt, refl)
+
+value_bytes : (x : Value) → Fits x → AreBytes (spelling_of_value x)
+value_bytes (Int z) f = (omega arith, reads_i64.bytes z f)
+value_bytes (Text text) f = (omega arith, reads_text.bytes text f)
+value_bytes (Flag flag) f = (omega arith, reads_flag.bytes flag f)
+value_bytes (Activity activity) f = (omega arith, reads_u64.bytes activity.0 f)
+value_bytes (Timer timer) f = (omega arith, reads_u64.bytes timer.0 f)
 
 value_stuck : (bytes : List ℕ) (f : Fault) → AreBytes bytes → value_at bytes ≡ Err f → IsStuck spelling_of_value Fits bytes f.left
 value_stuck [] f h e = subst (λ (n : ℕ). IsStuck spelling_of_value Fits [] n) (ap (λ (d : Fault). d.left) (err_is {A = Value × List ℕ} _ f e)) (no_bytes spelling_of_value Fits value_some)
-value_stuck (zero ∷ bytes) f h e = case_stuck _ _ _ _ _ _ _ _ int_case reads_i64 value_again bytes f h e
-value_stuck (suc zero ∷ bytes) f h e = case_stuck _ _ _ _ _ _ _ _ text_case reads_text value_again bytes f h e
-value_stuck (suc (suc zero) ∷ bytes) f h e = case_stuck _ _ _ _ _ _ _ _ flag_case reads_flag value_again bytes f h e
-value_stuck (suc (suc (suc zero)) ∷ bytes) f h e = case_stuck _ _ _ _ _ _ _ _ activity_case reads_u64 value_again bytes f h e
-value_stuck (suc (suc (suc (suc zero))) ∷ bytes) f h e = case_stuck _ _ _ _ _ _ _ _ timer_case reads_u64 value_again bytes f h e
+value_stuck (zero ∷ bytes) f h e = case_stuck _ _ _ _ _ _ _ _ int_case reads_i64 value_again value_bytes bytes f h e
+value_stuck (suc zero ∷ bytes) f h e = case_stuck _ _ _ _ _ _ _ _ text_case reads_text value_again value_bytes bytes f h e
+value_stuck (suc (suc zero) ∷ bytes) f h e = case_stuck _ _ _ _ _ _ _ _ flag_case reads_flag value_again value_bytes bytes f h e
+value_stuck (suc (suc (suc zero)) ∷ bytes) f h e = case_stuck _ _ _ _ _ _ _ _ activity_case reads_u64 value_again value_bytes bytes f h e
+value_stuck (suc (suc (suc (suc zero))) ∷ bytes) f h e = case_stuck _ _ _ _ _ _ _ _ timer_case reads_u64 value_again value_bytes bytes f h e
 value_stuck (suc (suc (suc (suc (suc b)))) ∷ bytes) f h e = no_case spelling_of_value Fits value_at (suc (suc (suc (suc (suc b))))) bytes f value_again value_some (λ more. (record { left = length more + 1; kind = bad.Tag }, refl)) (omega (arith, ap (λ (d : Fault). d.left) (err_is {A = Value × List ℕ} _ f e)))
 
 pub reads_value : Reads spelling_of_value Fits value_at
-reads_value = record { takes = value_takes; again = value_again; stuck = value_stuck; some = value_some }
+reads_value = record { takes = value_takes; again = value_again; stuck = value_stuck; some = value_some; bytes = value_bytes }
