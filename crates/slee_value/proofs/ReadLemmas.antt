@@ -44,7 +44,7 @@ pub bind_err : {A B : Type 0} (r : Result A Fault) (f : A → Result B Fault) (d
 bind_err (Ok x) f d e = inr (x, refl, e)
 bind_err (Err d') f d e = inl cc
 
-abbrev done : {A : Type 0} → A → Result A Fault
+abbrev pub done : {A : Type 0} → A → Result A Fault
 done x = Ok x
 
 pub ok_is : {A : Type 0} (x y : A) → done x ≡ done y → x ≡ y
