@@ -98,7 +98,7 @@ module _ (w : Width) (limit : ℕ) (wide : IsWide w limit) where
       }
 
   pub reads_number : Reads (to_le_bytes w) (λ n. n < limit) (number_at w)
-  reads_number = record { takes = number_takes; again = number_again; stuck = number_stuck; some = number_begins [] tt (omega arith); bytes = λ n f. wide.bytes n }
+  reads_number = record { takes = number_takes; again = number_again; stuck = number_stuck; some = number_begins [] tt (omega arith); bytes = λ n f. wide.bytes n; loosen = λ n f. f }
 
 pub reads_u32 : Reads spelled_u32 (λ n. n < 2 ^ 32) (number_at w32)
 reads_u32 = reads_number w32 (2 ^ 32) wide32
@@ -131,14 +131,14 @@ flag_some : Begins spelled_flag (λ flag. ⊤) []
 flag_some = (false, 0 ∷ [], tt, refl)
 
 flag_stuck : (bytes : List ℕ) (f : Fault) → AreBytes bytes → flag_at bytes ≡ Err f → IsStuck spelled_flag (λ flag. ⊤) bytes f.left
-flag_stuck [] f h e = subst (λ (n : ℕ). IsStuck spelled_flag (λ flag. ⊤) [] n) (ap (λ (d : Fault). d.left) (err_is {A = Bool × List ℕ} _ f e)) (no_bytes spelled_flag (λ flag. ⊤) flag_some)
+flag_stuck [] f h e = subst (λ (n : ℕ). IsStuck spelled_flag (λ flag. ⊤) [] n) (ap (λ (d : Fault). d.left) (err_is {A = Bool × List ℕ} _ f e)) (no_bytes spelled_flag (λ flag. ⊤) (λ flag. ⊤) flag_at flag_some)
 flag_stuck (zero ∷ bytes) f h e = absurd cc
 flag_stuck (suc zero ∷ bytes) f h e = absurd cc
-flag_stuck (suc (suc b) ∷ bytes) f h e = no_case spelled_flag (λ flag. ⊤) flag_at (suc (suc b)) bytes f flag_again flag_some (λ more. (record { left = suc (length more); kind = bad.Flag }, refl)) (ap (λ (d : Fault). d.left) (err_is {A = Bool × List ℕ} _ f e))
+flag_stuck (suc (suc b) ∷ bytes) f h e = no_case spelled_flag (λ flag. ⊤) (λ flag. ⊤) flag_at (suc (suc b)) bytes f flag_again flag_some (λ more. (record { left = suc (length more); kind = bad.Flag }, refl)) (ap (λ (d : Fault). d.left) (err_is {A = Bool × List ℕ} _ f e))
 
 flag_bytes : (x : Bool) → ⊤ → AreBytes (spelled_flag x)
 flag_bytes true h = (omega arith, tt)
 flag_bytes false h = (omega arith, tt)
 
 pub reads_flag : Reads spelled_flag (λ flag. ⊤) flag_at
-reads_flag = record { takes = flag_takes; again = flag_again; stuck = flag_stuck; some = flag_some; bytes = flag_bytes }
+reads_flag = record { takes = flag_takes; again = flag_again; stuck = flag_stuck; some = flag_some; bytes = flag_bytes; loosen = λ flag f. f }

@@ -316,4 +316,4 @@ text_stuck bytes f h e = elim (bind_err (number_at w32 bytes) (λ (n : ℕ × Li
 ]
 
 pub reads_text : Reads spelled_text FitsText text_at
-reads_text = record { takes = text_takes; again = text_again; stuck = text_stuck; some = text_some; bytes = λ text f. bytes_append (spelled_u32 (length text)) text (reads_u32.bytes (length text) f.short) (utf8_bytes text f.utf8) }
+reads_text = record { takes = text_takes; again = text_again; stuck = text_stuck; some = text_some; bytes = λ text f. bytes_append (spelled_u32 (length text)) text (reads_u32.bytes (length text) f.short) (utf8_bytes text f.utf8); loosen = λ text f. f }
