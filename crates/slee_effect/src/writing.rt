@@ -35,9 +35,21 @@ fn put_effect(effect: &Effect, into: &mut Vec<u8>) -> Result<(), NoMemory>
     ensures { OnOk result (into.new.items ≡ into.old.items ++ spelled_effect effect.now) }
 {
     match effect {
-        Effect::SetField { entity, name, value } => put_setting(1, *entity, name, value, into),
-        Effect::SetAttr { activity, key, value } => put_setting(2, *activity, key, value, into),
-        Effect::Create { parent, relation, priority } => {
+        Effect::SetField {
+            entity,
+            name,
+            value,
+        } => put_setting(1, *entity, name, value, into),
+        Effect::SetAttr {
+            activity,
+            key,
+            value,
+        } => put_setting(2, *activity, key, value, into),
+        Effect::Create {
+            parent,
+            relation,
+            priority,
+        } => {
             put_named(3, *parent, relation, into)?;
             put_i8(*priority, into)
         }
@@ -48,19 +60,35 @@ fn put_effect(effect: &Effect, into: &mut Vec<u8>) -> Result<(), NoMemory>
         }
         Effect::Attach { entity, activity } => put_two(6, *entity, *activity, into),
         Effect::Detach { entity, activity } => put_two(7, *entity, *activity, into),
-        Effect::SetMask { entity, activity, event, on } => {
+        Effect::SetMask {
+            entity,
+            activity,
+            event,
+            on,
+        } => {
             put_two(8, *entity, *activity, into)?;
             write_text(event, into)?;
             put_flag(*on, into)
         }
-        Effect::Fire { activity, event, service, fields } => {
+        Effect::Fire {
+            activity,
+            event,
+            service,
+            fields,
+        } => {
             put_named(9, *activity, event, into)?;
             put_option(service, into)?;
             put_fields(fields.as_slice(), into)
         }
         Effect::NewNull => Ok(into.push(10)?),
         Effect::EndNull { activity } => put_one(11, *activity, into),
-        Effect::SetTimer { activity, start, period, times, keep } => {
+        Effect::SetTimer {
+            activity,
+            start,
+            period,
+            times,
+            keep,
+        } => {
             put_one(12, *activity, into)?;
             put_moments(*start, *period, *times, into)?;
             put_keep(*keep, into)
@@ -76,9 +104,11 @@ fn put_effect(effect: &Effect, into: &mut Vec<u8>) -> Result<(), NoMemory>
             write_text(name, into)
         }
         Effect::Emit { entity, text } => put_named(16, *entity, text, into),
-        Effect::Usage { entity, name, amount } => {
-            put_counted(17, *entity, name, amount.cast_unsigned(), into)
-        }
+        Effect::Usage {
+            entity,
+            name,
+            amount,
+        } => { put_counted(17, *entity, name, amount.cast_unsigned(), into) }
     }
 }
 
@@ -104,7 +134,13 @@ fn put_named(tag: u8, one: Ref, name: &Text, into: &mut Vec<u8>) -> Result<(), N
     write_text(name, into)
 }
 
-fn put_setting(tag: u8, one: Ref, name: &Text, value: &Val, into: &mut Vec<u8>) -> Result<(), NoMemory>
+fn put_setting(
+    tag: u8,
+    one: Ref,
+    name: &Text,
+    value: &Val,
+    into: &mut Vec<u8>,
+) -> Result<(), NoMemory>
     requires name { IsShortText name.now }
     requires value { IsShortVal value.now }
     ensures { OnOk result (into.new.items ≡ into.old.items ++ (tag ∷ (spelled_ref one ++ (spelled_text name.now ++ spelled_val value.now)))) }
@@ -113,7 +149,13 @@ fn put_setting(tag: u8, one: Ref, name: &Text, value: &Val, into: &mut Vec<u8>) 
     put_val(value, into)
 }
 
-fn put_counted(tag: u8, one: Ref, name: &Text, number: u64, into: &mut Vec<u8>) -> Result<(), NoMemory>
+fn put_counted(
+    tag: u8,
+    one: Ref,
+    name: &Text,
+    number: u64,
+    into: &mut Vec<u8>,
+) -> Result<(), NoMemory>
     requires { IsShortText name.now }
     ensures { OnOk result (into.new.items ≡ into.old.items ++ (tag ∷ (spelled_ref one ++ (spelled_text name.now ++ spelled_u64 number)))) }
 {
