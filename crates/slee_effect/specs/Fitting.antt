@@ -1,0 +1,69 @@
+-- Which effects have bytes.
+use Rattle.std.specs.Prelude.{ℕ, ◌<◌, ◌^◌, ℤ, List, length, Option, Some, None, FitsSigned, IsTrue, ⊤}
+use Rattle.std.specs.Int.{w8, w64}
+use Rattle.std.specs.List.{AllByRecursion}
+use Rattle.slee_value.specs.Order.{rises, names_of}
+use Rattle.slee_value.specs.Bytes.{FitsText, Fits}
+use Rattle.slee_effect.specs.declared.reference.Ref.{Ref}
+use Rattle.slee_effect.specs.declared.reference.Ref.TheVariants.{Known, Fresh}
+use Rattle.slee_effect.specs.declared.value.Val.{Val}
+use Rattle.slee_effect.specs.declared.value.Val.TheVariants.{Plain, NewActivity, NewTimer}
+use Rattle.slee_effect.specs.declared.effect.Effect.{Effect}
+use Rattle.slee_effect.specs.declared.effect.Effect.TheVariants.{SetField, SetAttr, Create, Remove, SetPriority, Attach, Detach, SetMask, Fire, NewNull, EndNull, SetTimer, CancelTimer, Bind, Unbind, Emit, Usage}
+
+abbrev pub FitsRef : Ref → Type 0
+FitsRef (Known number) = number < 2 ^ 64
+FitsRef (Fresh place) = place < 2 ^ 32
+
+abbrev pub FitsVal : Val → Type 0
+FitsVal (Plain value) = Fits value
+FitsVal (NewActivity place) = place < 2 ^ 32
+FitsVal (NewTimer place) = place < 2 ^ 32
+
+abbrev pub FitsOption : Option (List ℕ) → Type 0
+FitsOption None = ⊤
+FitsOption (Some text) = FitsText text
+
+abbrev pub FitsField : List ℕ × Val → Type 0
+FitsField field = FitsText field.0 × FitsVal field.1
+
+-- fields whose names may stand in any order, and fields whose names rise
+abbrev pub AreFields : List (List ℕ × Val) → Type 0
+AreFields fields = (length fields < 2 ^ 32) × AllByRecursion FitsField fields
+
+abbrev pub AreRisingFields : List (List ℕ × Val) → Type 0
+AreRisingFields fields = AreFields fields × IsTrue (rises (names_of fields))
+
+-- each part of the effect is in the range of its type, and its fields are as asked
+abbrev pub FitsBy : (List (List ℕ × Val) → Type 0) → Effect → Type 0
+FitsBy FieldsFit (SetField entity name value) = FitsRef entity × (FitsText name × FitsVal value)
+FitsBy FieldsFit (SetAttr activity key value) = FitsRef activity × (FitsText key × FitsVal value)
+FitsBy FieldsFit (Create parent relation priority) = FitsRef parent × (FitsText relation × FitsSigned w8 priority)
+FitsBy FieldsFit (Remove entity) = FitsRef entity
+FitsBy FieldsFit (SetPriority entity priority) = FitsRef entity × FitsSigned w8 priority
+FitsBy FieldsFit (Attach entity activity) = FitsRef entity × FitsRef activity
+FitsBy FieldsFit (Detach entity activity) = FitsRef entity × FitsRef activity
+FitsBy FieldsFit (SetMask entity activity event on) = FitsRef entity × (FitsRef activity × (FitsText event × ⊤))
+FitsBy FieldsFit (Fire activity event service fields) = FitsRef activity × (FitsText event × (FitsOption service × FieldsFit fields))
+FitsBy FieldsFit NewNull = ⊤
+FitsBy FieldsFit (EndNull activity) = FitsRef activity
+FitsBy FieldsFit (SetTimer activity start period times keep) = FitsRef activity × ((start < 2 ^ 64) × ((period < 2 ^ 64) × ((times < 2 ^ 64) × ⊤)))
+FitsBy FieldsFit (CancelTimer timer) = FitsRef timer
+FitsBy FieldsFit (Bind name activity) = FitsText name × FitsRef activity
+FitsBy FieldsFit (Unbind name) = FitsText name
+FitsBy FieldsFit (Emit entity text) = FitsRef entity × FitsText text
+FitsBy FieldsFit (Usage entity name amount) = FitsRef entity × (FitsText name × FitsSigned w64 amount)
+
+abbrev pub FitsEffect : Effect → Type 0
+FitsEffect = FitsBy AreRisingFields
+
+-- the same, but the names of an event's fields may stand in any order
+abbrev pub IsLooseEffect : Effect → Type 0
+IsLooseEffect = FitsBy AreFields
+
+-- a list that has bytes
+abbrev pub FitEffects : List Effect → Type 0
+FitEffects effects = (length effects < 2 ^ 32) × AllByRecursion FitsEffect effects
+
+abbrev pub AreLooseEffects : List Effect → Type 0
+AreLooseEffects effects = (length effects < 2 ^ 32) × AllByRecursion IsLooseEffect effects

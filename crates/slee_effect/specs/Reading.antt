@@ -1,0 +1,135 @@
+-- Reading effects from left to right. A fault is how many bytes are left from the first one that can't go on.
+use Rattle.std.specs.Prelude.{◌≡◌, ℕ, zero, suc, ◌+◌, ◌-◌, ◌<◌, ℤ, Bool, List, [], ◌∷◌, length, Option, Some, None, Result, Ok, Err, nat_lt, ◌==◌, if◌then◌else◌, slice_index_or, slice_get, option_map}
+use Rattle.std.specs.Int.{w8, w32, w64, cast_signed}
+use Rattle.slee_value.specs.declared.keep.Keep.{Keep}
+use Rattle.slee_value.specs.declared.keep.Keep.TheVariants.{All, Last, NoneMissed}
+use Rattle.slee_value.specs.declared.fault.ValueBad.TheVariants as bad
+use Rattle.slee_value.specs.Reading.{Fault, Part, ◌>>=◌, mapped, pair, refuse, ended, number_at, i64_at, flag_at, text_at, value_at}
+use Rattle.slee_effect.specs.declared.reference.Ref.{Ref}
+use Rattle.slee_effect.specs.declared.reference.Ref.TheVariants.{Known, Fresh}
+use Rattle.slee_effect.specs.declared.value.Val.{Val}
+use Rattle.slee_effect.specs.declared.value.Val.TheVariants.{Plain, NewActivity, NewTimer}
+use Rattle.slee_effect.specs.declared.effect.Effect.{Effect}
+use Rattle.slee_effect.specs.declared.effect.Effect.TheVariants.{SetField, SetAttr, Create, Remove, SetPriority, Attach, Detach, SetMask, Fire, NewNull, EndNull, SetTimer, CancelTimer, Bind, Unbind, Emit, Usage}
+
+-- this byte can't stand here
+abbrev pub stray : {A : Type 0} → List ℕ → Part A
+stray bytes = refuse bytes bad.Tag
+
+-- a part without bytes
+abbrev pub nothing_at : List ℕ → Part (Unit {0})
+nothing_at bytes = Ok (tt, bytes)
+
+abbrev pub byte_at : List ℕ → Part ℕ
+byte_at [] = ended
+byte_at (b ∷ rest) = Ok (b, rest)
+
+abbrev pub i8_at : List ℕ → Part ℤ
+i8_at = mapped (cast_signed w8) byte_at
+
+abbrev pub keep_at : List ℕ → Part Keep
+keep_at [] = ended
+keep_at (zero ∷ rest) = Ok (All, rest)
+keep_at (suc zero ∷ rest) = Ok (Last, rest)
+keep_at (suc (suc zero) ∷ rest) = Ok (NoneMissed, rest)
+keep_at (suc (suc (suc b)) ∷ rest) = stray (suc (suc (suc b)) ∷ rest)
+
+abbrev pub option_at : List ℕ → Part (Option (List ℕ))
+option_at [] = ended
+option_at (zero ∷ rest) = mapped (λ nothing. None) nothing_at rest
+option_at (suc zero ∷ rest) = mapped (λ text. Some text) text_at rest
+option_at (suc (suc b) ∷ rest) = stray (suc (suc b) ∷ rest)
+
+abbrev pub ref_at : List ℕ → Part Ref
+ref_at [] = ended
+ref_at (zero ∷ rest) = mapped (λ number. Known number) (number_at w64) rest
+ref_at (suc zero ∷ rest) = mapped (λ place. Fresh place) (number_at w32) rest
+ref_at (suc (suc b) ∷ rest) = stray (suc (suc b) ∷ rest)
+
+abbrev pub val_at : List ℕ → Part Val
+val_at [] = ended
+val_at (zero ∷ rest) = mapped (λ value. Plain value) value_at rest
+val_at (suc zero ∷ rest) = mapped (λ place. NewActivity place) (number_at w32) rest
+val_at (suc (suc zero) ∷ rest) = mapped (λ place. NewTimer place) (number_at w32) rest
+val_at (suc (suc (suc b)) ∷ rest) = stray (suc (suc (suc b)) ∷ rest)
+
+-- Where a name of this length, which the bytes begin with, can't rise above the one before: at the first
+-- byte below its own, or at the last byte of a name that is a front of it. Nothing while it may still rise.
+abbrev pub fall : List ℕ → ℕ → List ℕ → Option ℕ
+fall before zero bytes = Some (length bytes + 1)
+fall [] (suc n) bytes = None
+fall (p ∷ ps) (suc n) [] = None
+fall (p ∷ ps) (suc n) (b ∷ bs) = if nat_lt b p then Some (length (b ∷ bs)) else (if nat_lt p b then None else fall ps n bs)
+
+abbrev pub fall_behind : Option (List ℕ) → Part ℕ → Option ℕ
+fall_behind None len = None
+fall_behind (Some before) (Ok len) = fall before len.0 len.1
+fall_behind (Some before) (Err f) = None
+
+-- the fault that stands first
+abbrev pub in_order : {A : Type 0} → Option ℕ → Part A → Part A
+in_order None read = read
+in_order (Some left) (Ok x) = Err (record { left = left; kind = bad.Tag })
+in_order (Some left) (Err f) = if nat_lt f.left left then Err (record { left = left; kind = bad.Tag }) else Err f
+
+-- a name that comes after the one before, if there is one
+abbrev pub name_at : Option (List ℕ) → List ℕ → Part (List ℕ)
+name_at before bytes = in_order (fall_behind before (number_at w32 bytes)) (text_at bytes)
+
+abbrev pub field_at : Option (List ℕ) → List ℕ → Part (List ℕ × Val)
+field_at before = pair (name_at before) val_at
+
+-- the name of the last field, if there is one
+abbrev pub last_name : List (List ℕ × Val) → Option (List ℕ)
+last_name fields = option_map (λ f. f.0) (slice_get fields (length fields - 1))
+
+-- so many fields behind the one of that name
+unfoldable pub rows_at : ℕ → Option (List ℕ) → List ℕ → Part (List (List ℕ × Val))
+rows_at zero before bytes = Ok ([], bytes)
+rows_at (suc n) before bytes = field_at before bytes >>= λ x. rows_at n (Some x.0.0) x.1 >>= λ y. Ok (x.0 ∷ y.0, y.1)
+
+abbrev pub fields_at : List ℕ → Part (List (List ℕ × Val))
+fields_at bytes = number_at w32 bytes >>= λ n. rows_at n.0 None n.1
+
+-- no effect has this byte
+abbrev pub no_effect : List ℕ → Part Effect
+no_effect bytes = Err (record { left = length bytes + 1; kind = bad.Tag })
+
+-- what stands behind the byte of each effect, in order from 0, which has none
+abbrev pub bodies : List (List ℕ → Part Effect)
+bodies =
+    no_effect
+    ∷ mapped (λ p. SetField p.0 p.1.0 p.1.1) (pair ref_at (pair text_at val_at))
+    ∷ mapped (λ p. SetAttr p.0 p.1.0 p.1.1) (pair ref_at (pair text_at val_at))
+    ∷ mapped (λ p. Create p.0 p.1.0 p.1.1) (pair ref_at (pair text_at i8_at))
+    ∷ mapped (λ p. Remove p) ref_at
+    ∷ mapped (λ p. SetPriority p.0 p.1) (pair ref_at i8_at)
+    ∷ mapped (λ p. Attach p.0 p.1) (pair ref_at ref_at)
+    ∷ mapped (λ p. Detach p.0 p.1) (pair ref_at ref_at)
+    ∷ mapped (λ p. SetMask p.0 p.1.0 p.1.1.0 p.1.1.1) (pair ref_at (pair ref_at (pair text_at flag_at)))
+    ∷ mapped (λ p. Fire p.0 p.1.0 p.1.1.0 p.1.1.1) (pair ref_at (pair text_at (pair option_at fields_at)))
+    ∷ mapped (λ p. NewNull) nothing_at
+    ∷ mapped (λ p. EndNull p) ref_at
+    ∷ mapped (λ p. SetTimer p.0 p.1.0 p.1.1.0 p.1.1.1.0 p.1.1.1.1) (pair ref_at (pair (number_at w64) (pair (number_at w64) (pair (number_at w64) keep_at))))
+    ∷ mapped (λ p. CancelTimer p) ref_at
+    ∷ mapped (λ p. Bind p.0 p.1) (pair text_at ref_at)
+    ∷ mapped (λ p. Unbind p) text_at
+    ∷ mapped (λ p. Emit p.0 p.1) (pair ref_at text_at)
+    ∷ mapped (λ p. Usage p.0 p.1.0 p.1.1) (pair ref_at (pair text_at i64_at))
+    ∷ []
+
+-- the effect at the front of the bytes, and the bytes behind it
+abbrev pub effect_at : List ℕ → Part Effect
+effect_at [] = ended
+effect_at (tag ∷ bytes) = slice_index_or bodies tag no_effect bytes
+
+unfoldable pub items_at : ℕ → List ℕ → Part (List Effect)
+items_at zero bytes = Ok ([], bytes)
+items_at (suc n) bytes = effect_at bytes >>= λ x. items_at n x.1 >>= λ y. Ok (x.0 ∷ y.0, y.1)
+
+abbrev pub effects_at : List ℕ → Part (List Effect)
+effects_at bytes = number_at w32 bytes >>= λ n. items_at n.0 n.1
+
+-- the list that the bytes are, all of them
+abbrev pub list_of : List ℕ → Result (List Effect) Fault
+list_of bytes = effects_at bytes >>= λ x. if length x.1 == 0 then Ok x.0 else Err (record { left = length x.1; kind = bad.Tag })

@@ -1,0 +1,22 @@
+//! What handlers do to the state: effects, and their bytes in the journal.
+#![tactic(auto)]
+
+mod effect;
+mod effects;
+mod fault;
+mod fired;
+mod parts;
+mod reading;
+mod reference;
+mod rows;
+mod value;
+mod writing;
+
+pub use effect::Effect;
+pub use effects::Effects;
+pub use fault::EffectFault;
+pub use fired::FiredFields;
+pub use reading::read_effects;
+pub use reference::Ref;
+pub use value::Val;
+pub use writing::write_effects;

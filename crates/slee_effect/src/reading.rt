@@ -1,0 +1,195 @@
+ghost use Rattle.std.specs.Prelude.{◌≡◌, List, length, IfOk, IfErr};
+ghost use Rattle.slee_value.specs.Reading.{Gives};
+ghost use Rattle.slee_value.specs.declared.fault.PartFault.TheVariants.{Bad};
+ghost use Rattle.slee_value.specs.declared.fault.ValueBad.TheVariants.{Tag};
+ghost use Rattle.slee_effect.specs.declared.effect.Effect.{Effect as EffectModel};
+ghost use Rattle.slee_effect.specs.Bytes.{spelling_of_effects};
+ghost use Rattle.slee_effect.specs.Fitting.{FitEffects};
+ghost use Rattle.slee_effect.specs.Lists.{IsRead, StandsRight, Answers};
+ghost use Rattle.slee_effect.specs.Reading.{effect_at, items_at, list_of};
+
+use crate::parts::{
+    read_binding, read_creation, read_fire, read_mask, read_named, read_priority, read_ref,
+    read_setting, read_timer, read_two, read_usage,
+};
+use crate::{Effect, EffectFault, Effects};
+use slee_value::{PartFault, ValueBad, read_text, read_u32};
+use std::alloc::Global;
+
+/// The list of effects that the bytes are, all of them.
+pub fn read_effects(alloc: Global, bytes: &[u8]) -> Result<Effects, EffectFault>
+    ensures exact { Answers bytes.now result }
+{
+    match list(alloc, bytes) {
+        Ok(effects) => Ok(Effects::from_vec(effects)),
+        Err(PartFault::NoMemory) => Err(EffectFault::NoMemory),
+        Err(PartFault::Bad { left, .. }) => Err(EffectFault::Bad {
+            at: bytes.len() - left,
+        }),
+    }
+}
+
+fn list(alloc: Global, bytes: &[u8]) -> Result<Vec<Effect>, PartFault>
+    ensures { Gives (λ v. v.items) result (list_of bytes.now) }
+{
+    let (count, rest) = read_u32(bytes)?;
+    let (effects, rest) = read_items(alloc, count, rest)?;
+    if !rest.is_empty() {
+        return Err(stray(rest));
+    }
+    Ok(effects)
+}
+
+fn read_items(alloc: Global, count: u32, bytes: &[u8]) -> Result<(Vec<Effect>, &[u8]), PartFault>
+    ensures { Gives (λ x. (x.0.items, x.1.now)) result (items_at count bytes.now) }
+{
+    let mut effects = Vec::new(alloc);
+    let mut rest = bytes;
+    'items: for _ in 0..count {
+        let (effect, after) = read_effect(alloc, rest)?;
+        effects.push(effect)?;
+        rest = after;
+    }
+    Ok((effects, rest))
+}
+
+fn stray(bytes: &[u8]) -> PartFault
+    ensures { result ≡ Bad (length bytes.now) Tag }
+{
+    PartFault::Bad {
+        left: bytes.len(),
+        kind: ValueBad::Tag,
+    }
+}
+
+fn read_effect(alloc: Global, bytes: &[u8]) -> Result<(Effect, &[u8]), PartFault>
+    ensures { Gives (λ x. (x.0, x.1.now)) result (effect_at bytes.now) }
+{
+    let [tag, rest @ ..] = bytes else {
+        return Err(PartFault::Bad {
+            left: 0,
+            kind: ValueBad::Short,
+        });
+    };
+    match *tag {
+        1 => {
+            let ((entity, (name, value)), rest) = read_setting(alloc, rest)?;
+            Ok((
+                Effect::SetField {
+                    entity,
+                    name,
+                    value,
+                },
+                rest,
+            ))
+        }
+        2 => {
+            let ((activity, (key, value)), rest) = read_setting(alloc, rest)?;
+            Ok((
+                Effect::SetAttr {
+                    activity,
+                    key,
+                    value,
+                },
+                rest,
+            ))
+        }
+        3 => {
+            let ((parent, (relation, priority)), rest) = read_creation(alloc, rest)?;
+            Ok((
+                Effect::Create {
+                    parent,
+                    relation,
+                    priority,
+                },
+                rest,
+            ))
+        }
+        4 => {
+            let (entity, rest) = read_ref(rest)?;
+            Ok((Effect::Remove { entity }, rest))
+        }
+        5 => {
+            let ((entity, priority), rest) = read_priority(rest)?;
+            Ok((Effect::SetPriority { entity, priority }, rest))
+        }
+        6 => {
+            let ((entity, activity), rest) = read_two(rest)?;
+            Ok((Effect::Attach { entity, activity }, rest))
+        }
+        7 => {
+            let ((entity, activity), rest) = read_two(rest)?;
+            Ok((Effect::Detach { entity, activity }, rest))
+        }
+        8 => {
+            let ((entity, (activity, (event, on))), rest) = read_mask(alloc, rest)?;
+            Ok((
+                Effect::SetMask {
+                    entity,
+                    activity,
+                    event,
+                    on,
+                },
+                rest,
+            ))
+        }
+        9 => {
+            let ((activity, (event, (service, fields))), rest) = read_fire(alloc, rest)?;
+            Ok((
+                Effect::Fire {
+                    activity,
+                    event,
+                    service,
+                    fields,
+                },
+                rest,
+            ))
+        }
+        10 => Ok((Effect::NewNull, rest)),
+        11 => {
+            let (activity, rest) = read_ref(rest)?;
+            Ok((Effect::EndNull { activity }, rest))
+        }
+        12 => {
+            let ((activity, (start, (period, (times, keep)))), rest) = read_timer(rest)?;
+            Ok((
+                Effect::SetTimer {
+                    activity,
+                    start,
+                    period,
+                    times,
+                    keep,
+                },
+                rest,
+            ))
+        }
+        13 => {
+            let (timer, rest) = read_ref(rest)?;
+            Ok((Effect::CancelTimer { timer }, rest))
+        }
+        14 => {
+            let ((name, activity), rest) = read_binding(alloc, rest)?;
+            Ok((Effect::Bind { name, activity }, rest))
+        }
+        15 => {
+            let (name, rest) = read_text(alloc, rest)?;
+            Ok((Effect::Unbind { name }, rest))
+        }
+        16 => {
+            let ((entity, text), rest) = read_named(alloc, rest)?;
+            Ok((Effect::Emit { entity, text }, rest))
+        }
+        17 => {
+            let ((entity, (name, amount)), rest) = read_usage(alloc, rest)?;
+            Ok((
+                Effect::Usage {
+                    entity,
+                    name,
+                    amount,
+                },
+                rest,
+            ))
+        }
+        _ => Err(stray(bytes)),
+    }
+}
