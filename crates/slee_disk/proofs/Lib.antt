@@ -1,1 +1,4 @@
 pub mod Moments
+pub mod Overwrites
+pub mod Pieces
+pub mod WritesLemmas
