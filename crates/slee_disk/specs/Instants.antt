@@ -26,7 +26,7 @@ kept_there : (side : Side) (change : List ℕ → List ℕ) (sides : Sides) → 
 kept_there A change sides = refl
 kept_there B change sides = refl
 
-seen_there : (side : Side) (failed : Bool) (act : Act) (sides : Sides) → on (other side) (seen_after side failed act sides) ≡ on (other side) sides
+pub seen_there : (side : Side) (failed : Bool) (act : Act) (sides : Sides) → on (other side) (seen_after side failed act sides) ≡ on (other side) sides
 seen_there side true act sides = refl
 seen_there side false acts.Look sides = refl
 seen_there side false (acts.Write place bytes) sides = kept_there side (overwritten place bytes) sides
