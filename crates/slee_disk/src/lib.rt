@@ -13,6 +13,7 @@ mod reading;
 mod side;
 mod sink;
 mod source;
+mod stop;
 mod writing;
 
 pub use call::{Act, Call};

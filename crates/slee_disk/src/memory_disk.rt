@@ -1,14 +1,15 @@
 //! A disk in memory, which keeps its calls.
-ghost use Rattle.std.specs.Prelude.{◌≡◌, ◌≤◌, ◌+◌, ◌++◌, [], length, take, drop, IsTrue, IfOk, OnOk, OnErr, IsErr, false, true};
+ghost use Rattle.std.specs.Prelude.{◌≡◌, ℕ, ◌≤◌, ◌+◌, ◌++◌, [], length, take, drop, IsTrue, IfOk, OnOk, OnErr, IsErr, false, true};
 ghost use Rattle.slee_disk.specs.Sides.{Sides, on, given, AtSide, Holds, Torn, Cut};
-ghost use Rattle.slee_disk.specs.Disk.{Looks, Changes, KeepsSettled, Settles};
-ghost use Rattle.slee_disk.specs.Calls.{seen_after};
+ghost use Rattle.slee_disk.specs.Disk.{Looks, Changes, KeepsSettled, Settles, IsAtRest};
+ghost use Rattle.slee_disk.specs.Calls.{image_of};
 ghost use Rattle.slee_disk.specs.MemoryDisk.{state_of, seen_of, Recorded, CountsFault};
 ghost use Rattle.slee_disk.specs.declared.call.Act.TheVariants as acts;
 
 use crate::call::{Act, Call};
 use crate::fail_list::FailList;
 use crate::pair::{Pair, give};
+use crate::stop::{Stop, Tear, apply};
 use crate::{Disk, Failed, Side};
 use slee_value::{Blob, NoMemory};
 use std::alloc::Global;
@@ -42,7 +43,8 @@ impl MemoryDisk {
     /// A disk with these bytes on its two sides, on which nothing is pending. Its k-th call fails where the k-th of
     /// `fail` is 1.
     pub fn new(alloc: Global, a: Blob, b: Blob, fail: Blob) -> Result<Self, NoMemory>
-        ensures { IfOk result (λ disk. disk ≡ record { first = record { a = a; b = b }; calls = []; fails = fail; faults = 0 }) }
+        ensures disk { IfOk result (λ disk. disk ≡ record { first = record { a = a; b = b }; calls = []; fails = fail; faults = 0 }) }
+        ensures rest { IfOk result (λ disk. IsAtRest (record { a = a; b = b }) (state_of disk)) }
     {
         let held = Pair::from_slices(alloc, a.as_slice(), b.as_slice())?;
         Ok(MemoryDisk {
@@ -70,6 +72,27 @@ impl MemoryDisk {
         self.calls.len() as u64
     }
 
+    /// The disk that a stop in some call may leave; calls count from 1. Of each write since a side's last sync the
+    /// first `part` bytes are as written, and the others are `fill`. Failed writes and cuts count as made, cuts are done
+    /// as asked, and a sync counts only where it succeeded.
+    pub fn image(&self, call: u64, part: u64, fill: u8) -> Result<MemoryDisk, NoMemory>
+        requires { call ≤ length self.now.calls }
+        ensures bytes { IfOk result (λ disk. disk ≡ record { first = image_of part fill (take call self.now.calls) self.now.first; calls = []; fails = []; faults = 0 }) }
+        ensures rest { IfOk result (λ disk. IsAtRest (image_of part fill (take call self.now.calls) self.now.first) (state_of disk)) }
+        ensures possible { IfOk result (λ disk. (t : ℕ) → t ≤ call → (state_of self.now).since t (seen_of disk)) }
+    {
+        let first = Stop::new(self.alloc, self.first_a.as_slice(), self.first_b.as_slice())?;
+        let stop = first.after(
+            self.alloc,
+            &self.calls[..call as usize],
+            Tear { part, fill },
+        )?;
+        let a = Blob::from_slice(self.alloc, stop.side(Side::A))?;
+        let b = Blob::from_slice(self.alloc, stop.side(Side::B))?;
+        let disk = MemoryDisk::new(self.alloc, a, b, Blob::new(self.alloc))?;
+        Ok(disk)
+    }
+
     // Counts a fault.
     fn fault(&mut self) -> Failed
         ensures { CountsFault self.old self.new }
@@ -91,21 +114,6 @@ impl MemoryDisk {
             return Err(self.fault());
         }
         Ok(())
-    }
-}
-
-// Does to what is read what a call does.
-fn apply(pair: &mut Pair, side: Side, act: &Act, failed: bool) -> Result<(), NoMemory>
-    ensures ok { OnOk result (pair.new ≡ seen_after side failed act.now pair.old) }
-    ensures err { OnErr result (pair.new ≡ pair.old) }
-{
-    match act {
-        Act::Write(at, bytes) if !failed => pair.overwrite(side, *at, bytes.as_slice()),
-        Act::Cut(length) if !failed => {
-            pair.cut(side, *length);
-            Ok(())
-        }
-        _ => Ok(()),
     }
 }
 
