@@ -1,4 +1,6 @@
 //! Readers and writers of std as a source and a sink, with their faults counted.
+ghost use Rattle.std.specs.Prelude.{◌≡◌};
+
 use crate::{Failed, Sink, Source};
 use std::fs::{File, Files};
 use std::io::{self, Read, Write};
@@ -11,7 +13,9 @@ pub struct HostSource<R: Read> {
 }
 
 impl<R: Read> HostSource<R> {
-    pub fn new(reader: R) -> Self {
+    pub fn new(reader: R) -> Self
+        ensures { result ≡ record { reader = reader; faults = 0 } }
+    {
         HostSource { reader, faults: 0 }
     }
 }
@@ -40,7 +44,9 @@ pub struct HostSink<W: Write> {
 }
 
 impl<W: Write> HostSink<W> {
-    pub fn new(writer: W) -> Self {
+    pub fn new(writer: W) -> Self
+        ensures { result ≡ record { writer = writer; faults = 0 } }
+    {
         HostSink { writer, faults: 0 }
     }
 }

@@ -16,7 +16,9 @@ pub struct HostDisk<'a, F: Files<File = File>> {
 
 impl<'a, F: Files<File = File>> HostDisk<'a, F> {
     /// The files at the two paths, both in this folder.
-    pub fn new(files: F, folder: &'a str, a: &'a str, b: &'a str) -> Self {
+    pub fn new(files: F, folder: &'a str, a: &'a str, b: &'a str) -> Self
+        ensures { result.faults ≡ 0 }
+    {
         HostDisk {
             files: HostFiles::new(files, folder, a, b),
             faults: 0,

@@ -32,3 +32,6 @@ pub use side::Side;
 pub use sink::Sink;
 pub use source::Source;
 pub use writing::write_whole;
+
+#[cfg(test)]
+mod tests;

@@ -122,7 +122,7 @@ impl Disk for MemoryDisk {
 
     #[tactic(auto, using(crate::proofs::Recording::len_looks, crate::proofs::Recording::len_settled))]
     fn len(&mut self, side: Side) -> Result<u64, Failed>
-        ensures length { IsTrue true → IfOk result (λ n. n ≡ length (on side (seen_of self.old))) }
+        ensures length { IfOk result (λ n. n ≡ length (on side (seen_of self.old))) }
         ensures looks { Looks (state_of self.old) (state_of self.new) (IsErr result) }
         ensures settled { KeepsSettled (state_of self.old) (state_of self.new) }
         ensures recorded { Recorded self.old self.new side acts.Look result }
@@ -134,7 +134,7 @@ impl Disk for MemoryDisk {
     #[tactic(auto, using(crate::proofs::Recording::len_looks, crate::proofs::Recording::len_settled))]
     fn read(&mut self, side: Side, at: u64, into: &mut [u8]) -> Result<usize, Failed>
         ensures count { IfOk result (λ n. n ≤ length into.old) }
-        ensures bytes { IsTrue true → IfOk result (λ n.
+        ensures bytes { IfOk result (λ n.
             let bytes = given at (length into.old) (on side (seen_of self.old)) in
             (n ≡ length bytes) × (into.new ≡ bytes ++ drop n into.old)) }
         ensures looks { Looks (state_of self.old) (state_of self.new) (IsErr result) }
@@ -146,11 +146,12 @@ impl Disk for MemoryDisk {
         Ok(give(self.held.side(side), at, into))
     }
 
-    #[tactic(auto, using(crate::proofs::Recording::write_written, crate::proofs::Recording::write_changes))]
+    #[tactic(auto, using(crate::proofs::Recording::write_written, crate::proofs::Recording::write_changes, crate::proofs::Recording::failed_seen))]
     fn write_at(&mut self, side: Side, at: u64, bytes: &[u8]) -> Result<(), Failed>
-        ensures written { IsTrue true → OnOk result (AtSide side (Holds at bytes.now) (seen_of self.old) (seen_of self.new)) }
+        ensures written { OnOk result (AtSide side (Holds at bytes.now) (seen_of self.old) (seen_of self.new)) }
         ensures changes { Changes side (Torn at (length bytes.now)) (state_of self.old) (state_of self.new) (IsErr result) }
         ensures recorded { Recorded self.old self.new side (acts.Write at bytes.now) result }
+        ensures unchanged { OnErr result (seen_of self.new ≡ seen_of self.old) }
     {
         let Ok(copy) = Blob::from_slice(self.alloc, bytes) else {
             self.fail.next();
@@ -159,18 +160,19 @@ impl Disk for MemoryDisk {
         self.record(side, Act::Write(at, copy))
     }
 
-    #[tactic(auto, using(crate::proofs::Recording::cut_cut, crate::proofs::Recording::cut_changes))]
+    #[tactic(auto, using(crate::proofs::Recording::cut_cut, crate::proofs::Recording::cut_changes, crate::proofs::Recording::failed_seen))]
     fn cut(&mut self, side: Side, length: u64) -> Result<(), Failed>
-        ensures cut { IsTrue true → OnOk result (AtSide side (λ old new. new ≡ take length old) (seen_of self.old) (seen_of self.new)) }
+        ensures cut { OnOk result (AtSide side (λ old new. new ≡ take length old) (seen_of self.old) (seen_of self.new)) }
         ensures changes { Changes side (Cut length) (state_of self.old) (state_of self.new) (IsErr result) }
         ensures recorded { Recorded self.old self.new side (acts.Cut length) result }
+        ensures unchanged { OnErr result (seen_of self.new ≡ seen_of self.old) }
     {
         self.record(side, Act::Cut(length))
     }
 
     #[tactic(auto, using(crate::proofs::Recording::sync_durable, crate::proofs::Recording::sync_looks, crate::proofs::Recording::sync_settles))]
     fn sync(&mut self, side: Side) -> Result<(), Failed>
-        ensures durable { IsTrue true → OnOk result ((image : Sides) → (state_of self.new).images image → on side image ≡ on side (seen_of self.old)) }
+        ensures durable { OnOk result ((image : Sides) → (state_of self.new).images image → on side image ≡ on side (seen_of self.old)) }
         ensures looks { Looks (state_of self.old) (state_of self.new) (IsErr result) }
         ensures settled { Settles side (state_of self.old) (state_of self.new) result }
         ensures recorded { Recorded self.old self.new side acts.Sync result }
