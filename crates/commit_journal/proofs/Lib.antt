@@ -5,3 +5,5 @@ pub mod Spelt
 pub mod Sizes
 pub mod Counting
 pub mod Recovers
+pub mod Opening
+pub mod Blanks

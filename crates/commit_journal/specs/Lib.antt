@@ -2,3 +2,5 @@ pub mod Spelling
 pub mod Reading
 pub mod Kept
 pub mod Views
+pub mod Gate
+pub mod Blank

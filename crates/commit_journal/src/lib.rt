@@ -1,7 +1,9 @@
 //! A journal on two sides of a disk, whose batches are whole or absent after any crash.
 #![tactic(auto)]
 
+mod blank;
 mod fault;
+mod gate;
 mod reading;
 mod record;
 mod recovery;
