@@ -7,3 +7,7 @@ pub mod Counting
 pub mod Recovers
 pub mod Opening
 pub mod Blanks
+pub mod Batches
+pub mod Writes
+pub mod Sound
+pub mod Opens

@@ -45,6 +45,10 @@ with_more kept more = record { side = kept.side; head = kept.head; payloads = ke
 abbrev pub KeepsOrMore : Kept → List (List ℕ) → Sides → Type 0
 KeepsOrMore kept batch sides = Keeps kept sides ⊎ Keeps (with_more kept batch) sides
 
+-- the same of what a journal has come to
+abbrev pub StandsOrMore : Stage → Kept → List (List ℕ) → Sides → Type 0
+StandsOrMore stage kept batch sides = Stands stage kept sides ⊎ Stands stage (with_more kept batch) sides
+
 -- the sides stand for what the journal has come to, or for the side that is being begun
 abbrev pub StandsOrBegun : Stage → Kept → Sides → Type 0
 StandsOrBegun stage kept sides = Stands stage kept sides ⊎ Keeps kept sides

@@ -4,3 +4,5 @@ pub mod Kept
 pub mod Views
 pub mod Gate
 pub mod Blank
+pub mod Batch
+pub mod Journal

@@ -8,6 +8,7 @@ use Rattle.commit_journal.specs.declared.fault.JournalBad.{JournalBad}
 use Rattle.commit_journal.specs.declared.fault.JournalBad.TheVariants as kinds
 use Rattle.commit_journal.specs.declared.fault.JournalFault.{JournalFault}
 use Rattle.commit_journal.specs.declared.fault.JournalFault.TheVariants as journal_faults
+use Rattle.commit_journal.specs.declared.stage.Stage.{Stage}
 use Rattle.commit_journal.specs.declared.stage.Stage.TheVariants as stages
 use Rattle.commit_journal.specs.declared.record.Record.{Record}
 use Rattle.commit_journal.specs.declared.record.Found.{Found}
@@ -97,3 +98,10 @@ IsDevice (journal_faults.BadJournal side at kind) = ⊥
 IsDevice (journal_faults.OtherDeployment kept_len place) = ⊥
 IsDevice journal_faults.DiskFault = Unit {0}
 IsDevice journal_faults.NoMemory = Unit {0}
+
+-- a journal that was just read is blank or found
+abbrev pub IsFresh : Stage → Type 0
+IsFresh stages.Blank = Unit {0}
+IsFresh stages.Found = Unit {0}
+IsFresh stages.Ready = ⊥
+IsFresh stages.Stopped = ⊥

@@ -3,7 +3,7 @@ ghost use Rattle.std.specs.Prelude.{◌≡◌, ◌<◌, ◌+◌, ◌^◌, [], le
 ghost use Rattle.commit_journal.specs.Spelling.{FitsText, records_size};
 ghost use Rattle.commit_journal.specs.Reading.{payloads_of, with_records, first_gate, recovered};
 ghost use Rattle.commit_journal.specs.Kept.{StandsFound, AreBlank};
-ghost use Rattle.commit_journal.specs.Views.{head_view, IsCause, IsRecovered, kept_found, payload_of, located};
+ghost use Rattle.commit_journal.specs.Views.{head_view, IsCause, IsRecovered, kept_found, payload_of, located, IsFresh};
 
 use crate::Stage;
 use crate::fault::{JournalBad, JournalFault};
@@ -73,6 +73,7 @@ pub(crate) fn recover(
     ensures stands { IfOk result (λ f. f.stage ≡ Stage.Found → StandsFound (kept_found f) f.end (record { a = a.now; b = b.now })) }
     ensures records { IfOk result (λ f. f.records.items ≡ located (first_gate (kept_found f).head) (map payload_of f.records.items)) }
     ensures named { IfOk result (λ f. f.deployment ≡ deployment.now) }
+    ensures fresh { IfOk result (λ f. IsFresh f.stage) }
     ensures short { IfOk result (λ f. f.stage ≡ Stage.Found → FitsText f.deployment) }
     ensures blank { IfOk result (λ f. f.stage ≡ Stage.Blank → AreBlank (record { a = a.now; b = b.now })) }
     ensures first { IfOk result (λ f. f.stage ≡ Stage.Blank → (f.snapshot ≡ []) × (f.records.items ≡ [])) }

@@ -5,7 +5,7 @@ ghost use Rattle.slee_disk.specs.Disk.{Looks};
 ghost use Rattle.commit_journal.specs.Spelling.{FitsText};
 ghost use Rattle.commit_journal.specs.Reading.{recovered, first_gate};
 ghost use Rattle.commit_journal.specs.Kept.{StandsFound, AreBlank};
-ghost use Rattle.commit_journal.specs.Views.{IsCause, IsDevice, IsRecovered, kept_found, payload_of, located};
+ghost use Rattle.commit_journal.specs.Views.{IsCause, IsDevice, IsRecovered, kept_found, payload_of, located, IsFresh};
 
 use crate::Stage;
 use crate::fault::JournalFault;
@@ -40,6 +40,7 @@ pub(crate) fn find<D: Disk>(
     ensures stands { IsTrue (D.disk disk.old).told → IfOk result (λ f. f.stage ≡ Stage.Found → StandsFound (kept_found f) f.end (D.disk disk.old).seen) }
     ensures records { IfOk result (λ f. f.records.items ≡ located (first_gate (kept_found f).head) (map payload_of f.records.items)) }
     ensures named { IfOk result (λ f. f.deployment ≡ deployment.now) }
+    ensures fresh { IfOk result (λ f. IsFresh f.stage) }
     ensures short { IfOk result (λ f. f.stage ≡ Stage.Found → FitsText f.deployment) }
     ensures blank { IsTrue (D.disk disk.old).told → IfOk result (λ f. f.stage ≡ Stage.Blank → AreBlank (D.disk disk.old).seen) }
     ensures first { IfOk result (λ f. f.stage ≡ Stage.Blank → (f.snapshot ≡ []) × (f.records.items ≡ [])) }

@@ -1,7 +1,7 @@
 use Rattle.std.proofs.Common.{◌≡◌, inl, inr, ap, sym, refl, ◌∙◌, subst, ◌+◌, ◌<◌, ◌^◌, length, map, List, ℕ, [], ◌∷◌, Some, Ok, Err, arith}
 use Rattle.slee_disk.specs.Sides.{Sides, on}
 use Rattle.commit_journal.specs.Reading.{payloads_of, with_records, recovered}
-use Rattle.commit_journal.specs.Views.{head_view, IsRecovered, IsCause, kept_found, payload_of}
+use Rattle.commit_journal.specs.Views.{head_view, IsRecovered, IsCause, kept_found, payload_of, IsFresh}
 use Rattle.commit_journal.proofs.Recovers.{if_ok, if_err, reads_wrong, reads_nothing, reads_records, stands_in, header_fits, head_fits, bytes_on, short_on, same_first, both_blank}
 use Rattle.commit_journal.proofs.recovery.recover.Goals as goal
 
@@ -56,3 +56,6 @@ returns-in_ok-kept-in-Ok-None-clause-found c =
 
 pub returns-in_ok-kept-in-Ok-None-clause-blank : goal.returns-in_ok-kept-in-Ok-None-clause-blank
 returns-in_ok-kept-in-Ok-None-clause-blank c stage = both_blank _ _ (rw c.in-Ok-None.field-0-is at c.in-Ok-None.ensures)
+
+pub returns-in-Ok-Some-clause-fresh : goal.returns-in-Ok-Some-clause-fresh
+returns-in-Ok-Some-clause-fresh c = if_ok c.keep.result _ _ c.keep.ensures.kept (λ f is. subst IsFresh (sym is.0) tt)
