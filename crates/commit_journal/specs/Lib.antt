@@ -7,3 +7,4 @@ pub mod Blank
 pub mod Batch
 pub mod Journal
 pub mod Rewriting
+pub mod Renewal
