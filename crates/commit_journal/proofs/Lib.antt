@@ -15,3 +15,4 @@ pub mod Newer
 pub mod Rewrites
 pub mod Begins
 pub mod Renewals
+pub mod LawLemmas

@@ -8,3 +8,4 @@ pub mod Batch
 pub mod Journal
 pub mod Rewriting
 pub mod Renewal
+pub mod Laws
