@@ -1,17 +1,16 @@
 -- What a stop leaves is one of the images that a crash may leave.
-use Rattle.std.proofs.Common.{◌≡◌, ◌⊎◌, inl, inr, ⊎_elim, ℕ, ◌+◌, ◌-◌, ◌≤◌, ◌<◌, min, max, Bool, true, false, List, [], ◌∷◌, ◌++◌, length, take, drop, replicate, refl, sym, ◌∙◌, ap, subst, arith, length-append, length-take, append_assoc, take-take}
+use Rattle.std.proofs.Common.{◌≡◌, ◌⊎◌, inl, inr, ⊎_elim, ℕ, ◌+◌, ◌-◌, ◌≤◌, min, Bool, true, false, List, [], ◌∷◌, ◌++◌, length, take, drop, replicate, refl, sym, ◌∙◌, ap, subst, arith, length-append, length-take, take-take}
 use Rattle.std.proofs.Math.Seq.{drop-append_seam}
-use Rattle.std.proofs.lemmas.Bool.{cases_lt}
-use Rattle.std.proofs.lemmas.List.{take-append-le, take_all, take_min, length-replicate, length-drop}
+use Rattle.std.proofs.lemmas.List.{take-append-le, take_min, length-replicate, length-drop}
 use Rattle.slee_disk.specs.declared.side.Side.{Side}
 use Rattle.slee_disk.specs.declared.side.Side.TheVariants.{A, B}
 use Rattle.slee_disk.specs.declared.call.Act.{Act}
 use Rattle.slee_disk.specs.declared.call.Act.TheVariants as acts
 use Rattle.slee_disk.specs.declared.call.Call.{Call}
-use Rattle.slee_disk.specs.Sides.{Sides, on, other, sides_of, filled, Torn, Cut, AtSide}
-use Rattle.slee_disk.specs.Calls.{Instant, with_side, overwritten, Stepped, seen_after, done, after, fresh, Since, torn_piece, Stopped, left_after, stopped_by, stopped, image_of}
+use Rattle.slee_disk.specs.Sides.{Sides, on, other, sides_of, filled, Torn, Cut}
+use Rattle.slee_disk.specs.Calls.{Instant, with_side, overwritten, Stepped, seen_after, done, after, fresh, torn_piece, Stopped, left_after, stopped_by, stopped, image_of}
 use Rattle.slee_disk.specs.Instants.{seen_there}
-use Rattle.slee_disk.specs.MemoryDisk.{MemoryState, state_of, seen_of}
+use Rattle.slee_disk.specs.MemoryDisk.{MemoryState, state_of}
 use Rattle.slee_disk.proofs.Moments.{same_sides}
 use Rattle.slee_disk.proofs.Recording.{torn_same, cut_same, done_seen}
 use Rattle.slee_disk.proofs.Overwrites.{length_filled}

@@ -4,4 +4,5 @@ pub mod Nothing
 pub mod Overwrites
 pub mod Pieces
 pub mod Recording
+pub mod Whole
 pub mod WritesLemmas

@@ -1,9 +1,9 @@
 -- How a run of device calls goes on.
-use Rattle.std.proofs.Common.{◌≡◌, ◌≤◌, Bool, true, false, ◌&&◌, Result, Ok, Err, OnOk, inl, inr, ⊎_elim, ℕ, IsTrue, sym, subst, refl, arith}
+use Rattle.std.proofs.Common.{◌≡◌, Bool, true, false, ◌&&◌, Result, Ok, Err, OnOk, inl, inr, ⊎_elim, IsTrue, sym, subst, refl, arith}
 use Rattle.slee_disk.specs.declared.side.Side.{Side}
 use Rattle.slee_disk.specs.declared.side.Side.TheVariants.{A, B}
 use Rattle.slee_disk.specs.Sides.{Sides, on, other}
-use Rattle.slee_disk.specs.Disk.{DiskState, Passes, Looks, LeavesOnly, Only, IsAtRest, is_clean, KeepsSettled}
+use Rattle.slee_disk.specs.Disk.{DiskState, Passes, Looks, LeavesOnly, Only, IsAtRest, is_clean}
 
 -- a crash since old, and one now, leaves what has P
 pub record Reached (old new : DiskState) (P : Sides → Type 0) : Type 0 where

@@ -1,5 +1,5 @@
 -- What a call of a disk in memory does, by how it was kept.
-use Rattle.std.proofs.Common.{◌≡◌, ◌⊎◌, inl, inr, ⊎_elim, ℕ, ◌+◌, ◌-◌, ◌≤◌, ◌<◌, min, max, Bool, true, false, Result, Ok, Err, OnOk, OnErr, IfOk, IsErr, IsTrue, List, [], ◌∷◌, ◌++◌, length, take, drop, refl, sym, ◌∙◌, ap, subst, arith, length-append}
+use Rattle.std.proofs.Common.{◌≡◌, ◌⊎◌, inl, inr, ⊎_elim, ℕ, ◌+◌, ◌≤◌, Bool, true, false, Result, Ok, Err, OnOk, OnErr, IsErr, IsTrue, List, [], ◌∷◌, length, take, refl, sym, ◌∙◌, ap, subst, arith, length-append}
 use Rattle.std.proofs.lemmas.Bool.{cases_lt}
 use Rattle.std.proofs.lemmas.List.{take_all, take_min, take-append-le}
 use Rattle.slee_disk.specs.declared.side.Side.{Side}
@@ -7,10 +7,10 @@ use Rattle.slee_disk.specs.declared.side.Side.TheVariants.{A, B}
 use Rattle.slee_disk.specs.declared.call.Act.{Act}
 use Rattle.slee_disk.specs.declared.call.Act.TheVariants as acts
 use Rattle.slee_disk.specs.declared.call.Call.{Call}
-use Rattle.slee_disk.specs.Sides.{Sides, on, other, sides_of, Torn, Cut, AtSide, Holds}
+use Rattle.slee_disk.specs.Sides.{Sides, on, other, Torn, Cut, AtSide, Holds}
 use Rattle.slee_disk.specs.Causes.{Rose}
 use Rattle.slee_disk.specs.Disk.{DiskState, Passes, Looks, Changes, KeepsSettled, Settles}
-use Rattle.slee_disk.specs.Calls.{Instant, with_side, marked, overwritten, Stepped, seen_after, done, after, fresh, Since, call_of, more}
+use Rattle.slee_disk.specs.Calls.{Instant, with_side, marked, overwritten, seen_after, done, after, fresh, Since, call_of, more}
 use Rattle.slee_disk.specs.Instants.{seen_there}
 use Rattle.slee_disk.specs.MemoryDisk.{MemoryState, state_at, state_of, seen_of, Recorded}
 

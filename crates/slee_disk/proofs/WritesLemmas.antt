@@ -1,9 +1,9 @@
 -- Writes one after another.
-use Rattle.std.proofs.Common.{◌≡◌, ℕ, ◌+◌, ◌^◌, ◌≤◌, min, List, [], ◌++◌, length, take, drop, take-append-drop, refl, sym, ap, ◌∙◌, append_assoc, subst, arith, Option, Some, None, append-nil, Result, Ok, Err, OnOk, OnErr, IsErr}
+use Rattle.std.proofs.Common.{◌≡◌, ℕ, ◌≤◌, List, [], ◌++◌, take, drop, take-append-drop, sym, ap, ◌∙◌, append_assoc, subst, arith, Option, Some, None, append-nil, Result, Ok, Err, IsErr}
 use Rattle.std.proofs.KnownBytes.{Appends-nil, Appends-trans, Appends-kept}
 use Rattle.std.specs.Io.KnownBytes.{Appends, Keeps}
 use Rattle.slee_disk.specs.Causes.{Rose}
-use Rattle.slee_disk.specs.Writes.{AppendsFront, Writes}
+use Rattle.slee_disk.specs.Writes.{Writes}
 
 -- nothing was written
 pub writes_none : {K T E : Type 0} (contents : K → Option (List ℕ)) (faults : K → ℕ) (k : K) (x : T) → Writes {E = E} contents faults k k [] (Ok x)

@@ -1,5 +1,5 @@
 -- Facts on a run of calls, which the record of a disk asks for.
-use Rattle.std.proofs.Common.{◌≡◌, ℕ, ◌+◌, ◌≤◌, Bool, true, false, IsTrue, List, [], ◌∷◌, length, take, refl, sym, ◌∙◌, ap, subst}
+use Rattle.std.proofs.Common.{◌≡◌, ℕ, ◌≤◌, Bool, true, false, IsTrue, List, [], ◌∷◌, length, take, refl, sym, ◌∙◌, ap, subst}
 use Rattle.std.proofs.Math.Nat.{le_refl}
 use Rattle.std.proofs.lemmas.List.{take_all}
 use Rattle.slee_disk.specs.declared.side.Side.{Side}
@@ -7,7 +7,7 @@ use Rattle.slee_disk.specs.declared.side.Side.TheVariants.{A, B}
 use Rattle.slee_disk.specs.declared.call.Act.{Act}
 use Rattle.slee_disk.specs.declared.call.Act.TheVariants as acts
 use Rattle.slee_disk.specs.declared.call.Call.{Call}
-use Rattle.slee_disk.specs.Sides.{Sides, on, other, sides_of, AtSide}
+use Rattle.slee_disk.specs.Sides.{Sides, on, other}
 use Rattle.slee_disk.specs.Calls.{Instant, with_side, marked, Stepped, seen_after, done, after, fresh, Since, overwritten}
 
 -- now is one of the moments

@@ -8,3 +8,4 @@ pub mod Calls
 pub mod Instants
 pub mod MemoryDisk
 pub mod Untold
+pub mod Laws

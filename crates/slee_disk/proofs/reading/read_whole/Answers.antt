@@ -1,4 +1,4 @@
-use Rattle.std.proofs.Common.{◌++◌, take, rules, length, length-append, vec_len, arith}
+use Rattle.std.proofs.Common.{◌++◌, take, rules, length-append}
 use Rattle.std.proofs.KnownBytes.{Consumes-trans}
 use Rattle.slee_disk.proofs.reading.read_whole.Goals as goal
 

@@ -1,6 +1,5 @@
-use Rattle.std.proofs.Common.{ap, refl, inr, ◌∙◌, Err, rules, arith}
+use Rattle.std.proofs.Common.{refl, inr, Err, rules}
 use Rattle.slee_disk.specs.declared.fault.Failed.{Failed}
-use Rattle.slee_disk.specs.MemoryDisk.{MemoryState}
 use Rattle.slee_disk.proofs.Recording.{write_changes}
 use Rattle.slee_disk.proofs.memory_disk.MemoryDiskDisk.write_at.Goals as goal
 
