@@ -61,7 +61,7 @@ fn shut_blank<D: Disk>(disk: &mut D, side: Side) -> Result<(), Failed>
     ensures cause { IsErr result → Rose (D.disk disk.old).faults (D.disk disk.new).faults }
 {
     shut_gate(disk, side)?;
-    disk.sync(side)
+    disk.sync(side) // What was cut stays cut.
 }
 
 /// Writes a blank side anew: closed, then all behind its first gate, and then it is opened.

@@ -28,5 +28,5 @@ pub(crate) fn open_gate<D: Disk>(
     disk.write_at(side, at + 1, bytes)?;
     disk.sync(side)?;
     disk.write_at(side, at, &[1])?;
-    disk.sync(side)
+    disk.sync(side) // From here on it counts.
 }

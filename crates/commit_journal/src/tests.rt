@@ -1,5 +1,8 @@
 //! Bytes, images and failures of a journal on a disk in memory.
 
+ghost use Rattle.std.specs.Prelude.{◌≡◌, ◌≤◌, length, IsTrue, IfSome};
+ghost use Rattle.commit_journal.specs.declared.stage.Stage.TheVariants.{Ready};
+
 use super::*;
 use slee_disk::{MemoryDisk, Side};
 use slee_value::{Blob, NoMemory};
@@ -24,66 +27,109 @@ fn disk_of(alloc: Global, a: &[u8], b: &[u8], fail: &[u8]) -> Result<MemoryDisk,
     )
 }
 
+/// A journal on this disk, begun.
+fn begun(
+    alloc: Global,
+    disk: MemoryDisk,
+    deployment: &[u8],
+    limit: u64,
+) -> Option<Journal<MemoryDisk>>
+    requires { limit ≤ 268435456 }
+    ensures { IfSome result (λ journal. journal.stage ≡ Ready) }
+{
+    let Ok(mut journal) = Journal::open(alloc, disk, deployment, limit) else {
+        return None;
+    };
+    let Ok(()) = journal.begin() else {
+        return None;
+    };
+    Some(journal)
+}
+
+/// Adds payloads, and says whether there was room for all of them.
+fn add(journal: &mut Journal<MemoryDisk>, payload: &[u8]) -> bool
+    requires { journal.old.stage ≡ Ready }
+    ensures { journal.new.stage ≡ Ready }
+{
+    payload.len() <= 65_536 && journal.append(payload).is_ok()
+}
+
+/// Writes the batch, and says whether the disk has done so.
+fn written(journal: &mut Journal<MemoryDisk>) -> bool
+    requires { journal.old.stage ≡ Ready }
+    ensures { IsTrue result → journal.new.stage ≡ Ready }
+{
+    journal.flush().is_ok()
+}
+
+/// Goes on with a snapshot, and says whether the generation is this.
+fn renewed(journal: &mut Journal<MemoryDisk>, snapshot: &[u8], generation: u64) -> bool
+    requires { journal.old.stage ≡ Ready }
+    ensures { IsTrue result → journal.new.stage ≡ Ready }
+{
+    journal.renew(snapshot) == Ok(generation)
+}
+
 #[test]
 fn bytes_of_a_new_journal(rt: HostRuntime) -> Result<(), Fail> {
     let alloc = rt.alloc();
-    let Ok(mut journal) = Journal::open(alloc, disk_of(alloc, &[], &[], &[])?, b"ab", 43) else {
-        panic!(rt; "not opened");
+    let Some(journal) = begun(alloc, disk_of(alloc, &[], &[], &[])?, b"ab", 43) else {
+        panic!(rt; "not begun");
     };
-    assert_eq!(rt; journal.begin(), Ok(()));
     let disk = journal.into_disk();
     assert_eq!(rt; disk.side(Side::A), NEW.as_slice());
     assert!(rt; disk.side(Side::B).is_empty());
-
-    let Ok(mut journal) = Journal::open(alloc, disk, b"ab", 43) else {
-        panic!(rt; "not opened again");
-    };
-    let Ok(()) = journal.begin() else {
+    let Some(mut journal) = begun(alloc, disk, b"ab", 43) else {
         panic!(rt; "not begun again");
     };
-    assert_eq!(rt;
-        journal.append(&START),
-        Err(AppendFault::Full {
-            length: 26,
-            adding: 18
-        })
-    );
-    let disk = journal.into_disk();
-    assert_eq!(rt; disk.side(Side::A), NEW.as_slice());
+    let full = AppendFault::Full {
+        length: 26,
+        adding: 18,
+    };
+    assert_eq!(rt; journal.append(&START), Err(full));
+    assert_eq!(rt; journal.into_disk().side(Side::A), NEW.as_slice());
+    Ok(())
+}
 
-    let Ok(mut journal) = Journal::open(alloc, disk, b"ab", 44) else {
-        panic!(rt; "not opened with room");
+#[test]
+fn sizes_of_sides(rt: HostRuntime) -> Result<(), Fail> {
+    let alloc = rt.alloc();
+    let Some(mut journal) = begun(alloc, disk_of(alloc, &NEW, &[], &[])?, b"ab", 44) else {
+        panic!(rt; "not begun");
     };
-    let Ok(()) = journal.begin() else {
-        panic!(rt; "not begun with room");
-    };
-    let Ok(()) = journal.append(&START) else {
-        panic!(rt; "no room");
-    };
+    assert!(rt; add(&mut journal, &START));
     assert_eq!(rt; journal.batch(), 18);
-    let Ok(()) = journal.flush() else {
-        panic!(rt; "not flushed");
-    };
+    assert!(rt; written(&mut journal));
     assert_eq!(rt; journal.batch(), 0);
-    assert_eq!(rt; journal.renew(&[]), Ok(2));
+    assert!(rt; renewed(&mut journal, &[], 2));
     let disk = journal.into_disk();
     assert_eq!(rt; disk.side(Side::A).len(), 44);
     assert_eq!(rt; disk.side(Side::A).get(25), Some(&1));
     assert_eq!(rt; disk.side(Side::B).len(), 26);
 
-    let Ok(mut journal) = Journal::open(alloc, disk_of(alloc, &[], &[], &[])?, b"", 23) else {
-        panic!(rt; "not opened without a deployment");
+    let Some(mut journal) = begun(alloc, disk_of(alloc, &[], &[], &[])?, b"", 42) else {
+        panic!(rt; "not begun without a deployment");
     };
-    assert_eq!(rt;
-        journal.begin(),
-        Err(BeginFault::Full {
-            length: 0,
-            adding: 24
-        })
-    );
-    let (done, disk) = play(alloc, disk_of(alloc, &[], &[], &[])?, b"", 2);
-    assert_eq!(rt; done, 2);
-    assert_eq!(rt; disk.side(Side::A).len(), 42);
+    assert!(rt; add(&mut journal, &START));
+    assert!(rt; written(&mut journal));
+    assert_eq!(rt; journal.into_disk().side(Side::A).len(), 42);
+    Ok(())
+}
+
+#[test]
+fn a_side_that_is_too_large(rt: HostRuntime) -> Result<(), Fail> {
+    let alloc = rt.alloc();
+    let Ok(mut journal) = Journal::open(alloc, disk_of(alloc, &[], &[], &[])?, b"", 23) else {
+        panic!(rt; "not opened");
+    };
+    let full = BeginFault::Full {
+        length: 0,
+        adding: 24,
+    };
+    assert_eq!(rt; journal.begin(), Err(full));
+    assert_eq!(rt; journal.renew(&[]), Err(full));
+    let disk = journal.into_disk();
+    assert!(rt; disk.side(Side::A).is_empty() && disk.side(Side::B).is_empty());
     Ok(())
 }
 
@@ -154,65 +200,45 @@ fn faults_of_two_sides(rt: HostRuntime) -> Result<(), Fail> {
     Ok(())
 }
 
-/// Does the first steps of a script as far as the disk lets it, and says how many were done. The last call is the sixth
-/// step, its flush, and the seventh.
-fn play(alloc: Global, disk: MemoryDisk, deployment: &[u8], steps: u64) -> (u64, MemoryDisk) {
-    let mut journal = match Journal::open(alloc, disk, deployment, LIMIT) {
+/// Does the first steps of a script on a journal as far as its disk lets it, and says how many were done. The last call
+/// is the sixth step, its flush, and the seventh.
+fn played(journal: &mut Journal<MemoryDisk>, steps: u64) -> u64
+    requires { journal.old.stage ≡ Ready }
+{
+    if steps < 2 || !add(journal, &START) || !written(journal) {
+        return 1;
+    }
+    if steps < 3 || !add(journal, b"") || !add(journal, b"second") || !written(journal) {
+        return 2;
+    }
+    if steps < 4 || !renewed(journal, b"after two", 2) {
+        return 3;
+    }
+    if steps < 5 || !add(journal, b"third") || !written(journal) {
+        return 4;
+    }
+    if steps < 7 || !add(journal, b"fourth") || !renewed(journal, b"after four", 3) {
+        return 5;
+    }
+    7
+}
+
+/// The same from the opening of an empty disk on, whose calls fail where the list says so. Opening is no step, and
+/// beginning is the first.
+fn play(alloc: Global, fail: &[u8], steps: u64) -> Result<(u64, MemoryDisk), NoMemory> {
+    let disk = disk_of(alloc, &[], &[], fail)?;
+    let mut journal = match Journal::open(alloc, disk, b"ab", LIMIT) {
         Ok(journal) => journal,
-        Err((_, disk)) => return (0, disk),
+        Err((_, disk)) => return Ok((0, disk)),
     };
     if steps < 1 {
-        return (0, journal.into_disk());
+        return Ok((0, journal.into_disk()));
     }
     let Ok(()) = journal.begin() else {
-        return (0, journal.into_disk());
+        return Ok((0, journal.into_disk()));
     };
-    if steps < 2 {
-        return (1, journal.into_disk());
-    }
-    let Ok(()) = journal.append(&START) else {
-        return (1, journal.into_disk());
-    };
-    let Ok(()) = journal.flush() else {
-        return (1, journal.into_disk());
-    };
-    if steps < 3 {
-        return (2, journal.into_disk());
-    }
-    let Ok(()) = journal.append(b"") else {
-        return (2, journal.into_disk());
-    };
-    let Ok(()) = journal.append(b"second") else {
-        return (2, journal.into_disk());
-    };
-    let Ok(()) = journal.flush() else {
-        return (2, journal.into_disk());
-    };
-    if steps < 4 {
-        return (3, journal.into_disk());
-    }
-    let Ok(2) = journal.renew(b"after two") else {
-        return (3, journal.into_disk());
-    };
-    if steps < 5 {
-        return (4, journal.into_disk());
-    }
-    let Ok(()) = journal.append(b"third") else {
-        return (4, journal.into_disk());
-    };
-    let Ok(()) = journal.flush() else {
-        return (4, journal.into_disk());
-    };
-    if steps < 7 {
-        return (5, journal.into_disk());
-    }
-    let Ok(()) = journal.append(b"fourth") else {
-        return (5, journal.into_disk());
-    };
-    let Ok(3) = journal.renew(b"after four") else {
-        return (5, journal.into_disk());
-    };
-    (7, journal.into_disk())
+    let done = played(&mut journal, steps);
+    Ok((done, journal.into_disk()))
 }
 
 /// How many steps of the script a journal stands for, from what it gives after opening: the first two of them leave the
@@ -233,17 +259,42 @@ fn steps_in(journal: &Journal<MemoryDisk>) -> Option<u64> {
     }
 }
 
-const PARTS: [u64; 4] = [0, 1, 7, 65_536];
+/// How many steps an image stands for.
+fn kept_in(alloc: Global, image: MemoryDisk) -> Option<u64> {
+    match Journal::open(alloc, image, b"ab", LIMIT) {
+        Ok(journal) => steps_in(&journal),
+        Err(_) => None,
+    }
+}
 
-const FILLS: [u8; 3] = [0, 1, 90];
+/// Whether all that a stop in some call may leave stands for at least and at most so many steps.
+fn images_stand(
+    alloc: Global,
+    disk: &MemoryDisk,
+    call: u64,
+    least: u64,
+    most: u64,
+) -> Result<bool, NoMemory>
+    requires { call ≤ length disk.now.calls }
+{
+    for part in [0, 1, 7, 65_536] {
+        for fill in [0, 1, 90] {
+            let kept = kept_in(alloc, disk.image(call, part, fill)?);
+            if !matches!(kept, Some(steps) if least <= steps && steps <= most) {
+                return Ok(false);
+            }
+        }
+    }
+    Ok(true)
+}
 
 #[test]
 fn each_image_opens_to_a_right_prefix(rt: HostRuntime) -> Result<(), Fail> {
     let alloc = rt.alloc();
     let mut from = 0;
-    let mut last = 0;
+    let mut last: u64 = 0;
     for step in [0, 1, 2, 3, 4, 5, 7] {
-        let (done, disk) = play(alloc, disk_of(alloc, &[], &[], &[])?, b"ab", step);
+        let (done, disk) = play(alloc, &[], step)?;
         assert_eq!(rt; done, step);
         if matches!(step, 2 | 3 | 5) {
             assert_eq!(rt;
@@ -254,26 +305,9 @@ fn each_image_opens_to_a_right_prefix(rt: HostRuntime) -> Result<(), Fail> {
         }
         for before in from..disk.calls() {
             let call = before + 1;
-            for part in PARTS {
-                for fill in FILLS {
-                    let Ok(journal) = Journal::open(
-                        alloc,
-                        disk.image(call, part, fill)?,
-                        b"ab",
-                        LIMIT,
-                    ) else {
-                        panic!(rt; "call {call}, part {part}, fill {fill}: not opened");
-                    };
-                    let Some(kept) = steps_in(&journal) else {
-                        panic!(rt; "call {call}, part {part}, fill {fill}: no prefix");
-                    };
-                    let least: u64 = if call == disk.calls() { step } else { last };
-                    assert!(rt;
-                        least.max(1) <= kept && kept <= step.max(1),
-                        "call {call}, part {part}, fill {fill}"
-                    );
-                }
-            }
+            let least = if call == disk.calls() { step } else { last };
+            let stand = images_stand(alloc, &disk, call, least.max(1), step.max(1))?;
+            assert!(rt; stand, "step {step}, call {call}");
         }
         from = disk.calls();
         last = step;
@@ -284,31 +318,18 @@ fn each_image_opens_to_a_right_prefix(rt: HostRuntime) -> Result<(), Fail> {
 #[test]
 fn each_call_fails_in_turn(rt: HostRuntime) -> Result<(), Fail> {
     let alloc = rt.alloc();
-    let (_, whole) = play(alloc, disk_of(alloc, &[], &[], &[])?, b"ab", 7);
+    let (_, whole) = play(alloc, &[], 7)?;
     let mut fail = Vec::new(alloc);
     for before in 0..whole.calls() {
         fail.push(1)?;
-        let (done, disk) = play(alloc, disk_of(alloc, &[], &[], &fail)?, b"ab", 7);
-        assert!(rt; done < 7, "call {before} failed");
+        let (done, disk) = play(alloc, &fail, 7)?;
+        assert!(rt; done < 7, "call {before}");
         assert_eq!(rt; disk.calls(), before + 1);
-        for part in PARTS {
-            for fill in FILLS {
-                let image = disk.image(disk.calls(), part, fill)?;
-                let Ok(journal) = Journal::open(alloc, image, b"ab", LIMIT) else {
-                    panic!(rt; "after {done} steps, part {part}, fill {fill}: not opened");
-                };
-                let Some(kept) = steps_in(&journal) else {
-                    panic!(rt; "after {done} steps, part {part}, fill {fill}: no prefix");
-                };
-                let most = if done == 5 { 7 } else { done.saturating_add(1) };
-                assert!(rt;
-                    done.max(1) <= kept && kept <= most,
-                    "after {done} steps, part {part}, fill {fill}"
-                );
-            }
-        }
-        if let Some(last) = fail.last_mut() {
-            *last = 0;
+        let most = if done == 5 { 7 } else { done.saturating_add(1) };
+        let stand = images_stand(alloc, &disk, disk.calls(), done.max(1), most)?;
+        assert!(rt; stand, "after {done} steps");
+        if let Some(mark) = fail.last_mut() {
+            *mark = 0;
         }
     }
     Ok(())
