@@ -1,0 +1,123 @@
+//! Opens or writes a journal over the files journal.a and journal.b of the folder where it runs, for the measurements in
+//! bench/. `open DEPLOYMENT` prints what the two files stand for; `write COUNT SIZE` appends and flushes COUNT payloads
+//! of SIZE bytes each. It ends with status 0, 1 for a fault and 2 for other words.
+#![tactic(auto)]
+
+use commit_journal::{Journal, JournalBad, JournalFault};
+use slee_disk::{Disk, HostDisk, Side};
+use std::alloc::Global;
+use std::process::ExitCode;
+use std::{env, io};
+
+/// The most bytes of a side.
+const LIMIT: u64 = 268_435_456;
+
+fn main(rt: HostRuntime) -> ExitCode {
+    match words_of(&rt) {
+        Ok(words) => run(&rt, words.as_slice()),
+        Err(_) => ExitCode::from(2),
+    }
+}
+
+/// The words behind the program's name.
+fn words_of(rt: &HostRuntime) -> io::Result<Vec<String>> {
+    let mut words = Vec::new(rt.alloc());
+    for word in env::args(rt)?.skip(1) {
+        words.push(word)?;
+    }
+    Ok(words)
+}
+
+fn run(rt: &HostRuntime, words: &[String]) -> ExitCode {
+    let disk = HostDisk::new(rt, ".", "journal.a", "journal.b");
+    match words {
+        [word, deployment] if word.as_str() == "open" => open(rt, disk, deployment.as_str()),
+        [word, count, size] if word.as_str() == "write" => {
+            match (count.parse::<u32>(), size.parse::<u16>()) {
+                (Ok(count), Ok(size)) => written(rt, write(rt.alloc(), disk, count, size)),
+                _ => ExitCode::from(2),
+            }
+        }
+        _ => ExitCode::from(2),
+    }
+}
+
+/// Prints what the two files stand for.
+fn open<D: Disk>(rt: &HostRuntime, disk: D, deployment: &str) -> ExitCode {
+    match Journal::open(rt.alloc(), disk, deployment.as_bytes(), LIMIT) {
+        Ok(journal) => told(println!(rt; "records {}", journal.records().len())),
+        Err((fault, _disk)) => {
+            let _ = print_fault(rt, fault);
+            ExitCode::from(1)
+        }
+    }
+}
+
+fn told(printed: io::Result<()>) -> ExitCode {
+    match printed {
+        Ok(()) => ExitCode::from(0),
+        Err(_) => ExitCode::from(1),
+    }
+}
+
+fn print_fault(rt: &HostRuntime, fault: JournalFault) -> io::Result<()> {
+    match fault {
+        JournalFault::DiskFault => println!(rt; "disk-fault"),
+        JournalFault::BadJournal { side, at, kind } => {
+            println!(rt; "bad-journal {} {at} {}", side_word(side), kind_word(kind))
+        }
+        JournalFault::OtherDeployment {
+            kept_len,
+            first_difference,
+        } => { println!(rt; "other-deployment {kept_len} {first_difference}") }
+        JournalFault::NoMemory => println!(rt; "no-memory"),
+    }
+}
+
+fn side_word(side: Side) -> &'static str {
+    match side {
+        Side::A => "a",
+        Side::B => "b",
+    }
+}
+
+fn kind_word(kind: JournalBad) -> &'static str {
+    match kind {
+        JournalBad::Header => "header",
+        JournalBad::Length => "length",
+        JournalBad::Sides => "sides",
+        JournalBad::Snapshot => "snapshot",
+        JournalBad::Record => "record",
+        JournalBad::Replay => "replay",
+    }
+}
+
+/// Appends and flushes this many payloads; how many of them are acknowledged, or none after a fault.
+fn write<D: Disk>(alloc: Global, disk: D, count: u32, size: u16) -> Option<u32> {
+    let payload = vec![in alloc; b'.'; usize::from(size)].ok()?;
+    let Ok(mut journal) = Journal::open(alloc, disk, b"bench", LIMIT) else {
+        return None;
+    };
+    let Ok(()) = journal.begin() else {
+        return None;
+    };
+    for _ in 0..count {
+        let Ok(()) = journal.append(&payload) else {
+            return None;
+        };
+        let Ok(()) = journal.flush() else {
+            return None;
+        };
+    }
+    Some(count)
+}
+
+fn written(rt: &HostRuntime, count: Option<u32>) -> ExitCode {
+    match count {
+        Some(count) => told(println!(rt; "acknowledged {count}")),
+        None => {
+            let _ = println!(rt; "refused");
+            ExitCode::from(1)
+        }
+    }
+}
