@@ -13,7 +13,7 @@ use Rattle.commit_journal.specs.Reading.{Kept}
 use Rattle.commit_journal.specs.Gate.{IsOpened}
 use Rattle.commit_journal.specs.Blank.{IsBlankOrOpen}
 use Rattle.commit_journal.specs.Rewriting.{IsRewritten}
-use Rattle.commit_journal.specs.Kept.{StandsIn, StandsFound, AreBlank, Keeps, Stands, StandsOrBegun}
+use Rattle.commit_journal.specs.Kept.{StandsIn, StandsFound, IsWhole, AreBlank, Keeps, Stands, StandsOrBegun}
 use Rattle.commit_journal.specs.Journal.{View, payloads_on, IsSound, size_begun}
 use Rattle.commit_journal.proofs.Sizes.{length-header}
 use Rattle.commit_journal.proofs.Writes.{stands_keeps}
@@ -42,6 +42,9 @@ module _ (kept : Kept) (at : ℕ) (new : DiskState) (stands : StandsIn kept at [
 
   pub ready_on : StandsIn (kept_on kept new) at [] new.seen
   ready_on = let e = sym same_payloads in subst (λ (ps : List (List ℕ)). StandsIn (record { side = kept.side; head = kept.head; payloads = ps }) at [] new.seen) e stands
+
+  pub whole_on : IsWhole (kept_on kept new) new.seen
+  whole_on = subst (λ k. StandsIn (kept_on kept new) k [] new.seen) ready_on.place ready_on
 
   pub keeps_on : Keeps (kept_on kept new) new.seen
   keeps_on = stands_keeps (kept_on kept new) at [] new.seen ready_on

@@ -13,12 +13,12 @@ use Rattle.commit_journal.specs.Spelling.{Head, header, FitsText, FitsHead, reco
 use Rattle.commit_journal.specs.Reading.{Kept}
 use Rattle.commit_journal.specs.Gate.{IsOpened}
 use Rattle.commit_journal.specs.Rewriting.{IsRewritten}
-use Rattle.commit_journal.specs.Kept.{StandsIn, StandsFound, Keeps, Stands, with_more, StandsOrMore, side_renewed, generation_renewed, renewed, StandsOrRenewed}
+use Rattle.commit_journal.specs.Kept.{StandsIn, StandsFound, IsWhole, Keeps, Stands, with_more, StandsOrMore, side_renewed, generation_renewed, renewed, StandsOrRenewed}
 use Rattle.commit_journal.specs.Renewal.{StandsMoreOrRenewed, LeavesRenewed}
 use Rattle.commit_journal.specs.Journal.{View, payloads_on, kept_by, IsSound}
 use Rattle.commit_journal.proofs.Rewrites.{first_stands, first_image, next_stands, next_image}
 use Rattle.commit_journal.proofs.Sound.{kept_on}
-use Rattle.commit_journal.proofs.Begins.{clean_images, ready_on, keeps_on, same_payloads, ready_idle, length-behind}
+use Rattle.commit_journal.proofs.Begins.{clean_images, ready_on, keeps_on, whole_on, same_payloads, ready_idle, length-behind}
 
 -- ---- by how far the journal has come
 
@@ -77,6 +77,9 @@ module _ (stage : Stage) (kept : Kept) (end : ℕ) (batch : List (List ℕ)) (li
           limited = sound.limited;
         } in
         subst (λ (k : Kept). IsSound Ready k n batch limit new) (same_renewed stage kept snapshot side g new p q) made
+
+    pub switched_whole : (side : Side) (g : ℕ) → side ≡ side_renewed stage kept.side → g ≡ generation_renewed stage kept.head.generation → IsTrue old.told → IsWhole (kept_by side g kept.head.deployment snapshot new) new.seen
+    switched_whole side g p q told = subst (λ (k : Kept). IsWhole k new.seen) (same_renewed stage kept snapshot side g new p q) (whole_on (renewed stage kept snapshot) (length behind) new (switched_stands told))
 
     pub switched_seen : (side : Side) (g : ℕ) → side ≡ side_renewed stage kept.side → g ≡ generation_renewed stage kept.head.generation → IsTrue old.told → Keeps (kept_by side g kept.head.deployment snapshot new) new.seen
     switched_seen side g p q told = subst (λ (k : Kept). Keeps k new.seen) (same_renewed stage kept snapshot side g new p q) (keeps_on (renewed stage kept snapshot) (length behind) new (switched_stands told))

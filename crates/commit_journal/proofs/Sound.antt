@@ -12,7 +12,7 @@ use Rattle.commit_journal.specs.declared.stage.Stage.TheVariants as stages
 use Rattle.commit_journal.specs.declared.record.Record.{Record}
 use Rattle.commit_journal.specs.Spelling.{Head, recorded, FitsText, records_size, size}
 use Rattle.commit_journal.specs.Reading.{payloads_of, Front, Blank, Header, front, Neither, counting, Kept, recovered}
-use Rattle.commit_journal.specs.Kept.{StandsIn, StandsFound, AreBlank, Keeps, Stands, with_more, KeepsOrMore, StandsOrMore}
+use Rattle.commit_journal.specs.Kept.{StandsIn, StandsFound, IsWhole, AreBlank, Keeps, Stands, with_more, KeepsOrMore, StandsOrMore}
 use Rattle.commit_journal.specs.Gate.{EndsShut}
 use Rattle.commit_journal.specs.Batch.{or_none}
 use Rattle.commit_journal.specs.Journal.{View, behind_front, payloads_on, IsSound}
@@ -33,6 +33,10 @@ payloads_on_stands kept at tail sides stands =
 pub payloads_on_blank : (bytes : List ℕ) → front bytes ≡ Blank → payloads_on bytes ≡ []
 unfolding payloads_on
 payloads_on_blank bytes blank = ap behind_front blank
+
+-- the place of the last gate is known by what stands before it
+pub whole_in : (kept : Kept) (at : ℕ) (sides : Sides) → StandsIn kept at [] sides → IsWhole kept sides
+whole_in kept at sides stands = subst (λ k. StandsIn kept k [] sides) stands.place stands
 
 -- the size of a side with its batch, by the place of its last gate
 pub size_with : (kept : Kept) (at : ℕ) (sides : Sides) (batch : List (List ℕ)) → StandsIn kept at [] sides → at + 1 + records_size batch ≡ size kept.head (kept.payloads ++ batch)
@@ -111,6 +115,9 @@ module _ (stage : Stage) (kept : Kept) (end : ℕ) (batch : List (List ℕ)) (li
 
   pub flushed_kept : IsTrue old.told → StandsIn (kept_on kept new) (end + records_size batch) [] new.seen
   flushed_kept told = let e = sym (flushed_payloads told) in subst (λ (ps : List (List ℕ)). StandsIn (record { side = kept.side; head = kept.head; payloads = ps }) (end + records_size batch) [] new.seen) e (flushed_stands told)
+
+  pub flushed_whole : IsTrue old.told → IsWhole (kept_on kept new) new.seen
+  flushed_whole told = let stands = flushed_kept told in subst (λ k. StandsIn (kept_on kept new) k [] new.seen) stands.place stands
 
   pub flushed_seen : IsTrue old.told → Stands stage (kept_on kept new) new.seen
   flushed_seen told = keeps_ready stage (kept_on kept new) new.seen is_ready (stands_keeps (kept_on kept new) (end + records_size batch) [] new.seen (flushed_kept told))

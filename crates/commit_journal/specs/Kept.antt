@@ -23,6 +23,10 @@ pub record StandsFound (kept : Kept) (at : ℕ) (sides : Sides) : Type 0 where
   pub tail : List ℕ
   pub stands : StandsIn kept at tail sides
 
+-- The side that counts is spelled, and ends with one closed gate.
+abbrev pub IsWhole : Kept → Sides → Type 0
+IsWhole kept sides = StandsIn kept (length (spelled kept.head kept.payloads)) [] sides
+
 -- both sides are blank
 abbrev pub AreBlank : Sides → Type 0
 AreBlank sides = (front sides.a ≡ Blank) × (front sides.b ≡ Blank)

@@ -1,4 +1,4 @@
-ghost use Rattle.std.specs.Prelude.{◌≡◌, ◌≢◌, ◌<◌, ◌≤◌, ◌+◌, ◌^◌, [], ◌∷◌, ◌++◌, length, IsTrue, OnOk, OnErr, IfOk, IfErr, IsErr, IsErrOf, IsOk};
+ghost use Rattle.std.specs.Prelude.{◌≡◌, ◌≢◌, ◌⊎◌, ◌<◌, ◌≤◌, ◌+◌, ◌^◌, [], ◌∷◌, ◌++◌, length, IsTrue, OnOk, OnErr, IfOk, IfErr, IsErr, IsErrOf, IsOk};
 
 use crate::batch::Batch;
 use crate::blank::{rewrite_side, write_side};
@@ -54,7 +54,7 @@ impl<D: Disk> Journal<D> {
     ghost use Rattle.commit_journal.specs.declared.stage.Stage.TheVariants.{Ready, Stopped};
     ghost use Rattle.commit_journal.specs.Spelling.{header, records_size, size};
     ghost use Rattle.commit_journal.specs.Reading.{first_gate, recovered};
-    ghost use Rattle.commit_journal.specs.Kept.{with_more, Keeps, Stands, StandsOrMore, StandsOrBegun, side_renewed, generation_renewed, renewed, StandsOrRenewed};
+    ghost use Rattle.commit_journal.specs.Kept.{IsWhole, with_more, Keeps, Stands, StandsOrMore, StandsOrBegun, side_renewed, generation_renewed, renewed, StandsOrRenewed};
     ghost use Rattle.commit_journal.specs.Renewal.{StandsMoreOrRenewed, LeavesRenewed};
     ghost use Rattle.commit_journal.specs.Views.{IsCause, located};
     ghost use Rattle.commit_journal.specs.Journal.{payloads_on, IsOpenedAs, IsSameSide, Refuses, size_begun, IsTooLarge, IsLeft};
@@ -142,6 +142,7 @@ impl<D: Disk> Journal<D> {
         ensures ready { OnOk result (self.new.stage ≡ Ready) }
         ensures still { IsSameSide self.old self.new }
         ensures batch { self.new.batch ≡ self.old.batch }
+        ensures whole { IsTrue (D.disk self.old.disk).told → OnOk result (IsWhole self.new.kept (D.disk self.new.disk).seen) }
         ensures seen { IsTrue (D.disk self.old.disk).told → OnOk result (Keeps self.new.kept (D.disk self.new.disk).seen) }
         ensures acknowledged { IsTrue (is_clean (D.disk self.old.disk)) → OnOk result
             ((image : Sides) → (D.disk self.new.disk).images image → Keeps self.new.kept image) }
@@ -219,6 +220,7 @@ impl<D: Disk> Journal<D> {
             (self.new ≡ record self.old { disk = self.new.disk; kept = with_more self.old.kept self.old.batch; batch = [] }) }
         ensures stage { OnOk result (self.new.stage ≡ self.old.stage) }
         ensures empty { OnOk result (self.new.batch ≡ []) }
+        ensures whole { IsTrue (D.disk self.old.disk).told → self.old.stage ≡ Ready → OnOk result (IsWhole self.new.kept (D.disk self.new.disk).seen) }
         ensures seen { IsTrue (D.disk self.old.disk).told → OnOk result (Stands self.new.stage self.new.kept (D.disk self.new.disk).seen) }
         ensures acknowledged { IsTrue (is_clean (D.disk self.old.disk)) → OnOk result
             ((image : Sides) → (D.disk self.new.disk).images image → Stands self.new.stage self.new.kept image) }
@@ -278,6 +280,7 @@ impl<D: Disk> Journal<D> {
         ensures side { OnOk result (self.new.kept.side ≡ (renewed self.old.stage self.old.kept snapshot).side) }
         ensures ready { OnOk result (self.new.stage ≡ Ready) }
         ensures generation { IfOk result (λ n. n ≡ (renewed self.old.stage self.old.kept snapshot).head.generation) }
+        ensures whole { IsTrue (D.disk self.old.disk).told → OnOk result (IsWhole self.new.kept (D.disk self.new.disk).seen) }
         ensures seen { IsTrue (D.disk self.old.disk).told → OnOk result (Keeps self.new.kept (D.disk self.new.disk).seen) }
         ensures rest { IsTrue (is_clean (D.disk self.old.disk)) → OnOk result (IsTrue (is_clean (D.disk self.new.disk))) }
         ensures any_moment { IsTrue (is_clean (D.disk self.old.disk)) → LeavesOnly (D.disk self.old.disk) (D.disk self.new.disk)
@@ -317,6 +320,7 @@ impl<D: Disk> Journal<D> {
         ensures ready { OnOk result (self.new.stage ≡ Ready) }
         ensures empty { OnOk result (self.new.batch ≡ []) }
         ensures others { (self.new.records ≡ self.old.records) × (self.new.limit ≡ self.old.limit) }
+        ensures whole { IsTrue (D.disk self.old.disk).told → OnOk result (IsWhole self.new.kept (D.disk self.new.disk).seen) }
         ensures seen { IsTrue (D.disk self.old.disk).told → OnOk result (Keeps self.new.kept (D.disk self.new.disk).seen) }
         ensures acknowledged { IsTrue (is_clean (D.disk self.old.disk)) → OnOk result
             ((image : Sides) → (D.disk self.new.disk).images image → Keeps self.new.kept image) }
@@ -332,6 +336,7 @@ impl<D: Disk> Journal<D> {
         ensures refused { IfErr result (λ fault. IsTooLarge (size (renewed self.old.stage self.old.kept snapshot.now).head []) self.old.limit fault) }
         ensures fits { OnOk result (size (renewed self.old.stage self.old.kept snapshot.now).head [] ≤ self.old.limit) }
         ensures left { IfErr result (λ fault. IsLeft self.old self.new fault) }
+        ensures unwritten { OnErr result ((self.new.batch ≡ self.old.batch) ⊎ (self.new.batch ≡ [])) }
         ensures cause { IsErrOf result BeginFault.DiskFault → Rose (D.disk self.old.disk).faults (D.disk self.new.disk).faults }
         ensures told { (D.disk self.new.disk).told ≡ (D.disk self.old.disk).told }
         ensures rising { (D.disk self.old.disk).faults ≤ (D.disk self.new.disk).faults }

@@ -8,7 +8,7 @@ use Rattle.commit_journal.specs.Reading.{Kept}
 use Rattle.commit_journal.specs.Kept.{Keeps, StandsOrBegun}
 use Rattle.commit_journal.specs.Journal.{View, kept_by, IsSound}
 use Rattle.commit_journal.proofs.Sound.{runs, sound_seen}
-use Rattle.commit_journal.proofs.Begins.{idle_leaves, clean_images, found_in, same_payloads, keeps_on, same_kept, cut_sound, cut_leaves, stands_begun, begun_stands, begun_image, begun_sound, blank_payloads}
+use Rattle.commit_journal.proofs.Begins.{idle_leaves, clean_images, found_in, same_payloads, keeps_on, whole_on, same_kept, cut_sound, cut_leaves, stands_begun, begun_stands, begun_image, begun_sound, blank_payloads}
 use Rattle.commit_journal.proofs.journal.Journal.begin.Goals as goal
 
 -- ---- what stands behind the last gate is cut
@@ -35,6 +35,14 @@ returns-in-Ok-clause-seen g c =
     let kept = kept_by c.self.inside.side c.self.inside.generation c.self.inside.deployment c.self.inside.snapshot old in
     let running = runs _ _ (ap (λ v. v.stage) c.self.view_is) c.requires in
     rw (← c.self.view_is) (λ told. keeps_on kept c.self.inside.end (g.D.Disk.disk c.cut_behind.new.disk)
+    (c.in-Ok.ensures.ready kept refl told (found_in _ _ _ _ _ _ c.self.invariant running c.in_default.not-Blank told)))
+
+pub returns-in-Ok-clause-whole : goal.returns-in-Ok-clause-whole
+returns-in-Ok-clause-whole g c =
+    let old = g.D.Disk.disk c.self.inside.disk in
+    let kept = kept_by c.self.inside.side c.self.inside.generation c.self.inside.deployment c.self.inside.snapshot old in
+    let running = runs _ _ (ap (λ v. v.stage) c.self.view_is) c.requires in
+    rw (← c.self.view_is) (λ told. whole_on kept c.self.inside.end (g.D.Disk.disk c.cut_behind.new.disk)
     (c.in-Ok.ensures.ready kept refl told (found_in _ _ _ _ _ _ c.self.invariant running c.in_default.not-Blank told)))
 
 pub returns-in-Ok-clause-acknowledged : goal.returns-in-Ok-clause-acknowledged
@@ -107,6 +115,19 @@ returns-in-Ok-write_side-clause-seen g c =
     c.deref.ensures.value ∙ c.in_ok-bytes.ensures ∙ ap (λ (l : List ℕ). header (record { generation = c.self.inside.generation; deployment = l; snapshot = [] }) ++ 0 ∷ []) c.as_slice-deployment.ensures in
     let new = g.D.Disk.disk c.write_side.new.disk in
     rw (← c.self.view_is) (λ told. keeps_on _ (length c.deref.result.now) new (begun_stands kept _ _ _ old sound fits (omega arith) c.deref.result.now is new.seen told (c.in-Ok-write_side.ensures.opened told)))
+
+pub returns-in-Ok-write_side-clause-whole : goal.returns-in-Ok-write_side-clause-whole
+returns-in-Ok-write_side-clause-whole g c =
+    let old = g.D.Disk.disk c.self.inside.disk in
+    let kept = kept_by c.self.inside.side c.self.inside.generation c.self.inside.deployment c.self.inside.snapshot old in
+    let sound = subst (λ (s : Stage). IsSound s kept c.self.inside.end c.self.inside.batch c.self.inside.limit old) c.in-Blank.is c.self.invariant in
+    let length_is = ap length c.as_slice-deployment.ensures in
+    let none_is = ap length (sound.first refl) in
+    let fits : size kept.head [] ≤ c.self.inside.limit = omega (arith, length_is, none_is, c.if-size-self.false) in
+    let is : c.deref.result.now ≡ header (record { generation = c.self.inside.generation; deployment = c.self.inside.deployment; snapshot = [] }) ++ 0 ∷ [] =
+    c.deref.ensures.value ∙ c.in_ok-bytes.ensures ∙ ap (λ (l : List ℕ). header (record { generation = c.self.inside.generation; deployment = l; snapshot = [] }) ++ 0 ∷ []) c.as_slice-deployment.ensures in
+    let new = g.D.Disk.disk c.write_side.new.disk in
+    rw (← c.self.view_is) (λ told. whole_on _ (length c.deref.result.now) new (begun_stands kept _ _ _ old sound fits (omega arith) c.deref.result.now is new.seen told (c.in-Ok-write_side.ensures.opened told)))
 
 pub returns-in-Ok-write_side-clause-acknowledged : goal.returns-in-Ok-write_side-clause-acknowledged
 returns-in-Ok-write_side-clause-acknowledged g c =

@@ -3,13 +3,16 @@ use Rattle.slee_disk.proofs.Moments.{leaves_what, clean_told}
 use Rattle.commit_journal.specs.Kept.{StandsOrMore}
 use Rattle.commit_journal.specs.Journal.{View, kept_by}
 use Rattle.commit_journal.proofs.Writes.{stands_ends}
-use Rattle.commit_journal.proofs.Sound.{runs, not_so, sound_seen, ready_if, clean_stands, nothing_done, as_ready, flushed_payloads, flushed_seen, flushed_sound, same_view}
+use Rattle.commit_journal.proofs.Sound.{runs, not_so, whole_in, flushed_whole, sound_seen, ready_if, clean_stands, nothing_done, as_ready, flushed_payloads, flushed_seen, flushed_sound, same_view}
 use Rattle.commit_journal.proofs.journal.Journal.flush.Goals as goal
 
 pub returns-then-is_empty-clause-seen : goal.returns-then-is_empty-clause-seen
 returns-then-is_empty-clause-seen g c =
     let running = runs _ _ (ap (λ v. v.stage) c.self.view_is) c.requires in
     rw (← c.self.view_is) (λ told. sound_seen _ _ _ _ _ _ c.self.invariant running told)
+
+pub returns-then-is_empty-clause-whole : goal.returns-then-is_empty-clause-whole
+returns-then-is_empty-clause-whole g c = rw (← c.self.view_is) (λ told ready. whole_in _ _ _ (c.self.invariant.ready ready told))
 
 pub returns-then-is_empty-clause-acknowledged : goal.returns-then-is_empty-clause-acknowledged
 returns-then-is_empty-clause-acknowledged g c =
@@ -57,6 +60,15 @@ returns-in-Ok-clause-seen g c =
     let ready = ready_if _ _ _ _ _ _ c.self.invariant (runs _ _ (ap (λ v. v.stage) c.self.view_is) c.requires) some in
     rw (← c.self.view_is) (flushed_seen _ kept _ c.self.inside.batch _ old (g.D.Disk.disk c.write_batch.new.disk) c.self.invariant ready c.write_batch.ensures.told
     (λ told stands. c.in-Ok.ensures.acknowledged kept refl told stands))
+
+pub returns-in-Ok-clause-whole : goal.returns-in-Ok-clause-whole
+returns-in-Ok-clause-whole g c =
+    let old = g.D.Disk.disk c.self.inside.disk in
+    let kept = kept_by c.self.inside.side c.self.inside.generation c.self.inside.deployment c.self.inside.snapshot old in
+    let some = not_so c.is_empty.result _ c.if-is_empty.false c.is_empty.ensures in
+    let ready = ready_if _ _ _ _ _ _ c.self.invariant (runs _ _ (ap (λ v. v.stage) c.self.view_is) c.requires) some in
+    rw (← c.self.view_is) (λ told _. flushed_whole _ kept _ c.self.inside.batch _ old (g.D.Disk.disk c.write_batch.new.disk) c.self.invariant ready c.write_batch.ensures.told
+    (λ told stands. c.in-Ok.ensures.acknowledged kept refl told stands) told)
 
 pub returns-in-Ok-clause-acknowledged : goal.returns-in-Ok-clause-acknowledged
 returns-in-Ok-clause-acknowledged g c =
