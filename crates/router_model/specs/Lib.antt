@@ -1,0 +1,5 @@
+pub mod State
+pub mod Changes
+pub mod Trees
+pub mod Paths
+pub mod Activities
