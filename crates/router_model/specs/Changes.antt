@@ -1,5 +1,5 @@
 -- One change of one list.
-use Rattle.std.specs.Prelude.{ℕ, ◌+◌, ℤ, ◌==◌, Bool, true, false, not, if◌then◌else◌, List, [], ◌∷◌, ◌++◌, map, filter}
+use Rattle.std.specs.Prelude.{ℕ, ◌+◌, ℤ, ◌==◌, nat_lt, Bool, ◌||◌, ◌&&◌, true, false, not, if◌then◌else◌, List, [], ◌∷◌, ◌++◌, map, filter, length, insert, take_while}
 use Rattle.slee_value.specs.declared.ids.ActivityId.{ActivityId}
 use Rattle.slee_value.specs.declared.ids.EntityId.{EntityId}
 use Rattle.router_model.specs.State.{Parts}
@@ -46,9 +46,15 @@ without_front (q ∷ qs) a = if q.activity.0 == a then qs else q ∷ without_fro
 abbrev pub ends : ℕ → Activity → Activity
 ends a row = if row.number.0 == a then record row { ending = true } else row
 
+-- attachments stand by activity, then by entity
+abbrev pub stands_before : ℕ → ℕ → Link → Bool
+stands_before e a l = nat_lt l.activity.0 a || ((l.activity.0 == a) && nat_lt l.entity.0 e)
+
 -- an entity is attached once
 abbrev pub with_link : List Link → EntityId → ActivityId → List Link
-with_link links e a = if is_linked links e.0 a.0 then links else links ++ record { entity = e; activity = a } ∷ []
+with_link links e a =
+    if is_linked links e.0 a.0 then links
+    else insert links (length (take_while (stands_before e.0 a.0) links)) (record { entity = e; activity = a })
 
 abbrev pub with_activity : Parts → AcKind → Parts
 with_activity s kind = record s {

@@ -2,7 +2,7 @@
 use Rattle.std.specs.Prelude.{◌≡◌, ℕ, zero, suc, ◌-◌, ◌≤◌, if◌then◌else◌, List, [], ◌∷◌, ◌++◌, map, length, Some, None, Option, IsTrue, option_map}
 use Rattle.std.specs.Option.{option_map_or, option_or}
 use Rattle.signal_script.specs.declared.signal.Signal.{Signal}
-use Rattle.trace_history.specs.History.{choices_of, inputs_of}
+use Rattle.trace_history.specs.Histories.{choices_of, inputs_of}
 use Rattle.trace_history.specs.declared.choice.Choice.{Choice}
 use Rattle.trace_history.specs.declared.choice.Choice.TheVariants as choices
 use Rattle.trace_history.specs.declared.entry.Entry.{Entry}

@@ -6,6 +6,4 @@ pub mod Delivery
 pub mod Closing
 pub mod Step
 pub mod History
-pub mod Payload
 pub mod Show
-pub mod Well

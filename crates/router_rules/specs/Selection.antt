@@ -1,7 +1,7 @@
 -- Who is concerned by the front event of an activity: the due service, the eligible entities, the next choice.
 use Rattle.std.specs.Prelude.{ℕ, Bool, true, false, ◌&&◌, ◌==◌, not, if◌then◌else◌, is_some, List, [], ◌∷◌, Some, None, Option, filter, find, slice_get}
 use Rattle.std.specs.Option.{option_map_or}
-use Rattle.slee_value.specs.declared.selection.ConvName.{ConvName}
+use Rattle.slee_value.specs.declared.convergence.ConvName.{ConvName}
 use Rattle.router_model.specs.State.{Parts}
 use Rattle.router_model.specs.Activities.{front, is_linked, is_done, is_delivered, is_untouched, least_waiting}
 use Rattle.router_model.specs.Paths.{entity_at, least_path}
@@ -73,11 +73,12 @@ selection a = record { activity = Some (record { 0 = a }); address = None; event
 abbrev pub is_root_of : List Entity → ℕ → ℕ → Bool
 is_root_of rows service e = option_map_or (λ row. is_of_service service row.stem) (entity_at rows e) false
 
+-- a convergence name has this activity
+abbrev pub names_activity : ConvName → ℕ → Bool
+names_activity name a = option_map_or (λ own. own.0 == a) name.activity false
+
 abbrev pub is_selected : Parts → ℕ → ℕ → RootName → Bool
-is_selected s service a row = has_activity row.name a && is_root_of s.entities service row.entity.0
-  where
-    has_activity : ConvName → ℕ → Bool
-    has_activity name a = option_map_or (λ own. own.0 == a) name.activity false
+is_selected s service a row = names_activity row.name a && is_root_of s.entities service row.entity.0
 
 -- the root of the service that has the activity's convergence name
 abbrev pub root_selected : Parts → ℕ → ℕ → Option RootName
