@@ -3,3 +3,4 @@ pub mod RoomLemmas
 pub mod LeastLemmas
 pub mod LinkLemmas
 pub mod HalvingLemmas
+pub mod EndLemmas

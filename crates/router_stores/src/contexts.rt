@@ -1,44 +1,25 @@
 //! Rows of activities and of attachments.
-ghost use Rattle.std.specs.Prelude.{◌≡◌, ◌<◌, ◌≤◌, ◌+◌, ◌-◌, map, length, nat_lt, nat_le, vec_capacity, vec_len, option_copied};
+ghost use Rattle.std.specs.Prelude.{◌≡◌, ◌==◌, ◌&&◌, ◌<◌, ◌≤◌, ◌+◌, ◌-◌, map, length, nat_lt, nat_le, vec_capacity, vec_len, option_copied};
 ghost use Rattle.std.specs.List.{prefix_len};
-ghost use Rattle.router_model.specs.Activities.{activity_at, external, has_name, is_linked, links_on};
+ghost use Rattle.router_model.specs.Activities.{external, has_name, is_linked, links_on};
 ghost use Rattle.router_model.specs.Trees.{links_of};
-ghost use Rattle.router_model.specs.Changes.{ends, without_activity, without_links_of, without_links_on, with_link, stands_before};
-ghost use Rattle.router_model.specs.Ordered.{AllInOrder, IsLinkBefore};
+ghost use Rattle.router_model.specs.Changes.{ends, without_links_of, without_links_on, with_link, stands_before};
+ghost use Rattle.router_model.specs.Ordered.{AllInOrder, IsLinkBefore, Rises, activity_number};
 
+use crate::numbered::place_of;
 use router_model::{AcKind, Activity, Link};
 use slee_value::{ActivityId, EntityId, Name};
 
-fn end_one(row: &mut Activity, activity: ActivityId)
-    ensures { row.new ≡ ends activity.0 row.old }
-{
-    if row.number.0 == activity.0 {
-        row.ending = true;
-    }
-}
-
-fn end_rows(rows: &mut [Activity], activity: ActivityId)
-    ensures { rows.new ≡ map (ends activity.0) rows.old }
-{
-    for row in rows.iter_mut() {
-        end_one(row, activity);
-    }
-}
-
 /// The activity is Ending.
 pub fn end_activity(rows: &mut Vec<Activity>, activity: ActivityId)
+    requires { Rises activity_number rows.old.items }
     ensures items { rows.new.items ≡ map (ends activity.0) rows.old.items }
     ensures room { vec_capacity rows.old - vec_len rows.old ≤ vec_capacity rows.new - vec_len rows.new }
 {
-    end_rows(rows, activity);
-}
-
-/// The activity is gone.
-pub fn cut_activity(rows: &mut Vec<Activity>, activity: ActivityId)
-    ensures items { rows.new.items ≡ without_activity rows.old.items activity.0 }
-    ensures room { vec_capacity rows.old - vec_len rows.old ≤ vec_capacity rows.new - vec_len rows.new }
-{
-    rows.retain(|row| row.number.0 != activity.0);
+    match place_of(rows, activity.0) {
+        Some(place) => rows[place].ending = true,
+        None => {}
+    }
 }
 
 /// Nothing is attached to the activity.
@@ -63,13 +44,6 @@ fn is_before(row: &Link, entity: EntityId, activity: ActivityId) -> bool
     row.activity.0 < activity.0 || (row.activity.0 == activity.0 && row.entity.0 < entity.0)
 }
 
-/// Whether there is this attachment.
-pub fn has_link(rows: &[Link], entity: EntityId, activity: ActivityId) -> bool
-    ensures { result ≡ is_linked rows.now entity.0 activity.0 }
-{
-    rows.iter().any(|row| row.entity.0 == entity.0 && row.activity.0 == activity.0)
-}
-
 /// Where the attachment stands or would stand: behind those that stand before it.
 fn link_place(rows: &[Link], entity: EntityId, activity: ActivityId) -> usize
     requires { AllInOrder IsLinkBefore rows.now }
@@ -77,6 +51,23 @@ fn link_place(rows: &[Link], entity: EntityId, activity: ActivityId) -> usize
     ensures within { result ≤ length rows.now }
 {
     rows.partition_point(|row| is_before(row, entity, activity))
+}
+
+fn is_link(row: &Link, entity: EntityId, activity: ActivityId) -> bool
+    ensures { result ≡ ((row.now.entity.0 == entity.0) && (row.now.activity.0 == activity.0)) }
+{
+    row.entity.0 == entity.0 && row.activity.0 == activity.0
+}
+
+/// Whether there is this attachment.
+pub fn has_link(rows: &[Link], entity: EntityId, activity: ActivityId) -> bool
+    requires { AllInOrder IsLinkBefore rows.now }
+    ensures { result ≡ is_linked rows.now entity.0 activity.0 }
+{
+    match rows.get(link_place(rows, entity, activity)) {
+        Some(row) => is_link(row, entity, activity),
+        None => false,
+    }
 }
 
 /// The attachment is there.
@@ -127,13 +118,6 @@ pub fn count_links(rows: &[Link], entity: EntityId) -> usize
     ensures { result ≡ links_of rows.now entity.0 }
 {
     rows.iter().filter(|row| row.entity.0 == entity.0).count()
-}
-
-/// The activity of this number.
-pub fn activity_in(rows: &[Activity], activity: ActivityId) -> Option<&Activity>
-    ensures { option_copied result ≡ activity_at rows.now activity.0 }
-{
-    rows.iter().find(|row| row.number.0 == activity.0)
 }
 
 fn is_named(kind: &AcKind, name: &Name) -> bool

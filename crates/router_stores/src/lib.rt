@@ -2,8 +2,9 @@
 #![tactic(auto)]
 
 mod contexts;
+mod numbered;
 mod queues;
+mod roots;
 mod stores;
-mod trees;
 
 pub use stores::Stores;

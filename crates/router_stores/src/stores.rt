@@ -10,7 +10,7 @@ ghost use Rattle.router_model.specs.Ordered.{IsOrdered, FitsChange, FitsKind, Ar
 ghost use Rattle.router_model.specs.declared.change.Change.TheVariants as changes;
 ghost use Rattle.router_stores.specs.Room.{HasRoom, HasNumbers};
 
-use crate::{contexts, queues, trees};
+use crate::{contexts, numbered, queues, roots};
 use router_model::{
     AcKind, Activity, Change, Entity, EntityMark, Event, Link, Queued, RootName, Service,
     ServiceMark, ServiceState, Stem,
@@ -173,7 +173,7 @@ impl Stores {
         ensures parts { self.new.parts ≡ after_change (changes.DropContext activity) self.old.parts }
         ensures room { (n : ℕ) → HasRoom n self.old → HasRoom n self.new }
     {
-        contexts::cut_activity(&mut self.activities, activity);
+        numbered::cut_row(&mut self.activities, activity.0);
         contexts::cut_links_on(&mut self.links, activity);
     }
 
@@ -215,8 +215,8 @@ impl Stores {
         ensures parts { self.new.parts ≡ after_change (changes.Remove entity) self.old.parts }
         ensures room { (n : ℕ) → HasRoom n self.old → HasRoom n self.new }
     {
-        trees::cut_entity(&mut self.entities, entity);
-        trees::cut_root_name(&mut self.root_names, entity);
+        numbered::cut_row(&mut self.entities, entity.0);
+        numbered::cut_row(&mut self.root_names, entity.0);
         contexts::cut_links_of(&mut self.links, entity);
     }
 
@@ -359,7 +359,7 @@ impl Stores {
     pub fn activity(&self, activity: ActivityId) -> Option<&Activity>
         ensures { option_copied result ≡ activity_at self.now.parts.activities activity.0 }
     {
-        contexts::activity_in(&self.activities, activity)
+        numbered::row_of(&self.activities, activity.0)
     }
 
     /// The external activity of this name.
@@ -373,7 +373,7 @@ impl Stores {
     pub fn entity(&self, entity: EntityId) -> Option<&Entity>
         ensures { option_copied result ≡ entity_at self.now.parts.entities entity.0 }
     {
-        trees::entity_in(&self.entities, entity)
+        numbered::row_of(&self.entities, entity.0)
     }
 
     /// The attachments to the activity, by entity.
@@ -401,7 +401,7 @@ impl Stores {
     pub fn root_selected(&self, service: u32, activity: ActivityId) -> Option<&RootName>
         ensures { option_copied result ≡ root_selected self.now.parts service activity.0 }
     {
-        trees::root_in(&self.entities, &self.root_names, service, activity)
+        roots::root_in(&self.entities, &self.root_names, service, activity)
     }
 
     /// The front event of the activity.

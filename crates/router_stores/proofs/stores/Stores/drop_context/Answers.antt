@@ -6,4 +6,4 @@ use Rattle.router_stores.proofs.stores.Stores.drop_context.Goals as goal
 
 pub invariant_of-self : goal.invariant_of-self
 invariant_of-self c =
-    rw (c.cut_activity.ensures.items, c.cut_links_on.ensures.items) (ordered_after (changes.DropContext c.args.activity) (held_parts c.self.inside) (tt) c.self.invariant)
+    rw (c.cut_row.ensures.items, c.cut_links_on.ensures.items) (ordered_after (changes.DropContext c.args.activity) (held_parts c.self.inside) (tt) c.self.invariant)

@@ -6,4 +6,4 @@ use Rattle.router_stores.proofs.stores.Stores.remove.Goals as goal
 
 pub invariant_of-self : goal.invariant_of-self
 invariant_of-self c =
-    rw (c.cut_entity.ensures.items, c.cut_root_name.ensures.items, c.cut_links_of.ensures.items) (ordered_after (changes.Remove c.args.entity) (held_parts c.self.inside) (tt) c.self.invariant)
+    rw (c.cut_row.ensures.items, c.cut_row-2.ensures.items, c.cut_links_of.ensures.items) (ordered_after (changes.Remove c.args.entity) (held_parts c.self.inside) (tt) c.self.invariant)

@@ -1,34 +1,12 @@
-//! Rows of entities and of the names of roots.
-ghost use Rattle.std.specs.Prelude.{◌≡◌, ◌≤◌, ◌-◌, vec_capacity, vec_len, option_copied, find, ◌&&◌};
-ghost use Rattle.router_model.specs.Changes.{without_entity, without_root_name};
-ghost use Rattle.router_model.specs.Paths.{entity_at};
+//! Roots, and the names by which selection finds them.
+ghost use Rattle.std.specs.Prelude.{◌≡◌, option_copied, find, ◌&&◌};
+ghost use Rattle.router_model.specs.Trees.{number_of};
+ghost use Rattle.router_model.specs.Ordered.{Rises};
 ghost use Rattle.router_model.specs.Roots.{is_of_service, is_root_of, names_activity};
 
+use crate::numbered::row_of;
 use router_model::{Entity, RootName, Stem};
 use slee_value::{ActivityId, ConvName, EntityId};
-
-/// The entity is gone.
-pub fn cut_entity(rows: &mut Vec<Entity>, entity: EntityId)
-    ensures items { rows.new.items ≡ without_entity rows.old.items entity.0 }
-    ensures room { vec_capacity rows.old - vec_len rows.old ≤ vec_capacity rows.new - vec_len rows.new }
-{
-    rows.retain(|row| row.number.0 != entity.0);
-}
-
-/// The name of the entity is gone.
-pub fn cut_root_name(rows: &mut Vec<RootName>, entity: EntityId)
-    ensures items { rows.new.items ≡ without_root_name rows.old.items entity.0 }
-    ensures room { vec_capacity rows.old - vec_len rows.old ≤ vec_capacity rows.new - vec_len rows.new }
-{
-    rows.retain(|row| row.entity.0 != entity.0);
-}
-
-/// The entity of this number.
-pub fn entity_in(rows: &[Entity], entity: EntityId) -> Option<&Entity>
-    ensures { option_copied result ≡ entity_at rows.now entity.0 }
-{
-    rows.iter().find(|row| row.number.0 == entity.0)
-}
 
 fn is_root(stem: &Stem, service: u32) -> bool
     ensures { result ≡ is_of_service service stem.now }
@@ -40,9 +18,10 @@ fn is_root(stem: &Stem, service: u32) -> bool
 }
 
 fn has_root(rows: &[Entity], service: u32, entity: EntityId) -> bool
+    requires { Rises number_of rows.now }
     ensures { result ≡ is_root_of rows.now service entity.0 }
 {
-    match entity_in(rows, entity) {
+    match row_of(rows, entity.0) {
         Some(row) => is_root(&row.stem, service),
         None => false,
     }
@@ -64,6 +43,7 @@ pub fn root_in<'a>(
     service: u32,
     activity: ActivityId,
 ) -> Option<&'a RootName>
+    requires { Rises number_of rows.now }
     ensures { option_copied result ≡ find (λ row. names_activity row.name activity.0 && is_root_of rows.now service row.entity.0) names.now }
 {
     names.iter().find(|row| has_activity(&row.name, activity)
