@@ -2,5 +2,6 @@ pub mod QueueLemmas
 pub mod RoomLemmas
 pub mod LeastLemmas
 pub mod LinkLemmas
+pub mod NameLemmas
 pub mod HalvingLemmas
 pub mod EndLemmas

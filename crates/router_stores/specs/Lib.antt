@@ -1,3 +1,4 @@
 pub mod Views
 pub mod Room
+pub mod Names
 pub mod Held

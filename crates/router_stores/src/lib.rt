@@ -2,6 +2,7 @@
 #![tactic(auto)]
 
 mod contexts;
+mod names;
 mod numbered;
 mod queues;
 mod roots;
