@@ -5,3 +5,4 @@ pub mod LinkLemmas
 pub mod NameLemmas
 pub mod HalvingLemmas
 pub mod EndLemmas
+pub mod IndexLemmas

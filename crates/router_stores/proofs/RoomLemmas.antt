@@ -12,6 +12,7 @@ less_room n s has = record {
   entities = omega (arith, has.entities);
   root_names = omega (arith, has.root_names);
   activities = omega (arith, has.activities);
+  names = omega (arith, has.names);
   links = omega (arith, has.links);
   events = omega (arith, has.events);
   service_marks = omega (arith, has.service_marks);

@@ -1,5 +1,6 @@
 -- The state that the stores hold, and the room beside it.
 use Rattle.std.specs.Prelude.{◌-◌, vec_capacity, vec_len}
+use Rattle.std.specs.HashMap.{spare}
 use Rattle.router_model.specs.State.{Parts}
 use Rattle.router_stores.specs.Views.{StoresView}
 use Rattle.router_stores.specs.declared.stores.Stores.TheInside.{Inside}
@@ -28,6 +29,7 @@ held s = record {
   entity_room = vec_capacity s.entities - vec_len s.entities;
   root_name_room = vec_capacity s.root_names - vec_len s.root_names;
   activity_room = vec_capacity s.activities - vec_len s.activities;
+  name_room = spare s.names;
   link_room = vec_capacity s.links - vec_len s.links;
   event_room = vec_capacity s.events - vec_len s.events;
   service_mark_room = vec_capacity s.services_done - vec_len s.services_done;

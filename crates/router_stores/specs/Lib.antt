@@ -1,4 +1,5 @@
 pub mod Views
 pub mod Room
 pub mod Names
+pub mod Sound
 pub mod Held

@@ -1,5 +1,5 @@
 -- The index by which an external activity is found by its name.
-use Rattle.std.specs.Prelude.{◌≡◌, ℕ, ◌-◌, Bool, IsTrue, if◌then◌else◌, List, ◌++◌, Option, None, option_map, length, replicate}
+use Rattle.std.specs.Prelude.{◌≡◌, ℕ, ◌-◌, IsTrue, if◌then◌else◌, List, ◌++◌, Option, option_map, length, replicate}
 use Rattle.std.specs.Str.{bytes_eq}
 use Rattle.std.specs.HashMap.{HashMap, get}
 use Rattle.std.specs.declared.hash.FoldHasher.{FoldHasher}

@@ -7,6 +7,8 @@ pub record StoresView : Type 0 where
   pub entity_room : ℕ
   pub root_name_room : ℕ
   pub activity_room : ℕ
+  -- for names of external activities
+  pub name_room : ℕ
   pub link_room : ℕ
   pub event_room : ℕ
   pub service_mark_room : ℕ

@@ -1,14 +1,14 @@
 //! Rows of activities and of attachments.
 ghost use Rattle.std.specs.Prelude.{◌≡◌, ◌==◌, ◌&&◌, ◌<◌, ◌≤◌, ◌+◌, ◌-◌, map, length, nat_lt, nat_le, vec_capacity, vec_len, option_copied};
 ghost use Rattle.std.specs.List.{prefix_len};
-ghost use Rattle.router_model.specs.Activities.{external, has_name, is_linked, links_on};
+ghost use Rattle.router_model.specs.Activities.{is_linked, links_on};
 ghost use Rattle.router_model.specs.Trees.{links_of};
 ghost use Rattle.router_model.specs.Changes.{ends, without_links_of, without_links_on, with_link, stands_before};
 ghost use Rattle.router_model.specs.Ordered.{AllInOrder, IsLinkBefore, Rises, activity_number};
 
 use crate::numbered::place_of;
-use router_model::{AcKind, Activity, Link};
-use slee_value::{ActivityId, EntityId, Name};
+use router_model::{Activity, Link};
+use slee_value::{ActivityId, EntityId};
 
 /// The activity is Ending.
 pub fn end_activity(rows: &mut Vec<Activity>, activity: ActivityId)
@@ -118,20 +118,4 @@ pub fn count_links(rows: &[Link], entity: EntityId) -> usize
     ensures { result ≡ links_of rows.now entity.0 }
 {
     rows.iter().filter(|row| row.entity.0 == entity.0).count()
-}
-
-fn is_named(kind: &AcKind, name: &Name) -> bool
-    ensures { result ≡ has_name kind.now name.now }
-{
-    match kind {
-        AcKind::External(own) => own.as_str() == name.as_str(),
-        _ => false,
-    }
-}
-
-/// The external activity of this name.
-pub fn external_in<'a>(rows: &'a [Activity], name: &Name) -> Option<&'a Activity>
-    ensures { option_copied result ≡ external rows.now name.now }
-{
-    rows.iter().find(|row| is_named(&row.kind, name))
 }

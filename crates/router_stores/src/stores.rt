@@ -10,7 +10,8 @@ ghost use Rattle.router_model.specs.Ordered.{IsOrdered, FitsChange, FitsKind, Ar
 ghost use Rattle.router_model.specs.declared.change.Change.TheVariants as changes;
 ghost use Rattle.router_stores.specs.Room.{HasRoom, HasNumbers};
 
-use crate::{contexts, numbered, queues, roots};
+use crate::names::NameIndex;
+use crate::{contexts, names, numbered, queues, roots};
 use router_model::{
     AcKind, Activity, Change, Entity, EntityMark, Event, Link, Queued, RootName, Service,
     ServiceMark, ServiceState, Stem,
@@ -20,7 +21,7 @@ use std::alloc::Global;
 use std::marker::Model;
 
 /// The state of the router.
-#[derive(Debug, Drop)]
+#[derive(Drop)]
 pub struct Stores {
     clock: u64,
     inputs: u64,
@@ -32,6 +33,7 @@ pub struct Stores {
     entities: Vec<Entity>,
     root_names: Vec<RootName>,
     activities: Vec<Activity>,
+    names: NameIndex,
     links: Vec<Link>,
     events: Vec<Queued>,
     services_done: Vec<ServiceMark>,
@@ -44,11 +46,11 @@ impl Model for Stores {
     ghost Value = { StoresView };
 
     ghost use Rattle.router_stores.specs.Held.{held, held_parts};
-    ghost use Rattle.router_model.specs.Ordered.{IsOrdered};
+    ghost use Rattle.router_stores.specs.Sound.{IsSound};
 
     ghost view = { held };
 
-    ghost invariant = { λ s. IsOrdered (held_parts s) };
+    ghost invariant = { λ s. IsSound (held_parts s) s.names };
 }
 
 impl Stores {
@@ -72,6 +74,7 @@ impl Stores {
             entities: Vec::new(alloc),
             root_names: Vec::new(alloc),
             activities: Vec::new(alloc),
+            names: NameIndex::new(alloc),
             links: Vec::new(alloc),
             events: Vec::new(alloc),
             services_done: Vec::new(alloc),
@@ -95,6 +98,7 @@ impl Stores {
         self.entities.reserve(rows)?;
         self.root_names.reserve(rows)?;
         self.activities.reserve(rows)?;
+        self.names.reserve(rows)?;
         self.links.reserve(rows)?;
         self.events.reserve(rows)?;
         self.services_done.reserve(rows)?;
@@ -149,11 +153,13 @@ impl Stores {
 
     fn start(&mut self, kind: AcKind)
         requires room { 0 < self.old.activity_room }
+        requires name_room { 0 < self.old.name_room }
         requires number { self.old.parts.next_activity + 1 < 2 ^ 64 }
         requires fits { FitsKind kind self.old.parts.activities }
         ensures parts { self.new.parts ≡ after_change (changes.Start kind) self.old.parts }
         ensures room { (n : ℕ) → HasRoom (n + 1) self.old → HasRoom n self.new }
     {
+        names::add_name(&mut self.names, &self.activities, &kind, self.next_activity);
         self.activities.push_reserved(Activity {
             number: ActivityId(self.next_activity),
             kind,
@@ -173,6 +179,7 @@ impl Stores {
         ensures parts { self.new.parts ≡ after_change (changes.DropContext activity) self.old.parts }
         ensures room { (n : ℕ) → HasRoom n self.old → HasRoom n self.new }
     {
+        names::cut_name(&mut self.names, &self.activities, activity);
         numbered::cut_row(&mut self.activities, activity.0);
         contexts::cut_links_on(&mut self.links, activity);
     }
@@ -366,7 +373,7 @@ impl Stores {
     pub fn external(&self, name: &Name) -> Option<&Activity>
         ensures { option_copied result ≡ external self.now.parts.activities name.now }
     {
-        contexts::external_in(&self.activities, name)
+        names::external_in(&self.names, &self.activities, name)
     }
 
     /// The entity of this number.

@@ -1,5 +1,5 @@
 -- the activity at the place ends, or none does
-use Rattle.std.proofs.Common.{◌≡◌, ◌==◌, sym}
+use Rattle.std.proofs.Common.{◌==◌, sym}
 use Rattle.router_model.specs.declared.rows.Activity.{Activity}
 use Rattle.router_stores.proofs.EndLemmas.{one_ends, none_ends}
 use Rattle.router_stores.proofs.HalvingLemmas.{absent_from}

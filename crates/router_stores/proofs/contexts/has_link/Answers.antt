@@ -1,5 +1,5 @@
 -- the attachment is there where it would stand, or nowhere
-use Rattle.std.proofs.Common.{◌≡◌, sym, refl, ◌∙◌}
+use Rattle.std.proofs.Common.{sym, refl, ◌∙◌}
 use Rattle.std.proofs.lemmas.Option.{slice_get_read, slice_get_past}
 use Rattle.router_stores.proofs.LinkLemmas.{linked_at}
 use Rattle.router_stores.proofs.contexts.has_link.Goals as goal

@@ -1,5 +1,4 @@
 -- the name alone is gone
-use Rattle.std.proofs.Common.{◌≡◌}
 use Rattle.router_stores.specs.Names.{padded}
 use Rattle.router_stores.proofs.NameLemmas.{padded_same}
 use Rattle.router_stores.proofs.names.forget.Goals as goal

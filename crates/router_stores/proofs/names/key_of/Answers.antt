@@ -1,5 +1,5 @@
 -- the name, and zeros behind it
-use Rattle.std.proofs.Common.{◌≡◌, ◌++◌, length, refl}
+use Rattle.std.proofs.Common.{refl}
 use Rattle.std.proofs.lemmas.List.{drop-replicate}
 use Rattle.router_stores.specs.Names.{padded}
 use Rattle.router_stores.proofs.NameLemmas.{name_short}

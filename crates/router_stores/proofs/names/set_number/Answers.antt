@@ -1,5 +1,4 @@
 -- the name alone has the number
-use Rattle.std.proofs.Common.{◌≡◌}
 use Rattle.router_stores.specs.Names.{padded}
 use Rattle.router_stores.proofs.NameLemmas.{padded_same}
 use Rattle.router_stores.proofs.names.set_number.Goals as goal

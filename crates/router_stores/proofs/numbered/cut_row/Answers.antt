@@ -1,5 +1,5 @@
 -- the row at the place goes, or nothing does
-use Rattle.std.proofs.Common.{◌≡◌, sym, ◌∙◌}
+use Rattle.std.proofs.Common.{sym, ◌∙◌}
 use Rattle.router_stores.proofs.HalvingLemmas.{removed_is, by_number, absent_from, not_cut}
 use Rattle.router_stores.proofs.numbered.cut_row.Goals as goal
 

@@ -1,5 +1,5 @@
 -- the row at the place of the number
-use Rattle.std.proofs.Common.{◌≡◌, ◌==◌, sym, refl, ◌∙◌}
+use Rattle.std.proofs.Common.{◌==◌, sym, refl, ◌∙◌}
 use Rattle.std.proofs.lemmas.Option.{slice_get_read}
 use Rattle.router_stores.proofs.HalvingLemmas.{find_at_place, absent_from, not_found}
 use Rattle.router_stores.proofs.numbered.row_of.Goals as goal
