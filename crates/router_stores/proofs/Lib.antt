@@ -6,3 +6,4 @@ pub mod NameLemmas
 pub mod HalvingLemmas
 pub mod EndLemmas
 pub mod IndexLemmas
+pub mod TallyLemmas

@@ -7,9 +7,11 @@ use Rattle.router_stores.specs.Views.{StoresView}
 pub record HasRoom (n : ℕ) (s : StoresView) : Type 0 where
   pub entities : n ≤ s.entity_room
   pub root_names : n ≤ s.root_name_room
+  pub name_counts : n ≤ s.name_count_room
   pub activities : n ≤ s.activity_room
   pub names : n ≤ s.name_room
   pub links : n ≤ s.link_room
+  pub link_counts : n ≤ s.link_count_room
   pub events : n ≤ s.event_room
   pub service_marks : n ≤ s.service_mark_room
   pub entity_marks : n ≤ s.entity_mark_room

@@ -2,8 +2,11 @@
 use Rattle.router_model.specs.State.{Parts}
 use Rattle.router_model.specs.Ordered.{IsOrdered}
 use Rattle.router_stores.specs.Names.{NameMap, HasNames}
+use Rattle.router_stores.specs.Tallies.{CountMap, CountsNames, CountsLinks}
 
--- the lists are in order, and the index has the names of the external activities
-pub record IsSound (s : Parts) (index : NameMap) : Type 0 where
+-- the lists are in order, the index has the names of the external activities, and the counts are right
+pub record IsSound (s : Parts) (index : NameMap) (with_activity of_entity : CountMap) : Type 0 where
   pub order : IsOrdered s
   pub names : HasNames index s.activities
+  pub named : CountsNames with_activity s.root_names
+  pub linked : CountsLinks of_entity s.links

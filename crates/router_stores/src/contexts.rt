@@ -1,12 +1,16 @@
 //! Rows of activities and of attachments.
-ghost use Rattle.std.specs.Prelude.{◌≡◌, ◌==◌, ◌&&◌, ◌<◌, ◌≤◌, ◌+◌, ◌-◌, map, length, nat_lt, nat_le, vec_capacity, vec_len, option_copied};
+ghost use Rattle.std.specs.Prelude.{ℕ, ◌≡◌, ◌==◌, ◌&&◌, ◌<◌, ◌≤◌, ◌+◌, ◌-◌, map, length, nat_lt, nat_le, vec_capacity, vec_len, option_copied};
 ghost use Rattle.std.specs.List.{prefix_len};
 ghost use Rattle.router_model.specs.Activities.{is_linked, links_on};
 ghost use Rattle.router_model.specs.Trees.{links_of};
 ghost use Rattle.router_model.specs.Changes.{ends, without_links_of, without_links_on, with_link, stands_before};
+ghost use Rattle.std.specs.HashMap.{spare};
+ghost use Rattle.router_stores.specs.Tallies.{CountsLinks, count_at};
 ghost use Rattle.router_model.specs.Ordered.{AllInOrder, IsLinkBefore, Rises, activity_number};
 
 use crate::numbered::place_of;
+use crate::tallies;
+use crate::tallies::Tally;
 use router_model::{Activity, Link};
 use slee_value::{ActivityId, EntityId};
 
@@ -30,12 +34,22 @@ pub fn cut_links_on(rows: &mut Vec<Link>, activity: ActivityId)
     rows.retain(|row| row.activity.0 != activity.0);
 }
 
-/// The entity is attached to nothing.
-pub fn cut_links_of(rows: &mut Vec<Link>, entity: EntityId)
+fn cut_all_links_of(rows: &mut Vec<Link>, entity: EntityId)
     ensures items { rows.new.items ≡ without_links_of rows.old.items entity.0 }
     ensures room { vec_capacity rows.old - vec_len rows.old ≤ vec_capacity rows.new - vec_len rows.new }
 {
     rows.retain(|row| row.entity.0 != entity.0);
+}
+
+/// The entity is attached to nothing.
+pub fn cut_links_of(rows: &mut Vec<Link>, counts: &Tally, entity: EntityId)
+    requires { CountsLinks counts.now rows.old.items }
+    ensures items { rows.new.items ≡ without_links_of rows.old.items entity.0 }
+    ensures room { vec_capacity rows.old - vec_len rows.old ≤ vec_capacity rows.new - vec_len rows.new }
+{
+    if tallies::count_of(counts, entity.0) != 0 {
+        cut_all_links_of(rows, entity);
+    }
 }
 
 fn is_before(row: &Link, entity: EntityId, activity: ActivityId) -> bool
@@ -113,9 +127,36 @@ pub fn links_to(rows: &[Link], activity: ActivityId) -> &[Link]
     &behind[..links_up_to(behind, activity)]
 }
 
-/// How many attachments the entity has.
-pub fn count_links(rows: &[Link], entity: EntityId) -> usize
-    ensures { result ≡ links_of rows.now entity.0 }
+/// One more attachment of the entity is counted, unless it is there.
+pub fn count_link(counts: &mut Tally, rows: &[Link], entity: EntityId, activity: ActivityId)
+    requires room { 0 < spare counts.old }
+    requires order { AllInOrder IsLinkBefore rows.now }
+    requires counts { CountsLinks counts.old rows.now }
+    ensures counts { CountsLinks counts.new (with_link rows.now entity activity) }
+    ensures room { spare counts.old ≤ spare counts.new + 1 }
 {
-    rows.iter().filter(|row| row.entity.0 == entity.0).count()
+    let _fewer_than_all_numbers = rows.len() + 1;
+    if !has_link(rows, entity, activity) {
+        tallies::raise(counts, entity.0);
+    }
+}
+
+fn discount_each(counts: &mut Tally, run: &[Link])
+    requires { (e : ℕ) → links_of run.now e ≤ count_at counts.old e }
+    ensures counts { (e : ℕ) → count_at counts.new e + links_of run.now e ≡ count_at counts.old e }
+    ensures room { spare counts.old ≤ spare counts.new }
+{
+    for row in run {
+        tallies::lower(counts, row.entity.0);
+    }
+}
+
+/// The attachments to the activity aren't counted any more.
+pub fn discount_links_on(counts: &mut Tally, rows: &[Link], activity: ActivityId)
+    requires order { AllInOrder IsLinkBefore rows.now }
+    requires counts { CountsLinks counts.old rows.now }
+    ensures counts { CountsLinks counts.new (without_links_on rows.now activity.0) }
+    ensures room { spare counts.old ≤ spare counts.new }
+{
+    discount_each(counts, links_to(rows, activity));
 }

@@ -7,5 +7,8 @@ mod numbered;
 mod queues;
 mod roots;
 mod stores;
+mod tallies;
+#[cfg(test)]
+mod tests;
 
 pub use stores::Stores;

@@ -11,7 +11,8 @@ ghost use Rattle.router_model.specs.declared.change.Change.TheVariants as change
 ghost use Rattle.router_stores.specs.Room.{HasRoom, HasNumbers};
 
 use crate::names::NameIndex;
-use crate::{contexts, names, numbered, queues, roots};
+use crate::tallies::Tally;
+use crate::{contexts, names, numbered, queues, roots, tallies};
 use router_model::{
     AcKind, Activity, Change, Entity, EntityMark, Event, Link, Queued, RootName, Service,
     ServiceMark, ServiceState, Stem,
@@ -32,9 +33,11 @@ pub struct Stores {
     services: Vec<Service>,
     entities: Vec<Entity>,
     root_names: Vec<RootName>,
+    name_counts: Tally,
     activities: Vec<Activity>,
     names: NameIndex,
     links: Vec<Link>,
+    link_counts: Tally,
     events: Vec<Queued>,
     services_done: Vec<ServiceMark>,
     delivered: Vec<EntityMark>,
@@ -50,7 +53,7 @@ impl Model for Stores {
 
     ghost view = { held };
 
-    ghost invariant = { λ s. IsSound (held_parts s) s.names };
+    ghost invariant = { λ s. IsSound (held_parts s) s.names s.name_counts s.link_counts };
 }
 
 impl Stores {
@@ -73,9 +76,11 @@ impl Stores {
             services,
             entities: Vec::new(alloc),
             root_names: Vec::new(alloc),
+            name_counts: Tally::new(alloc),
             activities: Vec::new(alloc),
             names: NameIndex::new(alloc),
             links: Vec::new(alloc),
+            link_counts: Tally::new(alloc),
             events: Vec::new(alloc),
             services_done: Vec::new(alloc),
             delivered: Vec::new(alloc),
@@ -97,9 +102,11 @@ impl Stores {
         let rows = changes.len();
         self.entities.reserve(rows)?;
         self.root_names.reserve(rows)?;
+        self.name_counts.reserve(rows)?;
         self.activities.reserve(rows)?;
         self.names.reserve(rows)?;
         self.links.reserve(rows)?;
+        self.link_counts.reserve(rows)?;
         self.events.reserve(rows)?;
         self.services_done.reserve(rows)?;
         self.delivered.reserve(rows)?;
@@ -181,15 +188,18 @@ impl Stores {
     {
         names::cut_name(&mut self.names, &self.activities, activity);
         numbered::cut_row(&mut self.activities, activity.0);
+        contexts::discount_links_on(&mut self.link_counts, &self.links, activity);
         contexts::cut_links_on(&mut self.links, activity);
     }
 
     fn attach(&mut self, entity: EntityId, activity: ActivityId)
         requires room { 0 < self.old.link_room }
+        requires count_room { 0 < self.old.link_count_room }
         requires fits { entity.0 < self.old.parts.next_entity }
         ensures parts { self.new.parts ≡ after_change (changes.Attach entity activity) self.old.parts }
         ensures room { (n : ℕ) → HasRoom (n + 1) self.old → HasRoom n self.new }
     {
+        contexts::count_link(&mut self.link_counts, &self.links, entity, activity);
         contexts::add_link(&mut self.links, entity, activity);
     }
 
@@ -210,11 +220,13 @@ impl Stores {
 
     fn name_root(&mut self, entity: EntityId, name: ConvName)
         requires room { 0 < self.old.root_name_room }
+        requires count_room { 0 < self.old.name_count_room }
         requires above { AreBelow named_entity self.old.parts.root_names entity.0 }
         requires made { entity.0 < self.old.parts.next_entity }
         ensures parts { self.new.parts ≡ after_change (changes.Root entity name) self.old.parts }
         ensures room { (n : ℕ) → HasRoom (n + 1) self.old → HasRoom n self.new }
     {
+        roots::count_name(&mut self.name_counts, &self.root_names, &name);
         self.root_names.push_reserved(RootName { entity, name });
     }
 
@@ -223,8 +235,10 @@ impl Stores {
         ensures room { (n : ℕ) → HasRoom n self.old → HasRoom n self.new }
     {
         numbered::cut_row(&mut self.entities, entity.0);
+        roots::discount_name(&mut self.name_counts, &self.root_names, entity);
         numbered::cut_row(&mut self.root_names, entity.0);
-        contexts::cut_links_of(&mut self.links, entity);
+        contexts::cut_links_of(&mut self.links, &self.link_counts, entity);
+        tallies::forget(&mut self.link_counts, entity.0);
     }
 
     fn push(&mut self, activity: ActivityId, event: Event)
@@ -398,17 +412,23 @@ impl Stores {
     }
 
     /// How many attachments the entity has.
-    pub fn links_of(&self, entity: EntityId) -> usize
+    pub fn links_of(&self, entity: EntityId) -> u64
         ensures { result ≡ links_of self.now.parts.links entity.0 }
     {
-        contexts::count_links(&self.links, entity)
+        tallies::count_of(&self.link_counts, entity.0)
     }
 
     /// The root of the service that has the activity's convergence name.
     pub fn root_selected(&self, service: u32, activity: ActivityId) -> Option<&RootName>
         ensures { option_copied result ≡ root_selected self.now.parts service activity.0 }
     {
-        roots::root_in(&self.entities, &self.root_names, service, activity)
+        roots::root_in(
+            &self.entities,
+            &self.root_names,
+            &self.name_counts,
+            service,
+            activity,
+        )
     }
 
     /// The front event of the activity.

@@ -1,4 +1,4 @@
--- the change keeps the order, and the index its names
+-- the change keeps the order, the index its names, and the counts stay right
 use Rattle.std.proofs.Common.{w8}
 use Rattle.std.proofs.lemmas.Int.{to_z-of_z}
 use Rattle.router_model.specs.declared.change.Change.TheVariants as changes
@@ -10,4 +10,6 @@ pub invariant_of-self : goal.invariant_of-self
 invariant_of-self c = record {
   order = rw (c.push_reserved.ensures.items, to_z-of_z w8 c.args.priority c.ranges.priority) (ordered_after (changes.CreateRoot c.args.block c.args.service c.args.priority) (held_parts c.self.inside) (tt) c.self.invariant.order);
   names = c.self.invariant.names;
+  named = c.self.invariant.named;
+  linked = c.self.invariant.linked;
 }
