@@ -1,12 +1,11 @@
 -- Counts of rows that pass a test, as rows come and go.
-use Rattle.std.proofs.Common.{◌≡◌, ℕ, zero, suc, ◌+◌, ◌-◌, ◌<◌, ◌≤◌, ◌==◌, Bool, true, false, cond, List, [], ◌∷◌, ◌++◌, Option, Some, None, length, refl, sym, ap, ◌∙◌, arith, inl, inr, nat_eq, take, get_or}
+use Rattle.std.proofs.Common.{◌≡◌, ℕ, zero, suc, ◌+◌, ◌-◌, ◌<◌, ◌≤◌, ◌==◌, Bool, true, false, List, [], ◌∷◌, ◌++◌, Some, None, length, refl, ap, arith, inl, inr, take, get_or}
 use Rattle.std.specs.Prelude.{not, ◌&&◌, if◌then◌else◌}
-use Rattle.std.specs.List.{AllByRecursion, filter, find, take_while, insert}
+use Rattle.std.specs.List.{filter, find}
 use Rattle.std.proofs.lemmas.Bool.{cases_Bool, eqb-true}
 use Rattle.std.proofs.lemmas.List.{take_more}
 use Rattle.std.proofs.lemmas.Bool.Decides.{nat_tests}
 use Rattle.std.specs.HashMap.{spare}
-use Rattle.slee_value.specs.declared.convergence.ConvName.{ConvName}
 use Rattle.slee_value.specs.declared.ids.ActivityId.{ActivityId}
 use Rattle.router_model.specs.Activities.{is_linked, links_on}
 use Rattle.router_model.specs.Trees.{links_of}

@@ -135,7 +135,7 @@ pub fn count_link(counts: &mut Tally, rows: &[Link], entity: EntityId, activity:
     ensures counts { CountsLinks counts.new (with_link rows.now entity activity) }
     ensures room { spare counts.old ≤ spare counts.new + 1 }
 {
-    let _fewer_than_all_numbers = rows.len() + 1;
+    let _count = rows.len();
     if !has_link(rows, entity, activity) {
         tallies::raise(counts, entity.0);
     }

@@ -49,7 +49,7 @@ pub fn count_name(counts: &mut Tally, names: &[RootName], name: &ConvName)
     ensures counts { (y : RootName) → y.name ≡ name.now → CountsNames counts.new (names.now ++ y ∷ []) }
     ensures room { spare counts.old ≤ spare counts.new + 1 }
 {
-    let _fewer_than_all_numbers = names.len() + 1;
+    let _count = names.len();
     match name.activity {
         Some(activity) => tallies::raise(counts, activity.0),
         None => {}

@@ -19,6 +19,7 @@ use router_model::{
 };
 use slee_value::{ActivityId, ConvName, EntityId, EventId, Name, NoMemory, TimerId};
 use std::alloc::Global;
+use std::fmt;
 use std::marker::Model;
 
 /// The state of the router.
@@ -54,6 +55,14 @@ impl Model for Stores {
     ghost view = { held };
 
     ghost invariant = { λ s. IsSound (held_parts s) s.names s.name_counts s.link_counts };
+}
+
+impl fmt::Debug for Stores {
+    fn fmt<W: fmt::Write>(&self, f: &mut fmt::Formatter<W>) -> fmt::Result {
+        let activities = self.activities.len();
+        let entities = self.entities.len();
+        write!(f, "{activities} activities, {entities} entities")
+    }
 }
 
 impl Stores {

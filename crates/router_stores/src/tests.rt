@@ -79,6 +79,19 @@ fn root_of(entity: u64, activity: u64) -> Change {
     }
 }
 
+fn pop(activity: u64) -> Change {
+    Change::Pop {
+        activity: ActivityId(activity),
+    }
+}
+
+fn attach(entity: u64, activity: u64) -> Change {
+    Change::Attach {
+        entity: EntityId(entity),
+        activity: ActivityId(activity),
+    }
+}
+
 /// The number of the external activity of this name, and 0 where there is none.
 fn number_of(alloc: Global, stores: &Stores, name: &str) -> Result<u64, NoMemory> {
     if !Name::is_name(name.as_bytes()) {
@@ -91,8 +104,8 @@ fn number_of(alloc: Global, stores: &Stores, name: &str) -> Result<u64, NoMemory
     }
 }
 
-/// The numbers that stand for the state: activities, entities, attachments, waiting events, marks.
-fn sizes(stores: &Stores) -> [usize; 6] {
+/// Activities, entities, names of roots, attachments, waiting events, marks of services and of entities.
+fn sizes(stores: &Stores) -> [usize; 7] {
     [
         stores.activities().len(),
         stores.entities().len(),
@@ -100,113 +113,144 @@ fn sizes(stores: &Stores) -> [usize; 6] {
         stores.links().len(),
         stores.events().len(),
         stores.services_done().len(),
+        stores.delivered().len(),
     ]
+}
+
+/// The clock, the count of lines, the next entity, activity, timer and event.
+fn counts(stores: &Stores) -> [u64; 6] {
+    [
+        stores.clock(),
+        stores.inputs(),
+        stores.next_entity().0,
+        stores.next_activity().0,
+        stores.next_timer().0,
+        stores.next_event().0,
+    ]
+}
+
+/// Of activity 2 and entity 1: whether they are there, attached, named, done, delivered, untouched.
+fn tests_of(stores: &Stores) -> [bool; 7] {
+    let activity = ActivityId(2);
+    let entity = EntityId(1);
+    [
+        stores.activity(activity).is_some(),
+        stores.entity(entity).is_some(),
+        stores.is_linked(entity, activity),
+        stores.root_selected(0, activity).is_some(),
+        stores.is_done(activity, 0),
+        stores.is_delivered(activity, entity),
+        stores.is_untouched(activity),
+    ]
+}
+
+/// The front event of activity 2, the least activity with an event, attachments of entity 1 and to activity 2.
+fn numbers_of(stores: &Stores) -> [u64; 4] {
+    let front = match stores.front(ActivityId(2)) {
+        Some(event) => event.id.0,
+        None => 0,
+    };
+    let least = match stores.least_waiting() {
+        Some(activity) => activity.0,
+        None => 0,
+    };
+    let on = stores.links_on(ActivityId(2)).len();
+    [front, least, stores.links_of(EntityId(1)), on as u64]
+}
+
+fn setup(alloc: Global) -> Result<Vec<Change>, NoMemory> {
+    let mut changes = Vec::new(alloc);
+    changes.push(Change::Taken)?;
+    changes.push(start(alloc, "c1")?)?;
+    changes.push(start(alloc, "c2")?)?;
+    changes.push(push(alloc, 2, 1)?)?;
+    changes.push(Change::NextEvent)?;
+    changes.push(push(alloc, 1, 2)?)?;
+    changes.push(Change::NextEvent)?;
+    Ok(changes)
+}
+
+fn selection(alloc: Global) -> Result<Vec<Change>, NoMemory> {
+    let mut changes = Vec::new(alloc);
+    changes.push(Change::MarkService {
+        activity: ActivityId(2),
+        service: 0,
+    })?;
+    changes.push(Change::CreateRoot {
+        block: 0,
+        service: 0,
+        priority: 0,
+    })?;
+    changes.push(root_of(1, 2))?;
+    changes.push(attach(1, 2))?;
+    changes.push(attach(1, 2))?;
+    changes.push(attach(1, 1))?;
+    changes.push(Change::MarkEntity {
+        activity: ActivityId(2),
+        entity: EntityId(1),
+    })?;
+    Ok(changes)
+}
+
+fn ending(alloc: Global) -> Result<Vec<Change>, NoMemory> {
+    let mut changes = Vec::new(alloc);
+    changes.push(pop(2))?;
+    changes.push(Change::End {
+        activity: ActivityId(2),
+    })?;
+    changes.push(Change::DropContext {
+        activity: ActivityId(2),
+    })?;
+    changes.push(start(alloc, "c2")?)?;
+    Ok(changes)
+}
+
+fn make_all(rt: &impl Abort, stores: &mut Stores, changes: Vec<Change>) -> Result<(), NoMemory> {
+    for change in changes {
+        make(rt, stores, change)?;
+    }
+    Ok(())
 }
 
 #[test]
 fn a_call_with_two_activities(rt: HostRuntime) -> Result<(), Fail> {
-    let alloc = rt.alloc();
-    let mut stores = Stores::initial(alloc)?;
+    let mut stores = Stores::initial(rt.alloc())?;
     stores.ordered();
+    make_all(&rt, &mut stores, setup(rt.alloc())?)?;
+    make_all(&rt, &mut stores, selection(rt.alloc())?)?;
+    assert_eq!(rt; sizes(&stores), [2, 1, 1, 2, 2, 1, 1]);
+    assert_eq!(rt; counts(&stores), [0, 1, 2, 3, 1, 3]);
+    assert_eq!(rt;
+        tests_of(&stores),
+        [true, true, true, true, true, true, false]
+    );
+    assert_eq!(rt; numbers_of(&stores), [1, 1, 2, 1]);
+    assert_eq!(rt; number_of(rt.alloc(), &stores, "c2")?, 2);
+    Ok(())
+}
+
+#[test]
+fn the_name_of_an_activity_that_is_gone(rt: HostRuntime) -> Result<(), Fail> {
+    let mut stores = Stores::initial(rt.alloc())?;
+    make_all(&rt, &mut stores, setup(rt.alloc())?)?;
+    make_all(&rt, &mut stores, selection(rt.alloc())?)?;
+    make_all(&rt, &mut stores, ending(rt.alloc())?)?;
+    assert_eq!(rt; sizes(&stores), [2, 1, 1, 1, 1, 0, 0]);
+    assert_eq!(rt;
+        tests_of(&stores),
+        [false, true, false, true, false, false, true]
+    );
+    assert_eq!(rt; numbers_of(&stores), [0, 1, 1, 0]);
+    assert_eq!(rt; number_of(rt.alloc(), &stores, "c2")?, 3);
+    Ok(())
+}
+
+#[test]
+fn an_entity_that_is_removed(rt: HostRuntime) -> Result<(), Fail> {
+    let mut stores = Stores::initial(rt.alloc())?;
     assert_eq!(rt; stores.services().len(), 1);
-    assert_eq!(rt; sizes(&stores), [0, 0, 0, 0, 0, 0]);
-    assert!(rt; stores.least_waiting().is_none());
-
-    let first = vec![in alloc;
-        Change::Taken,
-        start(alloc, "c1")?,
-        start(alloc, "c2")?,
-        push(alloc, 2, 1)?,
-        Change::NextEvent,
-        push(alloc, 1, 2)?,
-        Change::NextEvent,
-        Change::MarkService {
-            activity: ActivityId(2),
-            service: 0
-        },
-        Change::CreateRoot {
-            block: 0,
-            service: 0,
-            priority: 0
-        },
-        root_of(1, 2),
-        Change::Attach {
-            entity: EntityId(1),
-            activity: ActivityId(2)
-        },
-        Change::Attach {
-            entity: EntityId(1),
-            activity: ActivityId(2)
-        },
-        Change::Attach {
-            entity: EntityId(1),
-            activity: ActivityId(1)
-        },
-        Change::MarkEntity {
-            activity: ActivityId(2),
-            entity: EntityId(1)
-        },
-    ]?;
-    for change in first {
-        make(&rt, &mut stores, change)?;
-    }
-    assert_eq!(rt; sizes(&stores), [2, 1, 1, 2, 2, 1]);
-    assert_eq!(rt;
-        (
-            stores.clock(),
-            stores.inputs(),
-            stores.next_timer().0,
-            stores.next_event().0
-        ),
-        (0, 1, 1, 3)
-    );
-    assert_eq!(rt; number_of(alloc, &stores, "c2")?, 2);
-    assert_eq!(rt; number_of(alloc, &stores, "c3")?, 0);
-    assert!(rt;
-        stores.is_linked(EntityId(1), ActivityId(1))
-            && !stores.is_linked(EntityId(2), ActivityId(1))
-    );
-    assert_eq!(rt;
-        (
-            stores.links_on(ActivityId(2)).len(),
-            stores.links_of(EntityId(1))
-        ),
-        (1, 2)
-    );
-    assert_eq!(rt; stores.least_waiting().map(|a| a.0), Some(1));
-    assert_eq!(rt;
-        stores.front(ActivityId(2)).map(|event| event.id.0),
-        Some(1)
-    );
-    assert!(rt;
-        stores.root_selected(0, ActivityId(2)).is_some()
-            && stores.root_selected(0, ActivityId(1)).is_none()
-    );
-    assert!(rt; stores.is_done(ActivityId(2), 0) && !stores.is_done(ActivityId(1), 0));
-    assert!(rt;
-        stores.is_delivered(ActivityId(2), EntityId(1)) && stores.is_untouched(ActivityId(1))
-    );
-
-    let second = vec![in alloc;
-        Change::Pop {
-            activity: ActivityId(2)
-        },
-        Change::End {
-            activity: ActivityId(2)
-        },
-        Change::DropContext {
-            activity: ActivityId(2)
-        },
-        start(alloc, "c2")?,
-    ]?;
-    for change in second {
-        make(&rt, &mut stores, change)?;
-    }
-    assert_eq!(rt; sizes(&stores), [2, 1, 1, 1, 1, 0]);
-    assert_eq!(rt; number_of(alloc, &stores, "c2")?, 3);
-    assert!(rt; stores.activity(ActivityId(2)).is_none() && stores.delivered().is_empty());
-    assert_eq!(rt; stores.links_of(EntityId(1)), 1);
-
+    make_all(&rt, &mut stores, setup(rt.alloc())?)?;
+    make_all(&rt, &mut stores, selection(rt.alloc())?)?;
     make(
         &rt,
         &mut stores,
@@ -214,17 +258,12 @@ fn a_call_with_two_activities(rt: HostRuntime) -> Result<(), Fail> {
             entity: EntityId(1),
         },
     )?;
-    assert_eq!(rt; sizes(&stores), [2, 0, 0, 0, 1, 0]);
-    assert!(rt;
-        stores.entity(EntityId(1)).is_none() && stores.root_selected(0, ActivityId(2)).is_none()
-    );
+    assert_eq!(rt; sizes(&stores), [2, 0, 0, 0, 2, 1, 1]);
     assert_eq!(rt;
-        (
-            stores.next_entity().0,
-            stores.next_activity().0,
-            stores.links_of(EntityId(1))
-        ),
-        (2, 4, 0)
+        tests_of(&stores),
+        [true, false, false, false, true, true, false]
     );
+    assert_eq!(rt; numbers_of(&stores), [1, 1, 0, 0]);
+    assert_eq!(rt; number_of(rt.alloc(), &stores, "c3")?, 0);
     Ok(())
 }

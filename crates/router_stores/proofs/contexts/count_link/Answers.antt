@@ -1,5 +1,5 @@
 -- the attachment is counted once
-use Rattle.std.proofs.Common.{◌≡◌, ◌==◌, sym, ap, ◌∙◌, arith, false}
+use Rattle.std.proofs.Common.{◌≡◌, ◌==◌, sym, ◌∙◌, arith, false}
 use Rattle.router_model.specs.Activities.{is_linked}
 use Rattle.router_model.specs.declared.rows.Link.{Link}
 use Rattle.router_stores.proofs.TallyLemmas.{link_counted, count_within}

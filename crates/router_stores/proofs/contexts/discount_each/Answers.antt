@@ -1,5 +1,5 @@
 -- one more attachment is counted no more
-use Rattle.std.proofs.Common.{◌≡◌, ◌==◌, sym, ap, ◌∙◌, arith, false}
+use Rattle.std.proofs.Common.{arith}
 use Rattle.router_stores.proofs.TallyLemmas.{one_discounted}
 use Rattle.router_stores.proofs.contexts.discount_each.Goals as goal
 

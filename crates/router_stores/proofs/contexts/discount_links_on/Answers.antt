@@ -1,5 +1,5 @@
 -- of all attachments those to the activity are counted no more
-use Rattle.std.proofs.Common.{◌≡◌, sym, ◌∙◌, refl, arith}
+use Rattle.std.proofs.Common.{arith}
 use Rattle.router_stores.proofs.TallyLemmas.{links_left, links_parted}
 use Rattle.router_stores.proofs.contexts.discount_links_on.Goals as goal
 

@@ -1,5 +1,5 @@
 -- the name is counted by its activity, if it has one
-use Rattle.std.proofs.Common.{◌≡◌, ◌==◌, sym, ap, ◌∙◌, arith, false}
+use Rattle.std.proofs.Common.{ap, ◌∙◌, arith}
 use Rattle.slee_value.specs.declared.convergence.ConvName.{ConvName}
 use Rattle.router_model.specs.Roots.{names_activity}
 use Rattle.router_model.specs.declared.rows.RootName.{RootName}

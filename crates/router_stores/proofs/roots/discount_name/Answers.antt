@@ -1,5 +1,5 @@
 -- the name is counted no more, if it was
-use Rattle.std.proofs.Common.{◌≡◌, ◌==◌, sym, ap, ◌∙◌, arith, false}
+use Rattle.std.proofs.Common.{sym}
 use Rattle.router_stores.proofs.TallyLemmas.{name_discounted, name_undiscounted, name_absent}
 use Rattle.router_stores.proofs.roots.discount_name.Goals as goal
 

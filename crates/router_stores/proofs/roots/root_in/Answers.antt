@@ -1,5 +1,5 @@
 -- no name with the activity, no root
-use Rattle.std.proofs.Common.{◌≡◌, ◌==◌, sym, ap, ◌∙◌, arith, false}
+use Rattle.std.proofs.Common.{◌≡◌, sym, arith}
 use Rattle.router_model.specs.Roots.{is_root_of}
 use Rattle.router_model.specs.declared.rows.RootName.{RootName}
 use Rattle.router_stores.specs.Tallies.{names_with}
