@@ -1,5 +1,5 @@
 -- What is read of activities, their attachments and their queues.
-use Rattle.std.specs.Prelude.{ℕ, Bool, true, false, ◌&&◌, ◌==◌, not, nat_lt, if◌then◌else◌, is_none, List, [], ◌∷◌, Some, None, Option, option_map, filter, find}
+use Rattle.std.specs.Prelude.{ℕ, Bool, false, ◌&&◌, ◌==◌, not, nat_lt, if◌then◌else◌, List, [], ◌∷◌, Some, None, Option, option_map, find}
 use Rattle.std.specs.List.{list_any, list_all}
 use Rattle.std.specs.Str.{bytes_eq}
 use Rattle.router_model.specs.declared.rows.AcKind.{AcKind}

@@ -3,3 +3,4 @@ pub mod Changes
 pub mod Trees
 pub mod Paths
 pub mod Activities
+pub mod Ordered

@@ -1,6 +1,7 @@
 -- The state of the router, as plain lists.
-use Rattle.std.specs.Prelude.{ℕ, ◌^◌, Bool, ◌||◌, nat_lt, List}
+use Rattle.std.specs.Prelude.{ℕ, ◌^◌, Bool, ◌||◌, nat_lt, List, [], ◌∷◌}
 use Rattle.router_model.specs.declared.rows.Service.{Service}
+use Rattle.router_model.specs.declared.rows.ServiceState.TheVariants as states
 use Rattle.router_model.specs.declared.rows.Entity.{Entity}
 use Rattle.router_model.specs.declared.rows.RootName.{RootName}
 use Rattle.router_model.specs.declared.rows.Activity.{Activity}
@@ -35,3 +36,22 @@ pub record Parts : Type 0 where
 abbrev pub is_used_up : Parts → Bool
 is_used_up s =
     nat_lt (2 ^ 62) s.inputs || (nat_lt (2 ^ 62) s.next_entity || (nat_lt (2 ^ 62) s.next_activity || (nat_lt (2 ^ 62) s.next_timer || nat_lt (2 ^ 62) s.next_event)))
+
+-- the service prepaid is Active, and nothing else is there
+abbrev pub initial : Parts
+initial = record {
+  clock = 0;
+  inputs = 0;
+  next_entity = 1;
+  next_activity = 1;
+  next_timer = 1;
+  next_event = 1;
+  services = record { state = states.Active; activity = record { 0 = 0 } } ∷ [];
+  entities = [];
+  root_names = [];
+  activities = [];
+  links = [];
+  events = [];
+  services_done = [];
+  delivered = [];
+}

@@ -1,5 +1,5 @@
 -- Trees of entities: attachment counts, and the order in which a tree goes (JSR 240, 6.3).
-use Rattle.std.specs.Prelude.{ℕ, zero, suc, ◌+◌, ◌==◌, Bool, if◌then◌else◌, List, [], ◌∷◌, ◌++◌, map, length, filter, flat_map, sum}
+use Rattle.std.specs.Prelude.{ℕ, zero, suc, ◌+◌, ◌==◌, if◌then◌else◌, List, [], ◌∷◌, ◌++◌, map, length, filter, flat_map, sum}
 use Rattle.router_model.specs.declared.rows.Stem.{Stem}
 use Rattle.router_model.specs.declared.rows.Stem.TheVariants as stems
 use Rattle.router_model.specs.declared.rows.Entity.{Entity}

@@ -9,11 +9,17 @@ pub enum Change {
     /// The next event has the next number.
     NextEvent,
     /// A new activity of this kind, with the next number.
-    Start { kind: AcKind },
+    Start {
+        kind: AcKind,
+    },
     /// The activity is Ending from now on.
-    End { activity: ActivityId },
+    End {
+        activity: ActivityId,
+    },
     /// The activity is gone, with its attachments.
-    DropContext { activity: ActivityId },
+    DropContext {
+        activity: ActivityId,
+    },
     /// An attachment, unless it is there.
     Attach {
         entity: EntityId,
@@ -26,15 +32,28 @@ pub enum Change {
         priority: i8,
     },
     /// The root has this convergence name.
-    Root { entity: EntityId, name: ConvName },
+    Root {
+        entity: EntityId,
+        name: ConvName,
+    },
     /// The entity is gone, with its attachments and its name.
-    Remove { entity: EntityId },
+    Remove {
+        entity: EntityId,
+    },
     /// The event waits last on the activity.
-    Push { activity: ActivityId, event: Event },
+    Push {
+        activity: ActivityId,
+        event: Event,
+    },
     /// The front event of the activity is gone, with its marks.
-    Pop { activity: ActivityId },
+    Pop {
+        activity: ActivityId,
+    },
     /// The service's selection was done for the front event.
-    MarkService { activity: ActivityId, service: u32 },
+    MarkService {
+        activity: ActivityId,
+        service: u32,
+    },
     /// The entity has received the front event.
     MarkEntity {
         activity: ActivityId,

@@ -6,23 +6,11 @@ use Rattle.trace_history.specs.Histories.{choices_of, inputs_of}
 use Rattle.trace_history.specs.declared.choice.Choice.{Choice}
 use Rattle.trace_history.specs.declared.choice.Choice.TheVariants as choices
 use Rattle.trace_history.specs.declared.entry.Entry.{Entry}
-use Rattle.slee_value.specs.declared.ids.ActivityId.{ActivityId}
 use Rattle.router_model.specs.State.{Parts, is_used_up}
 use Rattle.router_model.specs.Activities.{least_waiting}
-use Rattle.router_model.specs.declared.rows.Service.{Service}
-use Rattle.router_model.specs.declared.rows.ServiceState.TheVariants as states
 use Rattle.router_rules.specs.Selection.{next}
 use Rattle.router_rules.specs.Step.{after, lines_of_step, is_enabled, is_choice, choice_on, step_entry}
 use Rattle.router_rules.specs.declared.kindred.Kindred.{Kindred}
-
--- the service prepaid is Active, and nothing else is there
-abbrev pub initial : Parts
-initial = record {
-  clock = 0; inputs = 0;
-  next_entity = 1; next_activity = 1; next_timer = 1; next_event = 1;
-  services = record { state = states.Active; activity = record { 0 = 0 } } ∷ [];
-  entities = []; root_names = []; activities = []; links = []; events = []; services_done = []; delivered = [];
-}
 
 -- the state after these choices
 abbrev pub after_all : Parts → List Choice → Parts
