@@ -7,3 +7,4 @@ pub mod Closing
 pub mod Step
 pub mod History
 pub mod Show
+pub mod Well
