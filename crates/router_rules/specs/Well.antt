@@ -127,22 +127,30 @@ pub record AreCounts (s : Parts) : Type 0 where
   pub timers : s.next_timer < 2 ^ 64
   pub events : s.next_event < 2 ^ 64
 
--- a well-formed state
-pub record IsWell (s : Parts) : Type 0 where
+-- everything but that each entity is held
+pub record IsSound (s : Parts) : Type 0 where
   pub ordered : IsOrdered s
   pub counts : AreCounts s
   pub services : s.services ≡ initial.services
-  -- roots alone, each with an attachment, and each with one convergence name
+  -- roots alone, each with one convergence name
   pub entities : AllByRecursion IsBuiltInRoot s.entities
-  pub held : AllByRecursion (IsHeld s.links) s.entities
   pub names : map named_entity s.root_names ≡ map number_of s.entities
   pub links : AllByRecursion (IsLinkOf s.entities s.activities) s.links
   pub activities : AllByRecursion IsBuiltInActivity s.activities
-  -- events rise by number
   pub events : AllByRecursion (IsBuiltInEvent s.activities) s.events
+  -- events rise by number
   pub rising : Rises event_number s.events
   pub below : AreBelow event_number s.events s.next_event
   pub from : 1 ≤ s.next_event
   pub endings : AllByRecursion (EndsLast s.events) s.activities
   pub services_done : AllByRecursion (IsServiceMark s.events s.services) s.services_done
   pub delivered : AllByRecursion (IsEntityMark s.events s.next_entity) s.delivered
+
+-- each entity has an attachment
+abbrev pub AreHeld : Parts → Type 0
+AreHeld s = AllByRecursion (IsHeld s.links) s.entities
+
+-- a well-formed state
+pub record IsWell (s : Parts) : Type 0 where
+  pub sound : IsSound s
+  pub held : AreHeld s
