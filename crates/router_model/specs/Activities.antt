@@ -1,5 +1,5 @@
 -- What is read of activities, their attachments and their queues.
-use Rattle.std.specs.Prelude.{ℕ, Bool, false, ◌&&◌, ◌==◌, not, nat_lt, if◌then◌else◌, List, [], ◌∷◌, Some, None, Option, option_map, find}
+use Rattle.std.specs.Prelude.{ℕ, Bool, false, ◌&&◌, ◌==◌, not, nat_lt, if◌then◌else◌, List, [], ◌∷◌, Some, None, Option, option_map, filter, find}
 use Rattle.std.specs.List.{list_any, list_all}
 use Rattle.std.specs.Str.{bytes_eq}
 use Rattle.router_model.specs.declared.rows.AcKind.{AcKind}
@@ -29,6 +29,10 @@ external rows name = find (λ row. has_name row.kind name) rows
 -- the entity is attached to the activity (JSR 240, 7.4)
 abbrev pub is_linked : List Link → ℕ → ℕ → Bool
 is_linked links e a = list_any (λ l. (l.entity.0 == e) && (l.activity.0 == a)) links
+
+-- the attachments to an activity
+abbrev pub links_on : List Link → ℕ → List Link
+links_on links a = filter (λ l. l.activity.0 == a) links
 
 -- the event of something that waits
 abbrev pub event_of : Queued → Event

@@ -4,3 +4,4 @@ pub mod Trees
 pub mod Paths
 pub mod Activities
 pub mod Ordered
+pub mod Roots

@@ -32,21 +32,24 @@ activity_number row = row.number.0
 abbrev pub named_entity : RootName → ℕ
 named_entity row = row.entity.0
 
+abbrev pub linked_entity : Link → ℕ
+linked_entity row = row.entity.0
+
 -- attachments stand by activity, then by entity
 abbrev pub IsLinkBefore : Link → Link → Type 0
 IsLinkBefore x y = IsTrue (stands_before y.entity.0 y.activity.0 x)
 
 -- they aren't both external and of one name
 abbrev pub differs_in_name : AcKind → AcKind → Bool
-differs_in_name (kinds.External name) other = not (has_name other name)
-differs_in_name kinds.Null other = true
-differs_in_name (kinds.Service service) other = true
-differs_in_name (kinds.Table table) other = true
+differs_in_name kind (kinds.External name) = not (has_name kind name)
+differs_in_name kind kinds.Null = true
+differs_in_name kind (kinds.Service service) = true
+differs_in_name kind (kinds.Table table) = true
 
 abbrev pub DiffersInName : Activity → Activity → Type 0
 DiffersInName x y = IsTrue (differs_in_name x.kind y.kind)
 
--- Entities and activities rise by number, and are below the next one; attachments rise by activity and entity; convergence names rise by entity.
+-- Entities and activities rise by number, attachments by activity and entity, convergence names by entity; all these numbers are below the next ones.
 -- No two external activities have one name.
 pub record IsOrdered (s : Parts) : Type 0 where
   pub entities : Rises number_of s.entities
@@ -59,6 +62,7 @@ pub record IsOrdered (s : Parts) : Type 0 where
   pub activities_from : 1 ≤ s.next_activity
   pub names : AllInOrder DiffersInName s.activities
   pub links : AllInOrder IsLinkBefore s.links
+  pub links_below : AreBelow linked_entity s.links s.next_entity
 
 -- a new activity has no name that an external activity has
 abbrev pub FitsKind : AcKind → List Activity → Type 0
@@ -67,14 +71,14 @@ FitsKind kinds.Null rows = Unit {0}
 FitsKind (kinds.Service service) rows = Unit {0}
 FitsKind (kinds.Table table) rows = Unit {0}
 
--- the change keeps the order: a name is new, and an entity that gets a convergence name is above those that have one
+-- the change keeps the order: a name is new, an entity that is attached was made, and one that gets a convergence name is above those that have one
 abbrev pub FitsChange : Change → Parts → Type 0
 FitsChange changes.Taken s = Unit {0}
 FitsChange changes.NextEvent s = Unit {0}
 FitsChange (changes.Start kind) s = FitsKind kind s.activities
 FitsChange (changes.End a) s = Unit {0}
 FitsChange (changes.DropContext a) s = Unit {0}
-FitsChange (changes.Attach e a) s = Unit {0}
+FitsChange (changes.Attach e a) s = e.0 < s.next_entity
 FitsChange (changes.CreateRoot block service priority) s = Unit {0}
 FitsChange (changes.Root e name) s = AreBelow named_entity s.root_names e.0 × (e.0 < s.next_entity)
 FitsChange (changes.Remove e) s = Unit {0}

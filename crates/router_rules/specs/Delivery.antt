@@ -11,7 +11,8 @@ use Rattle.router_model.specs.declared.rows.RootName.{RootName}
 use Rattle.router_model.specs.declared.change.Change.TheVariants as changes
 use Rattle.router_rules.specs.BuiltIn.{root_block, service_priority, service_key, emitted, activity_end}
 use Rattle.router_rules.specs.Lines.{initial_heading, deliver_heading, finish_heading, attached_line, say_line, gone_line}
-use Rattle.router_rules.specs.Selection.{selection, root_selected}
+use Rattle.router_model.specs.Roots.{root_selected}
+use Rattle.router_rules.specs.Selection.{selection}
 
 abbrev pub attached : Parts → ℕ → ℕ → Parts
 attached s e a = after_change (changes.Attach (record { 0 = e }) (record { 0 = a })) s

@@ -4,12 +4,9 @@ use Rattle.std.specs.Option.{option_map_or}
 use Rattle.slee_value.specs.declared.convergence.ConvName.{ConvName}
 use Rattle.router_model.specs.State.{Parts}
 use Rattle.router_model.specs.Activities.{front, is_linked, is_done, is_delivered, is_untouched, least_waiting}
-use Rattle.router_model.specs.Paths.{entity_at, least_path}
+use Rattle.router_model.specs.Paths.{least_path}
 use Rattle.router_model.specs.declared.rows.Entity.{Entity}
 use Rattle.router_model.specs.declared.rows.Event.{Event}
-use Rattle.router_model.specs.declared.rows.RootName.{RootName}
-use Rattle.router_model.specs.declared.rows.Stem.{Stem}
-use Rattle.router_model.specs.declared.rows.Stem.TheVariants as stems
 use Rattle.router_model.specs.declared.rows.Service.{Service}
 use Rattle.router_model.specs.declared.rows.ServiceState.{ServiceState}
 use Rattle.router_model.specs.declared.rows.ServiceState.TheVariants as states
@@ -39,11 +36,6 @@ is_due s a v service =
 abbrev pub due_service : Parts → ℕ → Event → Option ℕ
 due_service s a v = if is_untouched s.delivered a then find (is_due s a v) service_order else None
 
--- the service of an entity's tree
-abbrev pub is_of_service : ℕ → Stem → Bool
-is_of_service service (stems.Root own) = own == service
-is_of_service service (stems.Child parent relation) = false
-
 -- An entity is eligible: it is attached, its block handles the event, and it hasn't received it yet (JSR 240, 8.4).
 abbrev pub is_eligible : Parts → ℕ → Event → Entity → Bool
 is_eligible s a v row =
@@ -68,18 +60,3 @@ next s a = option_map_or (λ v. Some (next_for s a v)) (front s.events a) None
 -- the convergence name of the built-in root is by the activity alone
 abbrev pub selection : ℕ → ConvName
 selection a = record { activity = Some (record { 0 = a }); address = None; event_type = None; event = None; custom = None }
-
--- an entity has this name, and is a root of this service
-abbrev pub is_root_of : List Entity → ℕ → ℕ → Bool
-is_root_of rows service e = option_map_or (λ row. is_of_service service row.stem) (entity_at rows e) false
-
--- a convergence name has this activity
-abbrev pub names_activity : ConvName → ℕ → Bool
-names_activity name a = option_map_or (λ own. own.0 == a) name.activity false
-
-abbrev pub is_selected : Parts → ℕ → ℕ → RootName → Bool
-is_selected s service a row = names_activity row.name a && is_root_of s.entities service row.entity.0
-
--- the root of the service that has the activity's convergence name
-abbrev pub root_selected : Parts → ℕ → ℕ → Option RootName
-root_selected s service a = find (is_selected s service a) s.root_names

@@ -11,7 +11,8 @@ use Rattle.router_model.specs.Activities.{front}
 use Rattle.router_model.specs.declared.rows.Event.{Event}
 use Rattle.router_rules.specs.Lines.{input_heading}
 use Rattle.router_rules.specs.Taking.{taken, lines_of_taken}
-use Rattle.router_rules.specs.Selection.{due_service, first, next, root_selected}
+use Rattle.router_model.specs.Roots.{root_selected}
+use Rattle.router_rules.specs.Selection.{due_service, first, next}
 use Rattle.router_rules.specs.Delivery.{selected, lines_of_selected, delivered, lines_of_delivered, finished, lines_of_finished}
 use Rattle.router_rules.specs.Closing.{closing, lines_of_closing}
 use Rattle.router_rules.specs.declared.kindred.Kindred.{Kindred}
