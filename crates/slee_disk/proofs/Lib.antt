@@ -1,0 +1,5 @@
+pub mod Moments
+pub mod Overwrites
+pub mod Pieces
+pub mod Recording
+pub mod WritesLemmas
