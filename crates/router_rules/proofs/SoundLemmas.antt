@@ -149,11 +149,11 @@ entity_marks_more events q next marks all =
         (λ m is. record { activity = any_more (λ x. x.activity.0 == m.activity.0) events q is.activity; entity = is.entity }) marks all
 
 -- the event that is queued next
-abbrev next_queued : Parts → ℕ → List ℕ → List (List ℕ × Value) → Queued
+abbrev pub next_queued : Parts → ℕ → List ℕ → List (List ℕ × Value) → Queued
 next_queued s a event fields = record { activity = record { 0 = a }; event = record { id = record { 0 = s.next_event }; name = event; fields = fields; target = None } }
 
 -- The event waits on an activity that is there, and these rows of the same numbers are right with it.
-queued_with : (s : Parts) (rows : List Activity) (a : ℕ) (event : List ℕ) (fields : List (List ℕ × Value)) → IsSound s
+pub queued_with : (s : Parts) (rows : List Activity) (a : ℕ) (event : List ℕ) (fields : List (List ℕ × Value)) → IsSound s
     → IsOrdered (queued (record s { activities = rows }) a event fields)
     → ((n : ℕ) → is_activity rows n ≡ is_activity s.activities n) → AllByRecursion IsBuiltInActivity rows
     → AllByRecursion (EndsLast (s.events ++ next_queued s a event fields ∷ [])) rows
@@ -191,10 +191,10 @@ own_queue events q n own =
     queue_append events q n ∙ rw mine
 
 -- the activity of the event isn't Ending, and the event is no end
-abbrev IsOpen : ℕ → Activity → Type 0
+abbrev pub IsOpen : ℕ → Activity → Type 0
 IsOpen a row = (row.number.0 == a) ≡ true → row.ending ≡ false
 
-fired_row : (events : List Queued) (q : Queued) (row : Activity) → is_end q ≡ false → EndsLast events row × IsOpen q.activity.0 row → EndsLast (events ++ q ∷ []) row
+pub fired_row : (events : List Queued) (q : Queued) (row : Activity) → is_end q ≡ false → EndsLast events row × IsOpen q.activity.0 row → EndsLast (events ++ q ∷ []) row
 fired_row events q row other is = elim (cases_Bool (row.number.0 == q.activity.0)) [
   | inl mine ↦
     let active : row.ending ≡ false = is.1 mine in
@@ -203,7 +203,7 @@ fired_row events q row other is = elim (cases_Bool (row.number.0 == q.activity.0
   | inr away ↦ rw (away_queue events q row.number.0 away) is.0
 ]
 
-ended_row : (events : List Queued) (q : Queued) (row : Activity) → is_end q ≡ true → EndsLast events row × IsOpen q.activity.0 row
+pub ended_row : (events : List Queued) (q : Queued) (row : Activity) → is_end q ≡ true → EndsLast events row × IsOpen q.activity.0 row
     → EndsLast (events ++ q ∷ []) (ends q.activity.0 row)
 ended_row events q row end is = elim (cases_Bool (row.number.0 == q.activity.0)) [
   | inl mine ↦
