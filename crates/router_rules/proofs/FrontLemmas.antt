@@ -40,8 +40,16 @@ pub marked_service : (s : Parts) (a service : ℕ) → is_waiting s.events a ≡
 marked_service s a service waits there w = record {
   ordered = ordered_after (changes.MarkService (record { 0 = a }) service) s tt w.ordered;
   counts = record { clock = w.counts.clock; inputs = w.counts.inputs; entities = w.counts.entities; activities = w.counts.activities; timers = w.counts.timers; events = w.counts.events };
-  services = w.services; entities = w.entities; names = w.names; links = w.links;
-  activities = w.activities; events = w.events; rising = w.rising; below = w.below; from = w.from; endings = w.endings;
+  services = w.services;
+  entities = w.entities;
+  names = w.names;
+  links = w.links;
+  activities = w.activities;
+  events = w.events;
+  rising = w.rising;
+  below = w.below;
+  from = w.from;
+  endings = w.endings;
   services_done = all_pushed (IsServiceMark s.events s.services) s.services_done (record { activity = record { 0 = a }; service = service }) w.services_done (record { activity = waits; service = there });
   delivered = w.delivered;
 }
@@ -51,8 +59,16 @@ pub marked_entity : (s : Parts) (a : ℕ) (e : EntityId) → is_waiting s.events
 marked_entity s a e waits there w = record {
   ordered = ordered_after (changes.MarkEntity (record { 0 = a }) e) s tt w.ordered;
   counts = record { clock = w.counts.clock; inputs = w.counts.inputs; entities = w.counts.entities; activities = w.counts.activities; timers = w.counts.timers; events = w.counts.events };
-  services = w.services; entities = w.entities; names = w.names; links = w.links;
-  activities = w.activities; events = w.events; rising = w.rising; below = w.below; from = w.from; endings = w.endings;
+  services = w.services;
+  entities = w.entities;
+  names = w.names;
+  links = w.links;
+  activities = w.activities;
+  events = w.events;
+  rising = w.rising;
+  below = w.below;
+  from = w.from;
+  endings = w.endings;
   services_done = w.services_done;
   delivered = all_pushed (IsEntityMark s.events s.next_entity) s.delivered (record { activity = record { 0 = a }; entity = e }) w.delivered (record { activity = waits; entity = there });
 }
@@ -70,18 +86,26 @@ pub all_linked : (P : Link → Type 0) (links : List Link) (e : EntityId) (a : A
 all_linked P links e a all here = elim (cases_Bool (is_linked links e.0 a.0)) [
   | inl there ↦ rw there all
   | inr absent ↦
-    let one : Link = record { entity = e; activity = a } in
-    rw (absent, put_is_insert (stands_before e.0 a.0) one links) (all_put P (stands_before e.0 a.0) one links all here)
+      let one : Link = record { entity = e; activity = a } in
+      rw (absent, put_is_insert (stands_before e.0 a.0) one links) (all_put P (stands_before e.0 a.0) one links all here)
 ]
 
 pub attached_sound : (s : Parts) (e a : ℕ) → is_entity s.entities e ≡ true → is_activity s.activities a ≡ true → IsSound s → IsSound (attached s e a)
 attached_sound s e a entity activity w = record {
   ordered = ordered_after (changes.Attach (record { 0 = e }) (record { 0 = a })) s (entity_below s.entities e s.next_entity entity w.ordered.entities_below) w.ordered;
   counts = record { clock = w.counts.clock; inputs = w.counts.inputs; entities = w.counts.entities; activities = w.counts.activities; timers = w.counts.timers; events = w.counts.events };
-  services = w.services; entities = w.entities; names = w.names;
+  services = w.services;
+  entities = w.entities;
+  names = w.names;
   links = all_linked (IsLinkOf s.entities s.activities) s.links (record { 0 = e }) (record { 0 = a }) w.links (record { entity = entity; activity = activity });
-  activities = w.activities; events = w.events; rising = w.rising; below = w.below; from = w.from; endings = w.endings;
-  services_done = w.services_done; delivered = w.delivered;
+  activities = w.activities;
+  events = w.events;
+  rising = w.rising;
+  below = w.below;
+  from = w.from;
+  endings = w.endings;
+  services_done = w.services_done;
+  delivered = w.delivered;
 }
 
 -- a new root
@@ -93,18 +117,23 @@ next_root s = record { number = record { 0 = s.next_entity }; block = root_block
 pub rooted_sound : (s : Parts) (a : ℕ) → s.next_entity + 1 < 2 ^ 64 → IsSound s → IsSound (rooted s 0 a)
 rooted_sound s a fits w = record {
   ordered = ordered_after (changes.Root (record { 0 = s.next_entity }) (selection a)) (after_change (changes.CreateRoot (root_block 0) 0 (service_priority 0)) s)
-    (w.ordered.root_names_below, omega arith) (ordered_after (changes.CreateRoot (root_block 0) 0 (service_priority 0)) s tt w.ordered);
+      (w.ordered.root_names_below, omega arith) (ordered_after (changes.CreateRoot (root_block 0) 0 (service_priority 0)) s tt w.ordered);
   counts = record { clock = w.counts.clock; inputs = w.counts.inputs; entities = fits; activities = w.counts.activities; timers = w.counts.timers; events = w.counts.events };
   services = w.services;
   entities = all_pushed IsBuiltInRoot s.entities (next_root s) w.entities (record { number = w.ordered.entities_from; block = refl; stem = refl; priority = refl });
   names = map-append named_entity s.root_names (record { entity = record { 0 = s.next_entity }; name = selection a } ∷ [])
-    ∙ ap (λ (ns : List ℕ). ns ++ s.next_entity ∷ []) w.names ∙ sym (map-append number_of s.entities (next_root s ∷ []));
+      ∙ ap (λ (ns : List ℕ). ns ++ s.next_entity ∷ []) w.names ∙ sym (map-append number_of s.entities (next_root s ∷ []));
   links = all_from_all (IsLinkOf s.entities s.activities) (IsLinkOf (s.entities ++ next_root s ∷ []) s.activities)
-    (λ l is. record { entity = any_more (λ row. row.number.0 == l.entity.0) s.entities (next_root s) is.entity; activity = is.activity }) s.links w.links;
-  activities = w.activities; events = w.events; rising = w.rising; below = w.below; from = w.from; endings = w.endings;
+      (λ l is. record { entity = any_more (λ row. row.number.0 == l.entity.0) s.entities (next_root s) is.entity; activity = is.activity }) s.links w.links;
+  activities = w.activities;
+  events = w.events;
+  rising = w.rising;
+  below = w.below;
+  from = w.from;
+  endings = w.endings;
   services_done = w.services_done;
   delivered = all_from_all (IsEntityMark s.events s.next_entity) (IsEntityMark s.events (s.next_entity + 1))
-    (λ m is. record { activity = is.activity; entity = omega (arith, is.entity) }) s.delivered w.delivered;
+      (λ m is. record { activity = is.activity; entity = omega (arith, is.entity) }) s.delivered w.delivered;
 }
 
 -- initial selection
@@ -114,8 +143,8 @@ pub due_is : (s : Parts) (a : ℕ) (v : Event) (service : ℕ) → due_service s
 due_is s a v service is = elim (cases_Bool (is_untouched s.delivered a)) [
   | inr touched ↦ let none : None ≡ Some service = rw touched at is in cc
   | inl untouched ↦
-    let found : find (is_due s a v) service_order ≡ Some service = rw untouched at is in
-    found_all (λ n. n ≡ 0) (is_due s a v) service_order service found (refl, tt)
+      let found : find (is_due s a v) service_order ≡ Some service = rw untouched at is in
+      found_all (λ n. n ≡ 0) (is_due s a v) service_order service found (refl, tt)
 ]
 
 waits_there : (s : Parts) (a : ℕ) (v : Event) → front s.events a ≡ Some v → IsSound s → is_activity s.activities a ≡ true
@@ -129,23 +158,23 @@ at_there rows service e is = by (entity_at rows e) refl
     by : (found : Option Entity) → entity_at rows e ≡ found → is_entity rows e ≡ true
     by None absent = let none : false ≡ true = rw absent at is in cc
     by (Some row) found =
-      let number : row.number.0 ≡ e = eqb-true row.number.0 e (found_passes (λ r. r.number.0 == e) rows row found) in
-      subst (λ (n : ℕ). is_entity rows n ≡ true) number (found_entity (λ r. r.number.0 == e) rows row found)
+        let number : row.number.0 ≡ e = eqb-true row.number.0 e (found_passes (λ r. r.number.0 == e) rows row found) in
+        subst (λ (n : ℕ). is_entity rows n ≡ true) number (found_entity (λ r. r.number.0 == e) rows row found)
 
 with_selected : (s : Parts) (a : ℕ) (found : Option RootName) → is_activity s.activities a ≡ true → s.next_entity + 1 < 2 ^ 64
     → ((root : RootName) → found ≡ Some root → is_entity s.entities root.entity.0 ≡ true) → IsSound s → IsSound (selected_with s 0 a found)
 with_selected s a None there fits roots w =
     attached_sound (rooted s 0 a) s.next_entity a
-      (any_last (λ row. row.number.0 == s.next_entity) s.entities (next_root s) (eq-eqb s.next_entity s.next_entity refl)) there (rooted_sound s a fits w)
+    (any_last (λ row. row.number.0 == s.next_entity) s.entities (next_root s) (eq-eqb s.next_entity s.next_entity refl)) there (rooted_sound s a fits w)
 with_selected s a (Some root) there fits roots w = attached_sound s root.entity.0 a (roots root refl) there w
 
 pub selected_sound : (s : Parts) (a : ℕ) (v : Event) (service : ℕ) → front s.events a ≡ Some v → due_service s a v ≡ Some service → s.next_entity + 1 < 2 ^ 64
     → IsSound s → IsSound (selected s service a)
 selected_sound s a v service is due fits w =
-  subst (λ (n : ℕ). IsSound (selected s n a)) (sym (due_is s a v service due))
+    subst (λ (n : ℕ). IsSound (selected s n a)) (sym (due_is s a v service due))
     (with_selected (after_change (changes.MarkService (record { 0 = a }) 0) s) a (root_selected s 0 a) (waits_there s a v is w) fits
-      (λ root found. at_there s.entities 0 root.entity.0 (and_parts (names_activity root.name a) (is_root_of s.entities 0 root.entity.0) (found_passes (is_selected s 0 a) s.root_names root found)).1)
-      (marked_service s a 0 (front_waits s.events a v is) (ap_services s w) w))
+    (λ root found. at_there s.entities 0 root.entity.0 (and_parts (names_activity root.name a) (is_root_of s.entities 0 root.entity.0) (found_passes (is_selected s 0 a) s.root_names root found)).1)
+    (marked_service s a 0 (front_waits s.events a v is) (ap_services s w) w))
   where
     ap_services : (s : Parts) → IsSound s → 0 < length s.services
     ap_services s w = rw (w.services) (omega arith)
@@ -163,7 +192,7 @@ least_all P rows (Some b) (y ∷ ys) row is holds all =
     one = elim (cases_Bool (before (path_of rows y) (path_of rows b))) [
       | inl less ↦ rw less all.0
       | inr more ↦ rw more (holds b refl)
-      ]
+    ]
 
 pub first_all : (P : Entity → Type 0) (s : Parts) (a : ℕ) (v : Event) (row : Entity) → first s a v ≡ Some row → AllByRecursion P s.entities → P row
 first_all P s a v row is all = least_all P s.entities None (eligible s a v) row is (λ x none. absurd (cc)) (all_filter P (is_eligible s a v) s.entities all)
@@ -194,7 +223,11 @@ pub popped_sound : (s : Parts) (a : ℕ) (v : Event) → front s.events a ≡ So
 popped_sound s a v is more w = record {
   ordered = ordered_after (changes.Pop (record { 0 = a })) s tt w.ordered;
   counts = record { clock = w.counts.clock; inputs = w.counts.inputs; entities = w.counts.entities; activities = w.counts.activities; timers = w.counts.timers; events = w.counts.events };
-  services = w.services; entities = w.entities; names = w.names; links = w.links; activities = w.activities;
+  services = w.services;
+  entities = w.entities;
+  names = w.names;
+  links = w.links;
+  activities = w.activities;
   events = all_left (IsBuiltInEvent s.activities) s.events a w.events;
   rising = order_left (λ x y. event_number x < event_number y) s.events a w.rising;
   below = all_left (λ q. event_number q < s.next_event) s.events a w.below;
@@ -207,16 +240,16 @@ popped_sound s a v is more w = record {
     one : (row : Activity) → EndsLast s.events row → EndsLast (without_front s.events a) row
     one row ends = elim (cases_Bool (row.number.0 == a)) [
       | inl mine ↦
-        let number : row.number.0 ≡ a = eqb-true row.number.0 a mine in
-        let found = front_first s.events a v is in
-        let other : is_end found.0 ≡ false = ap (λ (x : Event). bytes_eq x.name activity_end) found.1 ∙ more in
-        let had : (if row.ending then has_end_last (found.0 ∷ queue (without_front s.events a) a) else has_no_end (found.0 ∷ queue (without_front s.events a) a)) ≡ true
-            = subst (λ (qs : List Queued). (if row.ending then has_end_last qs else has_no_end qs) ≡ true) found.2
-                (subst (λ (n : ℕ). (if row.ending then has_end_last (queue s.events n) else has_no_end (queue s.events n)) ≡ true) number ends) in
-        subst (λ (n : ℕ). (if row.ending then has_end_last (queue (without_front s.events a) n) else has_no_end (queue (without_front s.events a) n)) ≡ true) (sym number)
-            (tail_ends row.ending found.0 (queue (without_front s.events a) a) other had)
+          let number : row.number.0 ≡ a = eqb-true row.number.0 a mine in
+          let found = front_first s.events a v is in
+          let other : is_end found.0 ≡ false = ap (λ (x : Event). bytes_eq x.name activity_end) found.1 ∙ more in
+          let had : (if row.ending then has_end_last (found.0 ∷ queue (without_front s.events a) a) else has_no_end (found.0 ∷ queue (without_front s.events a) a)) ≡ true
+          = subst (λ (qs : List Queued). (if row.ending then has_end_last qs else has_no_end qs) ≡ true) found.2
+          (subst (λ (n : ℕ). (if row.ending then has_end_last (queue s.events n) else has_no_end (queue s.events n)) ≡ true) number ends) in
+          subst (λ (n : ℕ). (if row.ending then has_end_last (queue (without_front s.events a) n) else has_no_end (queue (without_front s.events a) n)) ≡ true) (sym number)
+          (tail_ends row.ending found.0 (queue (without_front s.events a) a) other had)
       | inr away ↦ subst (λ (qs : List Queued). (if row.ending then has_end_last qs else has_no_end qs) ≡ true) (sym (other_queue s.events a row.number.0 away)) ends
-      ]
+    ]
 
 -- behind the end of an activity no event waits on it
 none_left : (s : Parts) (a : ℕ) (v : Event) → front s.events a ≡ Some v → bytes_eq v.name activity_end ≡ true → IsSound s → queue (without_front s.events a) a ≡ []
@@ -225,8 +258,8 @@ none_left s a v is end w =
     let row = some_row (EndsLast s.events) s.activities a (waits_there s a v is w) w.endings in
     let last : is_end found.0 ≡ true = ap (λ (x : Event). bytes_eq x.name activity_end) found.1 ∙ end in
     let had : (if row.0.ending then has_end_last (found.0 ∷ queue (without_front s.events a) a) else has_no_end (found.0 ∷ queue (without_front s.events a) a)) ≡ true
-        = subst (λ (qs : List Queued). (if row.0.ending then has_end_last qs else has_no_end qs) ≡ true) found.2
-            (subst (λ (n : ℕ). (if row.0.ending then has_end_last (queue s.events n) else has_no_end (queue s.events n)) ≡ true) row.1 row.2) in
+    = subst (λ (qs : List Queued). (if row.0.ending then has_end_last qs else has_no_end qs) ≡ true) found.2
+    (subst (λ (n : ℕ). (if row.0.ending then has_end_last (queue s.events n) else has_no_end (queue s.events n)) ≡ true) row.1 row.2) in
     end_alone row.0.ending found.0 (queue (without_front s.events a) a) last had
 
 links_left : (entities : List Entity) (activities : List Activity) (links : List Link) (a : ℕ) → AllByRecursion (IsLinkOf entities activities) links
@@ -256,7 +289,9 @@ pub dropped_sound : (s : Parts) (a : ℕ) (v : Event) → front s.events a ≡ S
 dropped_sound s a v is end w = record {
   ordered = ordered_after (changes.DropContext (record { 0 = a })) (popped s a) tt (ordered_after (changes.Pop (record { 0 = a })) s tt w.ordered);
   counts = record { clock = w.counts.clock; inputs = w.counts.inputs; entities = w.counts.entities; activities = w.counts.activities; timers = w.counts.timers; events = w.counts.events };
-  services = w.services; entities = w.entities; names = w.names;
+  services = w.services;
+  entities = w.entities;
+  names = w.names;
   links = links_left s.entities s.activities s.links a w.links;
   activities = all_filter IsBuiltInActivity (λ row. not (row.number.0 == a)) s.activities w.activities;
   events = events_left s.activities (without_front s.events a) a (absent_queue (without_front s.events a) a (none_left s a v is end w)) (all_left (IsBuiltInEvent s.activities) s.events a w.events);

@@ -34,32 +34,32 @@ open_rows : (s : Parts) (name : List ℕ) (row : Activity) → IsSound s → ext
     → AllByRecursion (IsOpen row.number.0) s.activities
 open_rows s name row w is active =
     all_from_all (λ r. (r.number.0 == row.number.0) ≡ true → r ≡ row) (IsOpen row.number.0) (λ r only mine. ap (λ (x : Activity). x.ending) (only mine) ∙ active)
-        s.activities (only_found (λ r. has_name r.kind name) s.activities row is w.ordered.activities)
+    s.activities (only_found (λ r. has_name r.kind name) s.activities row is w.ordered.activities)
 
 pub fired_sound : (s : Parts) (name : List ℕ) (row : Activity) (event : List ℕ) (fields : List (List ℕ × Value)) → IsSound s
     → external s.activities name ≡ Some row → row.ending ≡ false → bytes_eq event activity_end ≡ false → has_fields event fields ≡ true → s.next_event + 1 < 2 ^ 64
     → IsSound (queued s row.number.0 event fields)
 fired_sound s name row event fields w is active other given fits =
     queued_with s s.activities row.number.0 event fields w
-        (ordered_after changes.NextEvent _ tt (ordered_after (changes.Push (record { 0 = row.number.0 }) (next_queued s row.number.0 event fields).event) s tt w.ordered))
-        (λ n. refl) w.activities
-        (all_from_all (λ r. EndsLast s.events r × IsOpen row.number.0 r) (EndsLast (s.events ++ next_queued s row.number.0 event fields ∷ []))
-            (λ r both. fired_row s.events (next_queued s row.number.0 event fields) r other both) s.activities
-            (all_both (EndsLast s.events) (IsOpen row.number.0) s.activities w.endings (open_rows s name row w is active)))
-        (found_activity (λ r. has_name r.kind name) s.activities row is) given fits
+    (ordered_after changes.NextEvent _ tt (ordered_after (changes.Push (record { 0 = row.number.0 }) (next_queued s row.number.0 event fields).event) s tt w.ordered))
+    (λ n. refl) w.activities
+    (all_from_all (λ r. EndsLast s.events r × IsOpen row.number.0 r) (EndsLast (s.events ++ next_queued s row.number.0 event fields ∷ []))
+    (λ r both. fired_row s.events (next_queued s row.number.0 event fields) r other both) s.activities
+    (all_both (EndsLast s.events) (IsOpen row.number.0) s.activities w.endings (open_rows s name row w is active)))
+    (found_activity (λ r. has_name r.kind name) s.activities row is) given fits
 
 pub ended_sound : (s : Parts) (name : List ℕ) (row : Activity) → IsSound s → external s.activities name ≡ Some row → row.ending ≡ false → s.next_event + 1 < 2 ^ 64
     → IsSound (ended s row.number.0)
 ended_sound s name row w is active fits =
     queued_with s (map (ends row.number.0) s.activities) row.number.0 activity_end [] w
-        (ordered_after changes.NextEvent _ tt (ordered_after (changes.Push (record { 0 = row.number.0 }) (next_queued s row.number.0 activity_end []).event) _ tt
-            (ordered_after (changes.End (record { 0 = row.number.0 })) s tt w.ordered)))
-        (λ n. ended_there s.activities row.number.0 n)
-        (all_map IsBuiltInActivity IsBuiltInActivity (ends row.number.0) (λ r built. built_still row.number.0 r built) s.activities w.activities)
-        (all_map (λ r. EndsLast s.events r × IsOpen row.number.0 r) (EndsLast (s.events ++ next_queued s row.number.0 activity_end [] ∷ [])) (ends row.number.0)
-            (λ r both. ended_row s.events (next_queued s row.number.0 activity_end []) r refl both) s.activities
-            (all_both (EndsLast s.events) (IsOpen row.number.0) s.activities w.endings (open_rows s name row w is active)))
-        (found_activity (λ r. has_name r.kind name) s.activities row is) refl fits
+    (ordered_after changes.NextEvent _ tt (ordered_after (changes.Push (record { 0 = row.number.0 }) (next_queued s row.number.0 activity_end []).event) _ tt
+    (ordered_after (changes.End (record { 0 = row.number.0 })) s tt w.ordered)))
+    (λ n. ended_there s.activities row.number.0 n)
+    (all_map IsBuiltInActivity IsBuiltInActivity (ends row.number.0) (λ r built. built_still row.number.0 r built) s.activities w.activities)
+    (all_map (λ r. EndsLast s.events r × IsOpen row.number.0 r) (EndsLast (s.events ++ next_queued s row.number.0 activity_end [] ∷ [])) (ends row.number.0)
+    (λ r both. ended_row s.events (next_queued s row.number.0 activity_end []) r refl both) s.activities
+    (all_both (EndsLast s.events) (IsOpen row.number.0) s.activities w.endings (open_rows s name row w is active)))
+    (found_activity (λ r. has_name r.kind name) s.activities row is) refl fits
   where
     built_still : (a : ℕ) (r : Activity) → IsBuiltInActivity r → IsBuiltInActivity (ends a r)
     built_still a r built = elim (cases_Bool (r.number.0 == a)) [
@@ -79,8 +79,8 @@ escape_longer word (b ∷ bs) = elim (cases_Bool (is_escaped word b)) [
 long_line : (name event : List ℕ) (service : Option (List ℕ)) (field : List ℕ × List ℕ)
     → length field.1 ≤ length (spelled (signals.Fire name event service (field ∷ [])))
 long_line name event service field =
-  let text : length field.1 ≤ length (escaped true field.1) = escape_longer true field.1 in
-  simp length-append (omega (arith, text))
+    let text : length field.1 ≤ length (escaped true field.1) = escape_longer true field.1 in
+    simp length-append (omega (arith, text))
 
 short_address : (name event : List ℕ) (service : Option (List ℕ)) (field : List ℕ × List ℕ) → is_signal (signals.Fire name event service (field ∷ [])) ≡ true
     → nat_le (length field.1) 4096 ≡ true
@@ -112,8 +112,8 @@ start_taken : (s : Parts) (name : List ℕ) → is_signal (signals.Start name) �
 start_taken s name is fits w = elim (cases_Bool (is_some (external s.activities name))) [
   | inl there ↦ rw there (counted_sound s fits.inputs w)
   | inr absent ↦
-    let named : is_name name ≡ true = (and_parts (is_name name) (is_line (spelled (signals.Start name))) is).0 in
-    rw absent (started_sound (counted s) name named (none_is (external s.activities name) absent) fits.activities (counted_sound s fits.inputs w))
+      let named : is_name name ≡ true = (and_parts (is_name name) (is_line (spelled (signals.Start name))) is).0 in
+      rw absent (started_sound (counted s) name named (none_is (external s.activities name) absent) fits.activities (counted_sound s fits.inputs w))
 ]
 
 end_taken : (s : Parts) (name : List ℕ) (found : Option Activity) → external s.activities name ≡ found → HasNext s → IsSound s
@@ -122,8 +122,8 @@ end_taken s name None is fits w = counted_sound s fits.inputs w
 end_taken s name (Some row) is fits w = elim (cases_Bool row.ending) [
   | inl ending ↦ rw ending (counted_sound s fits.inputs w)
   | inr active ↦
-    let number : number_named (counted s) name ≡ row.number.0 = ap (λ (o : Option Activity). option_map_or (λ (r : Activity). r.number.0) o 0) is in
-    rw active (subst (λ (a : ℕ). IsSound (ended (counted s) a)) (sym number) (ended_sound (counted s) name row (counted_sound s fits.inputs w) is active fits.events))
+      let number : number_named (counted s) name ≡ row.number.0 = ap (λ (o : Option Activity). option_map_or (λ (r : Activity). r.number.0) o 0) is in
+      rw active (subst (λ (a : ℕ). IsSound (ended (counted s) a)) (sym number) (ended_sound (counted s) name row (counted_sound s fits.inputs w) is active fits.events))
 ]
 
 no_end_event : (event : List ℕ) → is_event event ≡ true → bytes_eq event activity_end ≡ false
@@ -135,19 +135,19 @@ fire_open : (s : Parts) (name event : List ℕ) (service : Option (List ℕ)) (w
 fire_open s name event service words row is active signal fits w = elim (cases_Bool (is_event event)) [
   | inr unknown ↦ rw unknown (counted_sound s fits.inputs w)
   | inl known ↦ elim (cases_Bool (is_none service)) [
-      | inr one ↦ rw (known, one) (counted_sound s fits.inputs w)
-      | inl all ↦ elim (cases_Bool (is_some (fields_given words))) [
-          | inr bad ↦ rw (known, all, bad) (counted_sound s fits.inputs w)
-          | inl given ↦
-            let number : number_named (counted s) name ≡ row.number.0 = ap (λ (o : Option Activity). option_map_or (λ (r : Activity). r.number.0) o 0) is in
-            let fields : has_fields event (fields_of words) ≡ true = rw known (given_fields name event service words signal given) in
-            let sound : IsSound (queued (counted s) (number_named (counted s) name) event (fields_of words))
-                = subst (λ (a : ℕ). IsSound (queued (counted s) a event (fields_of words))) (sym number)
-                    (fired_sound (counted s) name row event (fields_of words) (counted_sound s fits.inputs w) is active (no_end_event event known) fields fits.events) in
-            let why : unfit_event event service words ≡ None = rw (known, all, given) in
-            subst (λ (o : Option (List ℕ)). IsSound (after_taking s (signals.Fire name event service words) o)) (sym why) sound
-          ]
-      ]
+    | inr one ↦ rw (known, one) (counted_sound s fits.inputs w)
+    | inl all ↦ elim (cases_Bool (is_some (fields_given words))) [
+      | inr bad ↦ rw (known, all, bad) (counted_sound s fits.inputs w)
+      | inl given ↦
+          let number : number_named (counted s) name ≡ row.number.0 = ap (λ (o : Option Activity). option_map_or (λ (r : Activity). r.number.0) o 0) is in
+          let fields : has_fields event (fields_of words) ≡ true = rw known (given_fields name event service words signal given) in
+          let sound : IsSound (queued (counted s) (number_named (counted s) name) event (fields_of words))
+          = subst (λ (a : ℕ). IsSound (queued (counted s) a event (fields_of words))) (sym number)
+          (fired_sound (counted s) name row event (fields_of words) (counted_sound s fits.inputs w) is active (no_end_event event known) fields fits.events) in
+          let why : unfit_event event service words ≡ None = rw (known, all, given) in
+          subst (λ (o : Option (List ℕ)). IsSound (after_taking s (signals.Fire name event service words) o)) (sym why) sound
+    ]
+  ]
 ]
 
 fire_taken : (s : Parts) (name event : List ℕ) (service : Option (List ℕ)) (words : List (List ℕ × List ℕ)) (found : Option Activity) → external s.activities name ≡ found
