@@ -1,2 +1,5 @@
 pub mod FirstLemmas
 pub mod StateLemmas
+pub mod TextLemmas
+pub mod BuiltInLemmas
+pub mod TakingLemmas

@@ -1,5 +1,7 @@
 -- What a plan is: the changes of a step, its lines and its payload, and when these are those of a choice in a state.
-use Rattle.std.specs.Prelude.{◌≡◌, ℕ, List, [], ◌∷◌, length, IsTrue, map, ⊤}
+use Rattle.std.specs.Prelude.{◌≡◌, ℕ, List, [], ◌∷◌, length, IsTrue, None, ⊤}
+use Rattle.slee_value.specs.declared.value.Value.{Value}
+use Rattle.router_model.specs.declared.rows.Event.{Event}
 use Rattle.router_model.specs.State.{Parts}
 use Rattle.router_model.specs.Changes.{after_change, after_changes}
 use Rattle.router_model.specs.Ordered.{FitsChange}
@@ -21,6 +23,10 @@ pub record PlanView : Type 0 where
   pub changes : List Change
   pub lines : List (List ℕ)
   pub payload : List ℕ
+
+-- the event that is fired next
+abbrev pub event_next : Parts → List ℕ → List (List ℕ × Value) → Event
+event_next s name fields = record { id = record { 0 = s.next_event }; name = name; fields = fields; target = None }
 
 -- each change keeps the order of the lists where it stands
 abbrev pub AllFit : List Change → Parts → Type 0
