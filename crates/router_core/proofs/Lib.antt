@@ -3,3 +3,5 @@ pub mod StateLemmas
 pub mod TextLemmas
 pub mod BuiltInLemmas
 pub mod TakingLemmas
+pub mod FrontLemmas
+pub mod DraftingLemmas

@@ -4,6 +4,8 @@
 mod built_in;
 mod choosing;
 mod draft;
+mod drafting;
+mod fronts;
 mod plan;
 mod state;
 mod taking;
