@@ -3,9 +3,11 @@
 
 mod built_in;
 mod choosing;
+mod closing;
 mod draft;
 mod drafting;
 mod fronts;
+mod keeping;
 mod plan;
 mod state;
 mod taking;
