@@ -9,7 +9,7 @@ ghost use Rattle.router_rules.specs.Well.{IsWell};
 ghost use Rattle.router_stores.specs.Room.{HasRoom, HasNumbers};
 ghost use Rattle.router_core.specs.Plans.{AllFit, IsPlanOf, HasRoomFor};
 
-use crate::{choosing, Plan};
+use crate::{Plan, choosing, closing, drafting, keeping};
 use router_model::{Change, Event};
 use router_rules::Kindred;
 use router_stores::Stores;
@@ -97,6 +97,19 @@ impl State {
         ensures { result ≡ is_enabled self.now.parts choice.now }
     {
         choosing::is_enabled(&self.stores, choice)
+    }
+
+    /// Plans the choice: what it changes, what it tells and what the journal is to keep of it. The state stays as it is.
+    pub fn plan(&self, alloc: Global, choice: Choice) -> Result<Plan, NoMemory>
+        requires valid { IsTrue (is_choice choice) }
+        requires enabled { IsTrue (is_enabled self.now.parts choice) }
+        ensures { IfOk result (λ plan. IsPlanOf self.now.parts choice plan) }
+    {
+        let mut draft = drafting::draft(alloc, &self.stores, &choice)?;
+        closing::close(alloc, &self.stores, &choice, &mut draft)?;
+        let payload = keeping::payload(alloc, &self.stores, &choice)?;
+        let (changes, lines) = draft.into_parts();
+        Ok(Plan::new(choice, changes, lines, payload))
     }
 
     /// Makes the memory for a plan.
