@@ -1,10 +1,10 @@
 //! The state of the router.
-ghost use Rattle.std.specs.Prelude.{◌≡◌, ◌++◌, ◌^◌, ◌<◌, OnOk, IfOk, IsTrue, length};
+ghost use Rattle.std.specs.Prelude.{◌≡◌, ◌++◌, ◌^◌, ◌<◌, OnOk, IfOk, IfSome, IsTrue, length};
 ghost use Rattle.router_model.specs.State.{initial, is_used_up};
 ghost use Rattle.router_model.specs.Changes.{after_changes};
 ghost use Rattle.router_rules.specs.Selection.{next};
 ghost use Rattle.router_rules.specs.History.{least_choice};
-ghost use Rattle.router_rules.specs.Step.{after, is_choice, is_enabled, step_entry};
+ghost use Rattle.router_rules.specs.Step.{after, is_choice, is_enabled, is_next, step_entry};
 ghost use Rattle.router_rules.specs.Well.{IsWell};
 ghost use Rattle.router_stores.specs.Room.{HasRoom, HasNumbers};
 ghost use Rattle.router_core.specs.Plans.{AllFit, IsPlanOf, HasRoomFor};
@@ -86,8 +86,11 @@ impl State {
     }
 
     /// The choice that is next on the least activity that has one.
+    #[tactic(auto, using(crate::proofs::StateLemmas::least_valid, crate::proofs::StateLemmas::least_next))]
     pub fn next_choice(&self) -> Option<Choice>
-        ensures { result ≡ least_choice self.now.parts }
+        ensures least { result ≡ least_choice self.now.parts }
+        ensures valid { IfSome result (λ choice. IsTrue (is_choice choice)) }
+        ensures next { IfSome result (λ choice. IsTrue (is_next self.now.parts choice)) }
     {
         choosing::least_choice(&self.stores)
     }
