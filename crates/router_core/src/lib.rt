@@ -10,6 +10,7 @@ mod fronts;
 mod keeping;
 mod plan;
 mod reading;
+mod showing;
 mod state;
 mod taking;
 mod telling;

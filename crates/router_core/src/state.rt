@@ -1,15 +1,16 @@
 //! The state of the router.
-ghost use Rattle.std.specs.Prelude.{◌≡◌, ◌++◌, ◌^◌, ◌<◌, OnOk, IfOk, IfSome, IsTrue, length};
+ghost use Rattle.std.specs.Prelude.{◌≡◌, ◌++◌, ◌^◌, ◌<◌, OnOk, OnErr, IfOk, IfSome, IsTrue, length};
 ghost use Rattle.router_model.specs.State.{initial, is_used_up};
 ghost use Rattle.router_model.specs.Changes.{after_changes};
 ghost use Rattle.router_rules.specs.Selection.{next};
 ghost use Rattle.router_rules.specs.History.{least_choice};
 ghost use Rattle.router_rules.specs.Step.{after, is_choice, is_enabled, is_next, step_entry};
+ghost use Rattle.router_rules.specs.Show.{show_text};
 ghost use Rattle.router_rules.specs.Well.{IsWell};
 ghost use Rattle.router_stores.specs.Room.{HasRoom, HasNumbers};
 ghost use Rattle.router_core.specs.Plans.{AllFit, IsPlanOf, HasRoomFor};
 
-use crate::{Plan, choosing, closing, drafting, keeping};
+use crate::{Plan, choosing, closing, drafting, keeping, showing};
 use router_model::{Change, Event};
 use router_rules::Kindred;
 use router_stores::Stores;
@@ -113,6 +114,16 @@ impl State {
         let payload = keeping::payload(alloc, &self.stores, &choice)?;
         let (changes, lines) = draft.into_parts();
         Ok(Plan::new(choice, changes, lines, payload))
+    }
+
+    /// Adds what the show command prints of the state. Where memory runs out, nothing is added.
+    pub fn show(&self, alloc: Global, into: &mut Vec<u8>) -> Result<(), NoMemory>
+        ensures ok { OnOk result (into.new.items ≡ into.old.items ++ show_text self.now.parts) }
+        ensures err { OnErr result (into.new.items ≡ into.old.items) }
+    {
+        let text = showing::show_text(alloc, &self.stores)?;
+        into.extend_from_slice(&text)?;
+        Ok(())
     }
 
     /// Makes the memory for a plan.
