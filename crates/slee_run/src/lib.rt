@@ -1,0 +1,14 @@
+//! The top call: it reads what the words ask for, plays it, and writes the trace and the status.
+#![tactic(auto)]
+
+mod command;
+mod laws;
+mod printing;
+mod status;
+mod words;
+
+pub use command::Command;
+pub use laws::{command_is_spelled, spelled_is_command};
+pub use printing::write_text;
+pub use status::{Given, Status};
+pub use words::command_of;
