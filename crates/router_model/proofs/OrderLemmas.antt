@@ -1,5 +1,5 @@
 -- Edits of a list that keep what holds of each row, and of each row and each later one.
-use Rattle.std.proofs.Common.{◌≡◌, suc, ◌+◌, ◌≤◌, Bool, true, false, cond, List, [], ◌∷◌, ◌++◌, length, map, refl, ap, arith, inl, inr, Some, None}
+use Rattle.std.proofs.Common.{◌≡◌, ℕ, zero, suc, ◌+◌, ◌≤◌, Bool, true, false, cond, List, [], ◌∷◌, ◌++◌, length, map, drop, refl, ap, arith, inl, inr, Some, None}
 use Rattle.std.specs.List.{AllByRecursion, filter, find, insert, take_while, prefix_len}
 use Rattle.std.proofs.lemmas.Bool.{cases_Bool, cond_both}
 use Rattle.std.proofs.lemmas.List.{length-take-le}
@@ -85,3 +85,15 @@ order_put R joins p y (x ∷ xs) order beside =
     cond_both (p x) (x ∷ put p y xs) (y ∷ x ∷ xs) (AllInOrder R)
     (λ passes. (all_put (R x) p y xs order.0 (beside.0.before passes), order_put R joins p y xs order.1 beside.1))
     (λ fails. ((beside.0.behind fails, all_from_all (R x) (R y) (λ z later. joins y x z (beside.0.behind fails) later) xs order.0), order))
+
+pub order_drop : {Row : Type 0} (R : Row → Row → Type 0) (n : ℕ) (rows : List Row) → AllInOrder R rows → AllInOrder R (drop n rows)
+order_drop R zero rows order = order
+order_drop R (suc n) [] order = tt
+order_drop R (suc n) (x ∷ xs) order = order_drop R n xs order.1
+
+pub length_front : {Row : Type 0} (p : Row → Bool) (rows : List Row) → length (take_while p rows) ≡ prefix_len p rows
+length_front p rows = length-take-le (prefix_len p rows) rows (prefix_within p rows)
+
+pub order_from_order : {Row : Type 0} (R S : Row → Row → Type 0) → ((x y : Row) → R x y → S x y) → (rows : List Row) → AllInOrder R rows → AllInOrder S rows
+order_from_order R S follows [] order = tt
+order_from_order R S follows (x ∷ xs) order = (all_from_all (R x) (S x) (follows x) xs order.0, order_from_order R S follows xs order.1)

@@ -7,6 +7,7 @@ use Rattle.trace_history.specs.declared.choice.Choice.{Choice}
 use Rattle.trace_history.specs.declared.entry.Entry.{Entry}
 use Rattle.router_model.specs.State.{Parts}
 use Rattle.router_rules.specs.Step.{after, lines_of_step, is_enabled, is_choice, step_entry}
+use Rattle.router_rules.specs.Payload.{payload, payloads}
 use Rattle.router_rules.specs.History.{after_all, AreEnabled, AreChoices, replay, Legal, due, solo, IsSoFar}
 
 -- choices
@@ -18,6 +19,10 @@ after_all-append s (c ∷ cs) k = after_all-append (after s c) cs k
 pub enabled-append : (s : Parts) (h k : List Choice) → AreEnabled s h → AreEnabled (after_all s h) k → AreEnabled s (h ++ k)
 enabled-append s [] k a b = b
 enabled-append s (c ∷ cs) k a b = (a.0, enabled-append (after s c) cs k a.1 b)
+
+pub payloads-append : (s : Parts) (h k : List Choice) → payloads s (h ++ k) ≡ payloads s h ++ payloads (after_all s h) k
+payloads-append s [] k = refl
+payloads-append s (c ∷ cs) k = ap (λ (ps : List (List ℕ)). payload s c ∷ ps) (payloads-append (after s c) cs k)
 
 -- entries
 

@@ -8,3 +8,4 @@ pub mod Step
 pub mod History
 pub mod Show
 pub mod Well
+pub mod Payload
