@@ -22,7 +22,7 @@ after-more (call ∷ calls) side act failed first = after-more calls side act fa
 abbrev Kept : List Call → List Call → Side → Act → Type 0
 Kept old new side act = ((failed : Bool) × (new ≡ more old side act failed)) ⊎ (new ≡ old)
 
-done_seen : (side : Side) (failed : Bool) (act : Act) (at : Instant) → (done side failed act at).seen ≡ seen_after side failed act at.seen
+pub done_seen : (side : Side) (failed : Bool) (act : Act) (at : Instant) → (done side failed act at).seen ≡ seen_after side failed act at.seen
 done_seen side true acts.Look at = refl
 done_seen side false acts.Look at = refl
 done_seen side failed (acts.Write place bytes) at = refl
@@ -36,6 +36,13 @@ seen_more calls new side act failed first is = ap (λ (l : List Call). (after l 
 -- what is held stays what reads give
 pub held_more : (calls new : List Call) (side : Side) (act : Act) (failed : Bool) (first held next : Sides) → (after calls (fresh first)).seen ≡ held → new ≡ more calls side act failed → next ≡ seen_after side failed act held → (after new (fresh first)).seen ≡ next
 held_more calls new side act failed first held next was is does = seen_more calls new side act failed first is ∙ ap (seen_after side failed act) was ∙ sym does
+
+-- a write or a cut may leave a side as it was
+pub torn_same : (place n : ℕ) (c : List ℕ) → Torn place n c c
+torn_same place n c = record { before = take_min place c; after = refl; no_shorter = omega arith; no_longer = omega arith }
+
+pub cut_same : (size : ℕ) (c : List ℕ) → Cut size c c
+cut_same size c = record { before = refl; no_shorter = omega arith; no_longer = omega arith }
 
 -- ---- over two runs of calls that began with the same bytes
 
@@ -162,12 +169,6 @@ module _ (first : Sides) (calls new : List Call) (f g : ℕ) (failed : Type 0) (
   failed_sync side (inr is) = λ which. settled_same which is
 
   -- writes and cuts
-  torn_same : (place n : ℕ) (c : List ℕ) → Torn place n c c
-  torn_same place n c = record { before = take_min place c; after = refl; no_shorter = omega arith; no_longer = omega arith }
-
-  cut_same : (size : ℕ) (c : List ℕ) → Cut size c c
-  cut_same size c = record { before = refl; no_shorter = omega arith; no_longer = omega arith }
-
   marked_there : (side : Side) (mark : Bool) (marks : Side → Bool) → marked side mark marks (other side) ≡ marks (other side)
   marked_there A mark marks = refl
   marked_there B mark marks = refl

@@ -7,3 +7,4 @@ pub mod Memory
 pub mod Calls
 pub mod Instants
 pub mod MemoryDisk
+pub mod Untold

@@ -47,6 +47,7 @@ pub record Recorded {T E : Type 0} (old new : MemoryState) (side : Side) (act : 
   pub fails : new.fails ≡ drop 1 old.fails
   pub cause : HasCause old.faults new.faults result
   pub listed : IsTrue (fails_next old.fails) → IsErr result
+  pub quiet : OnOk result (new.faults ≡ old.faults)
   pub ok : OnOk result (new.calls ≡ more old.calls side act false)
   pub err : OnErr result ((new.calls ≡ more old.calls side act true) ⊎ (new.calls ≡ old.calls))
 

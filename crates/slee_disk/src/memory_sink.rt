@@ -1,4 +1,4 @@
-ghost use Rattle.std.specs.Prelude.{◌≡◌, ◌<◌, ◌++◌, [], drop, take, IfOk, IsErr, IsTrue, Ok, length, Some};
+ghost use Rattle.std.specs.Prelude.{◌≡◌, ◌<◌, ◌++◌, [], drop, take, IfOk, OnOk, IsErr, IsTrue, Ok, length, Some};
 ghost use Rattle.std.specs.Io.{WritesAtMost};
 ghost use Rattle.std.specs.Io.KnownBytes.{WriteAppends};
 ghost use Rattle.slee_disk.specs.Causes.{HasCause, Rose};
@@ -57,6 +57,7 @@ impl Sink for MemorySink {
         ensures cause { HasCause self.old.faults self.new.faults result }
         ensures none { result ≡ Ok 0 → 0 < length bytes.now → Rose self.old.faults self.new.faults }
         ensures all { IfOk result (λ n. n ≡ length bytes.now) }
+        ensures quiet { OnOk result (self.new.faults ≡ self.old.faults) }
         ensures fails { IsTrue (fails_next self.old.fails) → IsErr result }
         ensures rest { self.new.fails ≡ drop 1 self.old.fails }
     {

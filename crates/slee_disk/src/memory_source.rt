@@ -1,4 +1,4 @@
-ghost use Rattle.std.specs.Prelude.{◌≡◌, ◌<◌, ◌≤◌, ◌↔◌, [], drop, take, min, IsErr, IsTrue, OnOk, length, Some};
+ghost use Rattle.std.specs.Prelude.{◌≡◌, ◌<◌, ◌≤◌, ◌↔◌, [], drop, take, min, IfOk, IsErr, IsTrue, OnOk, length, Some};
 ghost use Rattle.std.specs.Io.{ReadsAtMost};
 ghost use Rattle.std.specs.Io.KnownBytes.{ReadConsumes};
 ghost use Rattle.slee_disk.specs.Causes.{HasCause};
@@ -82,7 +82,9 @@ impl Source for MemorySource {
         ensures cause { HasCause self.old.faults self.new.faults result }
         ensures fails { IsErr result ↔ IsTrue (fails_next self.old.fails) }
         ensures rest { self.new.fails ≡ drop 1 self.old.fails }
-        ensures piece { OnOk result (self.new.faults ≡ self.old.faults) × (self.new.piece ≡ self.old.piece) }
+        ensures count { IfOk result (λ n. n ≡ min (min self.old.piece (length into.new)) (length self.old.left)) }
+        ensures quiet { OnOk result (self.new.faults ≡ self.old.faults) }
+        ensures piece { self.new.piece ≡ self.old.piece }
     {
         if self.fails_now() {
             self.faults = self.faults.saturating_add(1);

@@ -12,6 +12,7 @@ returns-in_default-clause-changes c =
       fails = search rules;
       cause = record { later = search rules; failed = search rules };
       listed = λ listed. refl;
+      quiet = tt;
       ok = tt;
       err = inr (search rules);
     })
