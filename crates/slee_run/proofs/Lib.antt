@@ -1,2 +1,4 @@
 pub mod WordLemmas
 pub mod TraceLemmas
+pub mod RunLemmas
+pub mod PlayLemmas

@@ -3,12 +3,15 @@
 
 mod command;
 mod laws;
+mod performing;
+mod playing;
 mod printing;
 mod status;
+mod top;
 mod words;
 
 pub use command::Command;
 pub use laws::{command_is_spelled, spelled_is_command};
-pub use printing::write_text;
 pub use status::{Given, Status};
+pub use top::run_one;
 pub use words::command_of;
