@@ -88,12 +88,12 @@ alone : (verb : List ℕ) (command : Command) → command_alone verb ≡ Some co
 alone verb command is = elim (either (bytes_eq verb (codes "check")) (Some commands.Check) shows command is) [
   | inl here ↦ as_word (codes "check") commands.Check here.0 here.1 refl refl
   | inr other ↦ elim (either (bytes_eq verb (codes "show")) (Some commands.Show) compacts command other) [
-      | inl here ↦ as_word (codes "show") commands.Show here.0 here.1 refl refl
-      | inr last ↦ elim (either (bytes_eq verb (codes "compact")) (Some commands.Compact) None command last) [
-          | inl here ↦ as_word (codes "compact") commands.Compact here.0 here.1 refl refl
-          | inr none ↦ cc
-        ]
+    | inl here ↦ as_word (codes "show") commands.Show here.0 here.1 refl refl
+    | inr last ↦ elim (either (bytes_eq verb (codes "compact")) (Some commands.Compact) None command last) [
+      | inl here ↦ as_word (codes "compact") commands.Compact here.0 here.1 refl refl
+      | inr none ↦ cc
     ]
+  ]
 ]
   where
     compacts : Option Command
@@ -148,15 +148,15 @@ two : (verb first second : List ℕ) (command : Command) → command_of_two verb
 two verb first second command is = elim (either (bytes_eq verb (codes "play")) (run commands.Play) resumes command is) [
   | inl here ↦ run_word (codes "play") commands.Play here.0 here.1 (λ m n. refl) (λ m n. refl)
   | inr other ↦ elim (either (bytes_eq verb (codes "resume")) (run commands.Resume) gens command other) [
-      | inl here ↦ run_word (codes "resume") commands.Resume here.0 here.1 (λ m n. refl) (λ m n. refl)
-      | inr another ↦ elim (either (bytes_eq verb (codes "gen")) (seed commands.Gen) trials command another) [
-          | inl here ↦ seed_word (codes "gen") commands.Gen here.0 here.1 (λ m n. refl) (λ m n. refl)
-          | inr last ↦ elim (either (bytes_eq verb (codes "trial")) (seed commands.Trial) None command last) [
-              | inl here ↦ seed_word (codes "trial") commands.Trial here.0 here.1 (λ m n. refl) (λ m n. refl)
-              | inr none ↦ cc
-            ]
-        ]
+    | inl here ↦ run_word (codes "resume") commands.Resume here.0 here.1 (λ m n. refl) (λ m n. refl)
+    | inr another ↦ elim (either (bytes_eq verb (codes "gen")) (seed commands.Gen) trials command another) [
+      | inl here ↦ seed_word (codes "gen") commands.Gen here.0 here.1 (λ m n. refl) (λ m n. refl)
+      | inr last ↦ elim (either (bytes_eq verb (codes "trial")) (seed commands.Trial) None command last) [
+        | inl here ↦ seed_word (codes "trial") commands.Trial here.0 here.1 (λ m n. refl) (λ m n. refl)
+        | inr none ↦ cc
+      ]
     ]
+  ]
 ]
   where
     run : (ℕ → ℕ → Command) → Option Command

@@ -8,12 +8,10 @@ ghost use Rattle.slee_run.specs.Words.{command_of, spelled, is_in_range};
 pub fn command_is_spelled()
     ensures spelled { (words : List (List ℕ)) (command : Command) → command_of words ≡ Some command → spelled command ≡ words }
     ensures in_range { (words : List (List ℕ)) (command : Command) → command_of words ≡ Some command → is_in_range command ≡ true }
-{
-}
+{}
 
 /// A command whose numbers are in range is asked by its spelling.
 #[tactic(auto, using(crate::proofs::WordLemmas::spelled_command))]
 pub fn spelled_is_command()
     ensures { (command : Command) → is_in_range command ≡ true → command_of (spelled command) ≡ Some command }
-{
-}
+{}

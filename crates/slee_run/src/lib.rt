@@ -15,3 +15,6 @@ pub use laws::{command_is_spelled, spelled_is_command};
 pub use status::{Given, Status};
 pub use top::run_one;
 pub use words::command_of;
+
+#[cfg(test)]
+mod tests;

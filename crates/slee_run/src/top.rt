@@ -7,9 +7,9 @@ ghost use Rattle.router_model.specs.State.{initial};
 ghost use Rattle.slee_run.specs.Words.{texts};
 ghost use Rattle.slee_run.specs.Headline.{IsLegalRun, IsComplete, Plays, signals_limit};
 
-use crate::{Given, Status};
 use crate::performing::perform;
 use crate::printing::write_text;
+use crate::{Given, Status};
 use slee_disk::{Disk, Sink, Source};
 use std::alloc::Global;
 
@@ -42,7 +42,7 @@ pub fn run_one<S: Source, T: Source, K: Sink, D: Disk>(
     ensures disk { result.1 ≡ disk }
 {
     let performed = perform(alloc, words, signals);
-    let status = match write_text(out, performed.history.as_slice(), performed.status) {
+    let status = match write_text(alloc, out, performed.history.as_slice(), performed.status) {
         Ok(()) => performed.status,
         Err(_) => Status::WriteFault,
     };

@@ -6,8 +6,11 @@ use crate::Command;
 use itoa::Buffer;
 
 const MOST_WORKERS: u64 = 64;
+
 const MOST_STEPS: u64 = 1_000_000;
+
 const MOST_SEED: u64 = 4_294_967_295;
+
 const MOST_LINES: u64 = 100_000;
 
 /// What the words ask, if they are of a form and their numbers in range.
