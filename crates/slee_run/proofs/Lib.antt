@@ -2,3 +2,4 @@ pub mod WordLemmas
 pub mod TraceLemmas
 pub mod RunLemmas
 pub mod PlayLemmas
+pub mod DeterminedLemmas

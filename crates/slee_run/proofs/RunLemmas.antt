@@ -32,13 +32,13 @@ told_out_of_memory base steps None history status none is = tt
 told_out_of_memory base steps (Some bytes) history status none is = out_of_memory base steps bytes history status none is
 
 -- bytes past the limit give no lines
-too_many : (bytes : List ℕ) → signals_limit < length bytes → lines_given bytes ≡ None
+pub too_many : (bytes : List ℕ) → signals_limit < length bytes → lines_given bytes ≡ None
 too_many bytes large = rw (past (length bytes) large) refl
   where
     past : (n : ℕ) → signals_limit < n → nat_le n signals_limit ≡ false
     past n large = grind (arith, nat_tests)
 
-not_lines : (bytes : List ℕ) → signals_of bytes ≡ None → lines_given bytes ≡ None
+pub not_lines : (bytes : List ℕ) → signals_of bytes ≡ None → lines_given bytes ≡ None
 not_lines bytes none = rw none (either (nat_le (length bytes) signals_limit))
   where
     no_lines : Option (List Signal)

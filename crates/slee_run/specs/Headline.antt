@@ -104,3 +104,14 @@ IsGood statuses.NotBuilt = ⊥
 abbrev pub IsComplete : List (List ℕ) → Option (List ℕ) → Type 0 → Status → Type 0
 IsComplete words told Faulted status =
     (steps : ℕ) → Plays words steps → IfSome told (λ bytes. is_some (lines_given bytes) ≡ true → (Faulted → ⊥) → IsGood status)
+
+-- a status that doesn't follow from the words and the bytes
+abbrev pub IsByFault : Status → Type 0
+IsByFault statuses.Ok = ⊥
+IsByFault statuses.BadWords = ⊥
+IsByFault statuses.ReadFault = Unit {0}
+IsByFault statuses.WriteFault = ⊥
+IsByFault (statuses.StepsSpent entries) = ⊥
+IsByFault statuses.NoMemory = Unit {0}
+IsByFault (statuses.TooLarge what) = ⊥
+IsByFault statuses.NotBuilt = ⊥

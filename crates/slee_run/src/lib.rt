@@ -11,7 +11,7 @@ mod top;
 mod words;
 
 pub use command::Command;
-pub use laws::{command_is_spelled, spelled_is_command};
+pub use laws::{command_is_spelled, run_is_determined, spelled_is_command};
 pub use status::{Given, Status};
 pub use top::run_one;
 pub use words::command_of;
