@@ -81,8 +81,8 @@ invite_read : (name address : List ℕ) → is_name name ≡ true → signal_of_
 invite_read name address is =
     ap signal_of_words (invite_words name (escaped true address) is (escaped_no_space address))
     ∙ chosen (is_name name && true) (option_map (invite_of name) (unescaped true (escaped true address))) None (Some (invite_of name address))
-      (and_from (is_name name) true is refl)
-      (ap (option_map (invite_of name)) (unescaped_back true address))
+    (and_from (is_name name) true is refl)
+    (ap (option_map (invite_of name)) (unescaped_back true address))
 
 words_read : (signal : Signal) → is_of_form signal ≡ true → signal_of_words (words_of (spelled signal)) ≡ Some signal
 words_read (Start name) is = start_words name is

@@ -54,7 +54,6 @@ escape_cut word (b ∷ []) byte long percent is = absurd (omega arith)
 escape_cut word (b ∷ h ∷ []) byte long percent is = absurd (omega arith)
 escape_cut word (b ∷ h ∷ l ∷ bs) byte long percent is = rw (take_rest (b ∷ h ∷ l ∷ bs) 3, is.1) (escape_read word b h l bs percent is.0)
 
-
 digit_back : (n : ℕ) → n < 16 → digit_value (hex_digit_of n) ≡ n
 digit_back n small = grind (arith, nat_tests)
 
@@ -167,8 +166,13 @@ first_character b bs high is = by is.0 is.1.0 is.1.1
     by (c ∷ cs) valid same = elim (cases_lt c 128) [
       | inl low ↦ let first : c ∷ encodes cs ≡ b ∷ bs = rw (encode_ascii c low) at same in let e : c ≡ b = cc in absurd (omega arith)
       | inr above ↦ record {
-          char = c; rest = encodes cs; valid = (and_parts (scalar c) (scalars cs) valid).0; high = above;
-          utf8 = (cs, ((and_parts (scalar c) (scalars cs) valid).1, refl)); parts = sym same }
+        char = c;
+        rest = encodes cs;
+        valid = (and_parts (scalar c) (scalars cs) valid).0;
+        high = above;
+        utf8 = (cs, ((and_parts (scalar c) (scalars cs) valid).1, refl));
+        parts = sym same;
+      }
     ]
 
 -- bytes from 128 on stand as they are

@@ -20,3 +20,6 @@ pub use reading::{read_line, read_signals};
 pub use signal::Signal;
 pub use signals::Signals;
 pub use unescaping::unescape;
+
+#[cfg(test)]
+mod tests;

@@ -29,7 +29,12 @@ fn write_signal(signal: &Signal, line: &mut Vec<u8>) -> Result<(), NoMemory>
             line.extend_from_slice(name.as_bytes())?;
             Ok(())
         }
-        Signal::Fire { name, event, service, fields } => {
+        Signal::Fire {
+            name,
+            event,
+            service,
+            fields,
+        } => {
             line.extend_from_slice(b"fire ")?;
             line.extend_from_slice(name.as_bytes())?;
             line.extend_from_slice(b" ")?;

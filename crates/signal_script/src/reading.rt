@@ -84,7 +84,13 @@ fn read_event(alloc: Global, verb: &str, name: &str, rest: &str) -> Result<Signa
     }
 }
 
-fn read_four(alloc: Global, verb: &str, name: &str, event: &str, field: &str) -> Result<Signal, SignalFault>
+fn read_four(
+    alloc: Global,
+    verb: &str,
+    name: &str,
+    event: &str,
+    field: &str,
+) -> Result<Signal, SignalFault>
     ensures ok { IfOk result (λ signal. signal_of_four verb.now name.now event.now field.now ≡ Some signal) }
     ensures not_built { IsErrOf result SignalFault.NotBuilt → signal_of_four verb.now name.now event.now field.now ≡ None }
 {

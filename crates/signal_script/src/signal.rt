@@ -8,9 +8,13 @@ use std::alloc::Global;
 #[derive(Debug, Drop)]
 pub enum Signal {
     /// An external activity starts.
-    Start { name: Name },
+    Start {
+        name: Name,
+    },
     /// An external activity ends.
-    End { name: Name },
+    End {
+        name: Name,
+    },
     /// An event is fired on an external activity, for one service alone where it names one.
     Fire {
         name: Name,
@@ -31,7 +35,12 @@ impl Signal {
             Signal::End { name } => Ok(Signal::End {
                 name: name.copy(alloc)?,
             }),
-            Signal::Fire { name, event, service, fields } => Ok(Signal::Fire {
+            Signal::Fire {
+                name,
+                event,
+                service,
+                fields,
+            } => Ok(Signal::Fire {
                 name: name.copy(alloc)?,
                 event: event.copy(alloc)?,
                 service: copy_service(service, alloc)?,

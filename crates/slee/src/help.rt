@@ -1,0 +1,42 @@
+//! What the program says of itself.
+
+pub const VERSION: &str = "slee 0.1\nproved with rattle-kit-13f logic dac8208d650f15bf\n";
+
+pub const HELP: &str = "slee: a service container after JAIN SLEE 1.1 (JSR 240)
+
+usage: slee WORDS
+
+  play 1 S   plays the signal lines of standard input with one worker, in at most
+             S entries (1 to 1000000), and prints the trace and a status line
+  --help     prints this text
+  --version  prints the version
+
+These forms are known and not built yet: check, show, compact, play W S and
+resume W S with W workers (1 to 64), gen SEED COUNT and trial SEED COUNT with a
+seed from 0 to 4294967295 and a count from 0 to 100000.
+
+Signal lines, each ended by a newline, at most 4096 bytes long, 16777216 in all:
+  start NAME                    an external activity of this name starts
+  fire NAME invite addr=VALUE   the event invite is fired on it
+  end NAME                      it ends
+A name is a lower-case letter and up to 63 lower-case letters, digits and
+underscores. In a value a space, a percent sign and a control byte are written
+as a percent sign and two upper-case hexadecimal digits, and no other byte is.
+
+The deployment is built in: the service prepaid, whose root block call says the
+address of each invite, and that the call is over. No file is read or written.
+
+Statuses, printed last and given as the exit status:
+  0 ok             all lines were taken, and no choice is left
+  2 bad-words      the words are of no form, or a number is out of range
+  3 read-fault     standard input failed
+  6 (none)         standard output failed; a front of the text is out
+  11 steps-spent N N entries were made and more would be left
+  12 no-memory     memory ran out
+  13 too-large signals
+                   standard input gave more than 16777216 bytes
+  14 not-built     the words or the lines ask what isn't built yet
+
+example:
+  printf 'start c1\\nfire c1 invite addr=tel:5551\\nend c1\\n' | slee play 1 100
+";

@@ -1,0 +1,76 @@
+//! The program: it makes the real source and sink, and calls the top call.
+#![tactic(auto)]
+
+mod help;
+
+use help::{HELP, VERSION};
+use slee_disk::{HostSink, HostSource, LateFile, MemoryDisk, write_whole};
+use slee_run::{Status, run_one};
+use slee_value::{Blob, NoMemory};
+use std::alloc::Global;
+use std::process::ExitCode;
+use std::{env, io};
+
+fn main(rt: HostRuntime) -> ExitCode {
+    let status = match words_of(&rt) {
+        Ok(words) => start(&rt, words.as_slice()),
+        Err(error) if error.kind() == io::ErrorKind::OutOfMemory => Status::NoMemory,
+        Err(_) => refuse(&rt),
+    };
+    ExitCode::from(status.code())
+}
+
+/// The words behind the program's name.
+fn words_of(rt: &HostRuntime) -> io::Result<Vec<String>> {
+    let mut words = Vec::new(rt.alloc());
+    for word in env::args(rt)?.skip(1) {
+        words.push(word)?;
+    }
+    Ok(words)
+}
+
+/// Words that are no text are of no form.
+fn refuse(rt: &HostRuntime) -> Status {
+    match run(rt, &[]) {
+        Ok(status) => status,
+        Err(NoMemory) => Status::NoMemory,
+    }
+}
+
+/// Does what the words say. Where no memory is found to begin with, nothing is printed.
+fn start(rt: &HostRuntime, words: &[String]) -> Status {
+    match words {
+        [word] if word.as_str() == "--help" => print(rt, HELP),
+        [word] if word.as_str() == "--version" => print(rt, VERSION),
+        _ => match run_words(rt, words) {
+            Ok(status) => status,
+            Err(NoMemory) => Status::NoMemory,
+        },
+    }
+}
+
+fn print(rt: &HostRuntime, text: &str) -> Status {
+    let mut out = HostSink::new(io::writer(rt));
+    match write_whole(&mut out, text.as_bytes()) {
+        Ok(()) => Status::Ok,
+        Err(_) => Status::WriteFault,
+    }
+}
+
+fn run_words(rt: &HostRuntime, words: &[String]) -> Result<Status, NoMemory> {
+    let mut list = Vec::new(rt.alloc());
+    for word in words {
+        list.push(word.as_str())?;
+    }
+    run(rt, list.as_slice())
+}
+
+fn run(rt: &HostRuntime, words: &[&str]) -> Result<Status, NoMemory> {
+    let alloc = rt.alloc();
+    let mut deploy = HostSource::new(LateFile::new(rt, "deploy.json"));
+    let mut signals = HostSource::new(rt.reader());
+    let mut out = HostSink::new(io::writer(rt));
+    let disk = MemoryDisk::new(alloc, Blob::new(alloc), Blob::new(alloc), Blob::new(alloc))?;
+    let (status, _disk) = run_one(alloc, words, &mut deploy, &mut signals, &mut out, disk);
+    Ok(status)
+}

@@ -1,0 +1,5 @@
+pub mod WordLemmas
+pub mod TraceLemmas
+pub mod RunLemmas
+pub mod PlayLemmas
+pub mod DeterminedLemmas

@@ -1,0 +1,20 @@
+//! The top call: it reads what the words ask for, plays it, and writes the trace and the status.
+#![tactic(auto)]
+
+mod command;
+mod laws;
+mod performing;
+mod playing;
+mod printing;
+mod status;
+mod top;
+mod words;
+
+pub use command::Command;
+pub use laws::{command_is_spelled, run_is_determined, spelled_is_command};
+pub use status::{Given, Status};
+pub use top::run_one;
+pub use words::command_of;
+
+#[cfg(test)]
+mod tests;

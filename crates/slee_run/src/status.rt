@@ -1,0 +1,48 @@
+/// Of which source something is said.
+#[derive(Clone, Copy, Debug, PartialEq, Eq)]
+pub enum Given {
+    Deploy,
+    Signals,
+}
+
+/// What a run came to.
+#[derive(Clone, Copy, Debug, PartialEq, Eq)]
+pub enum Status {
+    /// All is done.
+    Ok,
+    /// The words are of no form, or a number is out of range.
+    BadWords,
+    /// The deployment or the signals couldn't be read.
+    ReadFault,
+    /// The text couldn't be written whole.
+    WriteFault,
+    /// So many entries were made, as many as the words allow, and more would be left; or the state is used up.
+    StepsSpent { entries: u64 },
+    /// Memory ran out.
+    NoMemory,
+    /// A source gave more than its limit.
+    TooLarge { what: Given },
+    /// The words or the lines ask what isn't built yet.
+    NotBuilt,
+}
+
+impl Status {
+    ghost use Rattle.std.specs.Prelude.{◌≡◌};
+    ghost use Rattle.slee_run.specs.Status.{code_of};
+
+    /// The number that the process ends with.
+    pub fn code(self) -> u8
+        ensures { result ≡ code_of self }
+    {
+        match self {
+            Status::Ok => 0,
+            Status::BadWords => 2,
+            Status::ReadFault => 3,
+            Status::WriteFault => 6,
+            Status::StepsSpent { .. } => 11,
+            Status::NoMemory => 12,
+            Status::TooLarge { .. } => 13,
+            Status::NotBuilt => 14,
+        }
+    }
+}
