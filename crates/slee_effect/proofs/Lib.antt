@@ -6,3 +6,5 @@ pub mod OrderLemmas
 pub mod ThenLemmas
 pub mod PieceLemmas
 pub mod FieldLemmas
+pub mod EffectLemmas
+pub mod ListLemmas

@@ -18,6 +18,13 @@ use std::alloc::Global;
 
 /// The list of effects that the bytes are, all of them.
 pub fn read_effects(alloc: Global, bytes: &[u8]) -> Result<Effects, EffectFault>
+    // What is read is spelled so, each byte of it.
+    ensures found { IfOk result (λ e. FitEffects e × (bytes.now ≡ spelling_of_effects e)) }
+    // What is spelled so is read, unless memory runs out.
+    ensures only { (es : List EffectModel) → FitEffects es → bytes.now ≡ spelling_of_effects es → IsRead es result }
+    // A fault stands at the first byte that can't go on.
+    ensures place { IfErr result (λ e. StandsRight bytes.now e) }
+    // Which list or fault it is.
     ensures exact { Answers bytes.now result }
 {
     match list(alloc, bytes) {
