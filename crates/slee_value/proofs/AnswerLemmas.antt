@@ -38,17 +38,19 @@ place_is bytes f h e =
     let s = reads_value.stuck bytes f h e in
     let len : length bytes ≡ length s.front + length s.back = ap length s.parts ∙ length-append s.front s.back in
     let at : length bytes - f.left ≡ length s.front = omega (arith, s.left_is) in
-    let front : take (length bytes - f.left) bytes ≡ s.front = rw at (ap (take (length s.front)) s.parts ∙ take_at s.front s.back (length s.front) refl) in
-    (omega (arith, s.left_is), record {
-      within = omega arith;
-      begins = subst BeginsValue (sym front) s.begins;
-      ends = λ more. first_ends bytes s.front s.back (length bytes - f.left) at s.parts more s.ends;
-    })
+    let front : take (length bytes - f.left) bytes ≡ s.front = rw at (ap (take (length s.front)) s.parts ∙ take_at s.front s.back (length s.front) refl) in (
+      omega (arith, s.left_is),
+      record {
+        within = omega arith;
+        begins = subst BeginsValue (sym front) s.begins;
+        ends = λ more. first_ends bytes s.front s.back (length bytes - f.left) at s.parts more s.ends;
+      },
+    )
   where
-  first_ends : (bytes front back : List ℕ) (at : ℕ) → at ≡ length front → bytes ≡ front ++ back → at < length bytes → ((b : ℕ) (more : List ℕ) → back ≡ b ∷ more → ¬ (Begins spelling_of_value Fits (front ++ b ∷ []))) → ¬ (BeginsValue (take (at + 1) bytes))
-  first_ends bytes front [] at e parts more ends = absurd (omega (arith, ap length parts, length-append front []))
-  first_ends bytes front (b ∷ back) at e parts more ends =
-      let whole : bytes ≡ (front ++ b ∷ []) ++ back = parts ∙ sym (append_assoc front (b ∷ []) back) in
-      let len : length (front ++ b ∷ []) ≡ at + 1 = omega (arith, length-append front (b ∷ [])) in
-      let cut : take (at + 1) bytes ≡ front ++ b ∷ [] = ap (take (at + 1)) whole ∙ take_at (front ++ b ∷ []) back (at + 1) len in
-      subst (λ (t : List ℕ). ¬ (BeginsValue t)) (sym cut) (ends b back refl)
+    first_ends : (bytes front back : List ℕ) (at : ℕ) → at ≡ length front → bytes ≡ front ++ back → at < length bytes → ((b : ℕ) (more : List ℕ) → back ≡ b ∷ more → ¬ (Begins spelling_of_value Fits (front ++ b ∷ []))) → ¬ (BeginsValue (take (at + 1) bytes))
+    first_ends bytes front [] at e parts more ends = absurd (omega (arith, ap length parts, length-append front []))
+    first_ends bytes front (b ∷ back) at e parts more ends =
+        let whole : bytes ≡ (front ++ b ∷ []) ++ back = parts ∙ sym (append_assoc front (b ∷ []) back) in
+        let len : length (front ++ b ∷ []) ≡ at + 1 = omega (arith, length-append front (b ∷ [])) in
+        let cut : take (at + 1) bytes ≡ front ++ b ∷ [] = ap (take (at + 1)) whole ∙ take_at (front ++ b ∷ []) back (at + 1) len in
+        subst (λ (t : List ℕ). ¬ (BeginsValue t)) (sym cut) (ends b back refl)

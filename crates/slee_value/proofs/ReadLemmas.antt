@@ -109,6 +109,13 @@ pub record ReadsBy {A : Type 0} (spell : A → List ℕ) (fits loose : A → Typ
 abbrev pub Reads : {A : Type 0} → (A → List ℕ) → (A → Type 0) → (List ℕ → Part A) → Type 0
 Reads spell fits = ReadsBy spell fits fits
 
+-- things that fit have one spelling, and none is a front of another's
+pub one_spelling : {A : Type 0} (spell : A → List ℕ) (fits loose : A → Type 0) (read : List ℕ → Part A) → ReadsBy spell fits loose read → (x y : A) (r q : List ℕ) → fits x → fits y → spell x ++ r ≡ spell y ++ q → (x ≡ y) × (r ≡ q)
+one_spelling {A} spell fits loose read reads x y r q f g e =
+    let both : done (x, r) ≡ done (y, q) = sym (reads.again x r f) ∙ ap read e ∙ reads.again y q g in
+    let same = ok_is (x, r) (y, q) both in
+    (ap (λ (p : A × List ℕ). p.0) same, ap (λ (p : A × List ℕ). p.1) same)
+
 -- ---- what is read, made into something else
 
 pub reads_mapped : {A B : Type 0} (make : A → B) (part : B → A) (spell : A → List ℕ) (fits : A → Type 0) (spell' : B → List ℕ) (fits' : B → Type 0) (read : List ℕ → Part A)
@@ -126,13 +133,13 @@ reads_mapped {A} {B} make part spell fits spell' fits' read spells fit spells' f
   stuck = λ bytes f h e.
       elim (bind_err (read bytes) (λ (p : A × List ℕ). Ok (make p.0, p.1)) f e) [
         | inl d ↦ (let s = reads.stuck bytes f h d in record {
-            front = s.front;
-            back = s.back;
-            parts = s.parts;
-            left_is = s.left_is;
-            begins = (make s.begins.0, s.begins.1, fit s.begins.0 s.begins.2, spells s.begins.0 s.begins.2 ∙ s.begins.3);
-            ends = λ b more k q. s.ends b more k (part q.0, q.1, fit' q.0 q.2, spells' q.0 q.2 ∙ q.3);
-          })
+          front = s.front;
+          back = s.back;
+          parts = s.parts;
+          left_is = s.left_is;
+          begins = (make s.begins.0, s.begins.1, fit s.begins.0 s.begins.2, spells s.begins.0 s.begins.2 ∙ s.begins.3);
+          ends = λ b more k q. s.ends b more k (part q.0, q.1, fit' q.0 q.2, spells' q.0 q.2 ∙ q.3);
+        })
         | inr d ↦ absurd cc
       ];
   some = (make reads.some.0, reads.some.1, fit reads.some.0 reads.some.2, spells reads.some.0 reads.some.2 ∙ reads.some.3);
@@ -208,9 +215,9 @@ module _ {A B : Type 0} (sa : A → List ℕ) (fa la : A → Type 0) (ra : List 
         elim (bind_err (ra bytes) second f e) [
           | inl d ↦ pair_first bytes f h d
           | inr p ↦ (elim (bind_err (rb p.0.1) (λ (y : B × List ℕ). Ok ((p.0.0, y.0), y.1)) f p.2) [
-              | inl d ↦ pair_second bytes f p.0 h p.1 d
-              | inr q ↦ absurd cc
-            ])
+            | inl d ↦ pair_second bytes f p.0 h p.1 d
+            | inr q ↦ absurd cc
+          ])
         ];
     some = (let x = one.some in let y = other.some in ((x.0, y.0), sa x.0 ++ sb y.0, (x.2, y.2), refl));
     bytes = λ x f. bytes_append (sa x.0) (sb x.1) (one.bytes x.0 f.0) (other.bytes x.1 f.1);
@@ -253,19 +260,19 @@ module _ {A C : Type 0} (spell : C → List ℕ) (fits loose : C → Type 0) (re
   case_stuck again are_bytes bytes f h e =
       elim (bind_err (body bytes) made f (sym (is.reads bytes) ∙ e)) [
         | inl d ↦ (let s = reads.stuck bytes f h.1 d in record {
-            front = tag ∷ s.front;
-            back = s.back;
-            parts = ap (λ (z : List ℕ). tag ∷ z) s.parts;
-            left_is = s.left_is;
-            begins = (make s.begins.0, s.begins.1, is.loosens s.begins.0 s.begins.2, is.spells s.begins.0 ∙ ap (λ (z : List ℕ). tag ∷ z) s.begins.3);
-            ends = λ b more k q.
-                let t : List ℕ = (s.front ++ b ∷ []) ++ q.1 in
-                let one : read (tag ∷ t) ≡ Ok (q.0, []) = ap read (sym (append-nil (spell q.0) ∙ q.3)) ∙ again q.0 [] q.2 in
-                let p = bind_ok (body t) made (q.0, []) (sym (is.reads t) ∙ one) in
-                let u = reads.takes t p.0 (subst AreBytes q.3 (are_bytes q.0 q.2)).1 p.1 in
-                let nothing : p.0.1 ≡ [] = ap (λ (z : C × List ℕ). z.1) (ok_is (make p.0.0, p.0.1) (q.0, []) p.2) in
-                s.ends b more k (p.0.0, q.1, u.1, sym (u.0.parts ∙ ap (λ (z : List ℕ). spell' p.0.0 ++ z) nothing ∙ append-nil (spell' p.0.0)));
-          })
+          front = tag ∷ s.front;
+          back = s.back;
+          parts = ap (λ (z : List ℕ). tag ∷ z) s.parts;
+          left_is = s.left_is;
+          begins = (make s.begins.0, s.begins.1, is.loosens s.begins.0 s.begins.2, is.spells s.begins.0 ∙ ap (λ (z : List ℕ). tag ∷ z) s.begins.3);
+          ends = λ b more k q.
+              let t : List ℕ = (s.front ++ b ∷ []) ++ q.1 in
+              let one : read (tag ∷ t) ≡ Ok (q.0, []) = ap read (sym (append-nil (spell q.0) ∙ q.3)) ∙ again q.0 [] q.2 in
+              let p = bind_ok (body t) made (q.0, []) (sym (is.reads t) ∙ one) in
+              let u = reads.takes t p.0 (subst AreBytes q.3 (are_bytes q.0 q.2)).1 p.1 in
+              let nothing : p.0.1 ≡ [] = ap (λ (z : C × List ℕ). z.1) (ok_is (make p.0.0, p.0.1) (q.0, []) p.2) in
+              s.ends b more k (p.0.0, q.1, u.1, sym (u.0.parts ∙ ap (λ (z : List ℕ). spell' p.0.0 ++ z) nothing ∙ append-nil (spell' p.0.0)));
+        })
         | inr d ↦ absurd cc
       ]
 
@@ -284,8 +291,8 @@ module _ {C : Type 0} (spell : C → List ℕ) (fits loose : C → Type 0) (read
         not_both (read (tag ∷ q.1)) (q.0, []) (fails q.1).0 one (fails q.1).1;
   }
     where
-    same_head : (b tag : ℕ) (more bytes : List ℕ) → b ∷ more ≡ tag ∷ bytes → b ≡ tag
-    same_head b tag more bytes e = cc
+      same_head : (b tag : ℕ) (more bytes : List ℕ) → b ∷ more ≡ tag ∷ bytes → b ≡ tag
+      same_head b tag more bytes e = cc
 
   -- the bytes end before the first byte
   pub no_bytes : Begins spell loose [] → IsStuckBy spell fits loose [] 0

@@ -25,10 +25,10 @@ NoText part = (text rest : List ℕ) → IsUtf8 text → 0 < length text → par
 zeros_are_text : (n : ℕ) → IsUtf8 (replicate n 0)
 zeros_are_text n = IsUtf8-from_ascii (replicate n 0) (ascii n)
   where
-  ascii : (n : ℕ) → IsAscii (replicate n 0)
-  ascii zero i = omega arith
-  ascii (suc n) zero = omega arith
-  ascii (suc n) (suc i) = ascii n i
+    ascii : (n : ℕ) → IsAscii (replicate n 0)
+    ascii zero i = omega arith
+    ascii (suc n) zero = omega arith
+    ascii (suc n) (suc i) = ascii n i
 
 -- a text, and zeros behind it
 pub filled : (front : List ℕ) (room : ℕ) → IsUtf8 front → length front ≤ room → (rest : List ℕ) × IsUtf8 (front ++ rest) × (length (front ++ rest) ≡ room)
@@ -211,16 +211,16 @@ cut_two a [] room l h r free = rw (wrong_one a l (omega arith)) (record {
 })
 cut_two a (b ∷ ps) room l h r free = by (sec a b) refl
   where
-  by : (t : Bool) → sec a b ≡ t → Cut (a ∷ b ∷ ps) room (utf8_invalid_len (a ∷ b ∷ ps))
-  by true s = absurd (free (a ∷ b ∷ []) ps (two_is_text a b (record { low = l; high = h; second = (sec_true a b s).follows })) (omega arith) refl)
-  by false s = rw (wrong_second a b ps l (omega arith) s) (record {
-    within = omega arith;
-    begins = one_begins a (b ∷ ps) room (128 ∷ []) (two_is_text a 128 (record { low = l; high = h; second = (omega arith, omega arith) })) r;
-    ends = λ more text rest u len e.
-        let st = starts_two a text (b ∷ rest) l h (head_at a text (b ∷ rest) u e) e in
-        let q : st.b ≡ b = cc (st.split, e) in
-        sec_false a b s (record { follows = subst Follows q st.is.second; after_224 = λ k. absurd (omega arith); after_237 = λ k. absurd (omega arith); after_240 = λ k. absurd (omega arith); after_244 = λ k. absurd (omega arith) });
-  })
+    by : (t : Bool) → sec a b ≡ t → Cut (a ∷ b ∷ ps) room (utf8_invalid_len (a ∷ b ∷ ps))
+    by true s = absurd (free (a ∷ b ∷ []) ps (two_is_text a b (record { low = l; high = h; second = (sec_true a b s).follows })) (omega arith) refl)
+    by false s = rw (wrong_second a b ps l (omega arith) s) (record {
+      within = omega arith;
+      begins = one_begins a (b ∷ ps) room (128 ∷ []) (two_is_text a 128 (record { low = l; high = h; second = (omega arith, omega arith) })) r;
+      ends = λ more text rest u len e.
+          let st = starts_two a text (b ∷ rest) l h (head_at a text (b ∷ rest) u e) e in
+          let q : st.b ≡ b = cc (st.split, e) in
+          sec_false a b s (record { follows = subst Follows q st.is.second; after_224 = λ k. absurd (omega arith); after_237 = λ k. absurd (omega arith); after_240 = λ k. absurd (omega arith); after_244 = λ k. absurd (omega arith) });
+    })
 
 -- of a first byte of three
 cut_three : (a : ℕ) (ps : List ℕ) (room : ℕ) → 224 ≤ a → a < 240 → 3 ≤ room → NoText (a ∷ ps) → Cut (a ∷ ps) room (utf8_invalid_len (a ∷ ps))
@@ -231,32 +231,32 @@ cut_three a [] room l h r free = rw (wrong_one a (omega arith) (omega arith)) (r
 })
 cut_three a (b ∷ ps) room l h r free = by ps (sec a b) refl free
   where
-  by : (ps : List ℕ) (t : Bool) → sec a b ≡ t → NoText (a ∷ b ∷ ps) → Cut (a ∷ b ∷ ps) room (utf8_invalid_len (a ∷ b ∷ ps))
-  by ps false s free = rw (wrong_second a b ps (omega arith) (omega arith) s) (record {
-    within = omega arith;
-    begins = one_begins a (b ∷ ps) room (pick a ∷ 128 ∷ []) (three_is_text a (pick a) 128 (record { low = l; high = h; second = pick_second a; third = (omega arith, omega arith) })) r;
-    ends = λ more text rest u len e.
-        let st = starts_three a text (b ∷ rest) l h (head_at a text (b ∷ rest) u e) e in
-        let q : st.b ≡ b = cc (st.split, e) in
-        sec_false a b s (subst (Second a) q st.is.second);
-  })
-  by [] true s free = rw (wrong_two a b (omega arith) (omega arith) s) (record {
-    within = omega arith;
-    begins = two_begins a b [] room (128 ∷ []) (three_is_text a b 128 (record { low = l; high = h; second = sec_true a b s; third = (omega arith, omega arith) })) r;
-    ends = λ more. absurd (omega arith);
-  })
-  by (d ∷ ps) true s free = at (third d) refl
-    where
-    at : (t : Bool) → third d ≡ t → Cut (a ∷ b ∷ d ∷ ps) room (utf8_invalid_len (a ∷ b ∷ d ∷ ps))
-    at true t = absurd (free (a ∷ b ∷ d ∷ []) ps (three_is_text a b d (record { low = l; high = h; second = sec_true a b s; third = third_true d t })) (omega arith) refl)
-    at false t = rw (wrong_third a b d ps (omega arith) (omega arith) s t) (record {
+    by : (ps : List ℕ) (t : Bool) → sec a b ≡ t → NoText (a ∷ b ∷ ps) → Cut (a ∷ b ∷ ps) room (utf8_invalid_len (a ∷ b ∷ ps))
+    by ps false s free = rw (wrong_second a b ps (omega arith) (omega arith) s) (record {
       within = omega arith;
-      begins = two_begins a b (d ∷ ps) room (128 ∷ []) (three_is_text a b 128 (record { low = l; high = h; second = sec_true a b s; third = (omega arith, omega arith) })) r;
+      begins = one_begins a (b ∷ ps) room (pick a ∷ 128 ∷ []) (three_is_text a (pick a) 128 (record { low = l; high = h; second = pick_second a; third = (omega arith, omega arith) })) r;
       ends = λ more text rest u len e.
-          let st = starts_three a text (b ∷ d ∷ rest) l h (head_at a text (b ∷ d ∷ rest) u e) e in
-          let q : st.d ≡ d = cc (st.split, e) in
-          third_false d t (subst Follows q st.is.third);
+          let st = starts_three a text (b ∷ rest) l h (head_at a text (b ∷ rest) u e) e in
+          let q : st.b ≡ b = cc (st.split, e) in
+          sec_false a b s (subst (Second a) q st.is.second);
     })
+    by [] true s free = rw (wrong_two a b (omega arith) (omega arith) s) (record {
+      within = omega arith;
+      begins = two_begins a b [] room (128 ∷ []) (three_is_text a b 128 (record { low = l; high = h; second = sec_true a b s; third = (omega arith, omega arith) })) r;
+      ends = λ more. absurd (omega arith);
+    })
+    by (d ∷ ps) true s free = at (third d) refl
+      where
+        at : (t : Bool) → third d ≡ t → Cut (a ∷ b ∷ d ∷ ps) room (utf8_invalid_len (a ∷ b ∷ d ∷ ps))
+        at true t = absurd (free (a ∷ b ∷ d ∷ []) ps (three_is_text a b d (record { low = l; high = h; second = sec_true a b s; third = third_true d t })) (omega arith) refl)
+        at false t = rw (wrong_third a b d ps (omega arith) (omega arith) s t) (record {
+          within = omega arith;
+          begins = two_begins a b (d ∷ ps) room (128 ∷ []) (three_is_text a b 128 (record { low = l; high = h; second = sec_true a b s; third = (omega arith, omega arith) })) r;
+          ends = λ more text rest u len e.
+              let st = starts_three a text (b ∷ d ∷ rest) l h (head_at a text (b ∷ d ∷ rest) u e) e in
+              let q : st.d ≡ d = cc (st.split, e) in
+              third_false d t (subst Follows q st.is.third);
+        })
 
 -- of a first byte of four
 cut_four : (a : ℕ) (ps : List ℕ) (room : ℕ) → 240 ≤ a → a < 245 → 4 ≤ room → NoText (a ∷ ps) → Cut (a ∷ ps) room (utf8_invalid_len (a ∷ ps))
@@ -267,44 +267,44 @@ cut_four a [] room l h r free = rw (wrong_one a (omega arith) h) (record {
 })
 cut_four a (b ∷ ps) room l h r free = by ps (sec a b) refl free
   where
-  by : (ps : List ℕ) (t : Bool) → sec a b ≡ t → NoText (a ∷ b ∷ ps) → Cut (a ∷ b ∷ ps) room (utf8_invalid_len (a ∷ b ∷ ps))
-  by ps false s free = rw (wrong_second a b ps (omega arith) h s) (record {
-    within = omega arith;
-    begins = one_begins a (b ∷ ps) room (pick a ∷ 128 ∷ 128 ∷ []) (four_is_text a (pick a) 128 128 (record { low = l; high = h; second = pick_second a; third = (omega arith, omega arith); fourth = (omega arith, omega arith) })) r;
-    ends = λ more text rest u len e.
-        let st = starts_four a text (b ∷ rest) l h (head_at a text (b ∷ rest) u e) e in
-        let q : st.b ≡ b = cc (st.split, e) in
-        sec_false a b s (subst (Second a) q st.is.second);
-  })
-  by [] true s free = rw (wrong_two a b (omega arith) h s) (record {
-    within = omega arith;
-    begins = two_begins a b [] room (128 ∷ 128 ∷ []) (four_is_text a b 128 128 (record { low = l; high = h; second = sec_true a b s; third = (omega arith, omega arith); fourth = (omega arith, omega arith) })) r;
-    ends = λ more. absurd (omega arith);
-  })
-  by (d ∷ ps) true s free = at ps (third d) refl free
-    where
-    at : (ps : List ℕ) (t : Bool) → third d ≡ t → NoText (a ∷ b ∷ d ∷ ps) → Cut (a ∷ b ∷ d ∷ ps) room (utf8_invalid_len (a ∷ b ∷ d ∷ ps))
-    at ps false t free = rw (wrong_third a b d ps (omega arith) h s t) (record {
+    by : (ps : List ℕ) (t : Bool) → sec a b ≡ t → NoText (a ∷ b ∷ ps) → Cut (a ∷ b ∷ ps) room (utf8_invalid_len (a ∷ b ∷ ps))
+    by ps false s free = rw (wrong_second a b ps (omega arith) h s) (record {
       within = omega arith;
-      begins = two_begins a b (d ∷ ps) room (128 ∷ 128 ∷ []) (four_is_text a b 128 128 (record { low = l; high = h; second = sec_true a b s; third = (omega arith, omega arith); fourth = (omega arith, omega arith) })) r;
+      begins = one_begins a (b ∷ ps) room (pick a ∷ 128 ∷ 128 ∷ []) (four_is_text a (pick a) 128 128 (record { low = l; high = h; second = pick_second a; third = (omega arith, omega arith); fourth = (omega arith, omega arith) })) r;
       ends = λ more text rest u len e.
-          let st = starts_four a text (b ∷ d ∷ rest) l h (head_at a text (b ∷ d ∷ rest) u e) e in
-          let q : st.d ≡ d = cc (st.split, e) in
-          third_false d t (subst Follows q st.is.third);
+          let st = starts_four a text (b ∷ rest) l h (head_at a text (b ∷ rest) u e) e in
+          let q : st.b ≡ b = cc (st.split, e) in
+          sec_false a b s (subst (Second a) q st.is.second);
     })
-    at [] true t free = rw (wrong_three a b d (omega arith) h s t) (record {
+    by [] true s free = rw (wrong_two a b (omega arith) h s) (record {
       within = omega arith;
-      begins = three_begins a b d [] room (128 ∷ []) (four_is_text a b d 128 (record { low = l; high = h; second = sec_true a b s; third = third_true d t; fourth = (omega arith, omega arith) })) r;
+      begins = two_begins a b [] room (128 ∷ 128 ∷ []) (four_is_text a b 128 128 (record { low = l; high = h; second = sec_true a b s; third = (omega arith, omega arith); fourth = (omega arith, omega arith) })) r;
       ends = λ more. absurd (omega arith);
     })
-    at (e ∷ ps) true t free = rw (wrong_fourth a b d e ps (omega arith) h s t) (record {
-      within = omega arith;
-      begins = three_begins a b d (e ∷ ps) room (128 ∷ []) (four_is_text a b d 128 (record { low = l; high = h; second = sec_true a b s; third = third_true d t; fourth = (omega arith, omega arith) })) r;
-      ends = λ more text rest u len q.
-          let st = starts_four a text (b ∷ d ∷ e ∷ rest) l h (head_at a text (b ∷ d ∷ e ∷ rest) u q) q in
-          let k : st.e ≡ e = cc (st.split, q) in
-          free (a ∷ b ∷ d ∷ e ∷ []) ps (four_is_text a b d e (record { low = l; high = h; second = sec_true a b s; third = third_true d t; fourth = subst Follows k st.is.fourth })) (omega arith) refl;
-    })
+    by (d ∷ ps) true s free = at ps (third d) refl free
+      where
+        at : (ps : List ℕ) (t : Bool) → third d ≡ t → NoText (a ∷ b ∷ d ∷ ps) → Cut (a ∷ b ∷ d ∷ ps) room (utf8_invalid_len (a ∷ b ∷ d ∷ ps))
+        at ps false t free = rw (wrong_third a b d ps (omega arith) h s t) (record {
+          within = omega arith;
+          begins = two_begins a b (d ∷ ps) room (128 ∷ 128 ∷ []) (four_is_text a b 128 128 (record { low = l; high = h; second = sec_true a b s; third = (omega arith, omega arith); fourth = (omega arith, omega arith) })) r;
+          ends = λ more text rest u len e.
+              let st = starts_four a text (b ∷ d ∷ rest) l h (head_at a text (b ∷ d ∷ rest) u e) e in
+              let q : st.d ≡ d = cc (st.split, e) in
+              third_false d t (subst Follows q st.is.third);
+        })
+        at [] true t free = rw (wrong_three a b d (omega arith) h s t) (record {
+          within = omega arith;
+          begins = three_begins a b d [] room (128 ∷ []) (four_is_text a b d 128 (record { low = l; high = h; second = sec_true a b s; third = third_true d t; fourth = (omega arith, omega arith) })) r;
+          ends = λ more. absurd (omega arith);
+        })
+        at (e ∷ ps) true t free = rw (wrong_fourth a b d e ps (omega arith) h s t) (record {
+          within = omega arith;
+          begins = three_begins a b d (e ∷ ps) room (128 ∷ []) (four_is_text a b d 128 (record { low = l; high = h; second = sec_true a b s; third = third_true d t; fourth = (omega arith, omega arith) })) r;
+          ends = λ more text rest u len q.
+              let st = starts_four a text (b ∷ d ∷ e ∷ rest) l h (head_at a text (b ∷ d ∷ e ∷ rest) u q) q in
+              let k : st.e ≡ e = cc (st.split, q) in
+              free (a ∷ b ∷ d ∷ e ∷ []) ps (four_is_text a b d e (record { low = l; high = h; second = sec_true a b s; third = third_true d t; fourth = subst Follows k st.is.fourth })) (omega arith) refl;
+        })
 
 -- how many bytes are good of a part that no text begins
 abbrev pub part_good : ℕ → List ℕ → ℕ
@@ -315,19 +315,19 @@ cut_by a ps room free (inl h) _ _ _ _ = absurd (free (a ∷ []) ps (one_is_text 
 cut_by a ps room free (inr l) (inl h) _ _ _ = rw (char_len_low a l h) (cut_none a ps room (λ text rest u len e. low_first a text rest l h (head_at a text rest u e) e))
 cut_by a ps room free _ (inr l) (inl h) _ _ = rw (char_len_two a l h) (by (cases_lt room 2))
   where
-  by : (room < 2) ⊎ (2 ≤ room) → Cut (a ∷ ps) room (cond (ltb room 2) 0 (utf8_invalid_len (a ∷ ps)))
-  by (inl r) = rw (lt-ltb room 2 r) (cut_none a ps room (λ text rest u len e. let st = starts_two a text rest l h (head_at a text rest u e) e in omega (arith, ap length st.split)))
-  by (inr r) = rw (le-ltb room 2 r) (cut_two a ps room l h r free)
+    by : (room < 2) ⊎ (2 ≤ room) → Cut (a ∷ ps) room (cond (ltb room 2) 0 (utf8_invalid_len (a ∷ ps)))
+    by (inl r) = rw (lt-ltb room 2 r) (cut_none a ps room (λ text rest u len e. let st = starts_two a text rest l h (head_at a text rest u e) e in omega (arith, ap length st.split)))
+    by (inr r) = rw (le-ltb room 2 r) (cut_two a ps room l h r free)
 cut_by a ps room free _ _ (inr l) (inl h) _ = rw (char_len_three a l h) (by (cases_lt room 3))
   where
-  by : (room < 3) ⊎ (3 ≤ room) → Cut (a ∷ ps) room (cond (ltb room 3) 0 (utf8_invalid_len (a ∷ ps)))
-  by (inl r) = rw (lt-ltb room 3 r) (cut_none a ps room (λ text rest u len e. let st = starts_three a text rest l h (head_at a text rest u e) e in omega (arith, ap length st.split)))
-  by (inr r) = rw (le-ltb room 3 r) (cut_three a ps room l h r free)
+    by : (room < 3) ⊎ (3 ≤ room) → Cut (a ∷ ps) room (cond (ltb room 3) 0 (utf8_invalid_len (a ∷ ps)))
+    by (inl r) = rw (lt-ltb room 3 r) (cut_none a ps room (λ text rest u len e. let st = starts_three a text rest l h (head_at a text rest u e) e in omega (arith, ap length st.split)))
+    by (inr r) = rw (le-ltb room 3 r) (cut_three a ps room l h r free)
 cut_by a ps room free _ _ _ (inr l) (inl h) = rw (char_len_four a l h) (by (cases_lt room 4))
   where
-  by : (room < 4) ⊎ (4 ≤ room) → Cut (a ∷ ps) room (cond (ltb room 4) 0 (utf8_invalid_len (a ∷ ps)))
-  by (inl r) = rw (lt-ltb room 4 r) (cut_none a ps room (λ text rest u len e. let st = starts_four a text rest l h (head_at a text rest u e) e in omega (arith, ap length st.split)))
-  by (inr r) = rw (le-ltb room 4 r) (cut_four a ps room l h r free)
+    by : (room < 4) ⊎ (4 ≤ room) → Cut (a ∷ ps) room (cond (ltb room 4) 0 (utf8_invalid_len (a ∷ ps)))
+    by (inl r) = rw (lt-ltb room 4 r) (cut_none a ps room (λ text rest u len e. let st = starts_four a text rest l h (head_at a text rest u e) e in omega (arith, ap length st.split)))
+    by (inr r) = rw (le-ltb room 4 r) (cut_four a ps room l h r free)
 cut_by a ps room free _ _ _ _ (inr l) = rw (char_len_high a l) (cut_none a ps room (λ text rest u len e. high_first a text rest l (head_at a text rest u e) e))
 
 pub cut_of : (a : ℕ) (ps : List ℕ) (room : ℕ) → NoText (a ∷ ps) → Cut (a ∷ ps) room (part_good room (a ∷ ps))

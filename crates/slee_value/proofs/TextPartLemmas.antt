@@ -53,7 +53,7 @@ text_again text rest f =
     let front : text ≡ take (length text) (text ++ rest) = sym (take_at text rest (length text) refl) in
     let fine : text_fault (length text) (text ++ rest) ≡ None = text_whole (length text) text (text ++ rest) front f.utf8 (omega (arith, length-append text rest)) in
     ap text_at grouped ∙ ap (λ (r : Part ℕ). r >>= λ n. unless_fault (text_fault n.0 n.1) (take n.0 n.1, drop n.0 n.1)) (reads_u32.again (length text) (text ++ rest) f.short)
-      ∙ rw (fine, take_at text rest (length text) refl, drop_at text rest (length text) refl) refl
+    ∙ rw (fine, take_at text rest (length text) refl, drop_at text rest (length text) refl) refl
 
 text_some : Begins spelled_text FitsText []
 text_some = ([], 0 ∷ 0 ∷ 0 ∷ 0 ∷ [], record { utf8 = IsUtf8-nil; short = omega arith }, refl)
@@ -94,30 +94,31 @@ valid_front : (bytes : List ℕ) (n : ℕ) → IsUtf8 (take (valid_len_up_to byt
 valid_front bytes zero = IsUtf8-nil
 valid_front bytes (suc n) = by (valid_front bytes n) (is_utf8 (take (suc n) bytes)) refl
   where
-  by : IsUtf8 (take (valid_len_up_to bytes n) bytes) → (t : Bool) → is_utf8 (take (suc n) bytes) ≡ t → IsUtf8 (take (cond t (suc n) (valid_len_up_to bytes n)) bytes)
-  by before true e = IsUtf8-from_is_utf8 (take (suc n) bytes) e
-  by before false e = before
+    by : IsUtf8 (take (valid_len_up_to bytes n) bytes) → (t : Bool) → is_utf8 (take (suc n) bytes) ≡ t → IsUtf8 (take (cond t (suc n) (valid_len_up_to bytes n)) bytes)
+    by before true e = IsUtf8-from_is_utf8 (take (suc n) bytes) e
+    by before false e = before
 
 valid_le : (bytes : List ℕ) (n : ℕ) → valid_len_up_to bytes n ≤ n
 valid_le bytes zero = omega arith
 valid_le bytes (suc n) = by (valid_le bytes n) (is_utf8 (take (suc n) bytes))
   where
-  by : valid_len_up_to bytes n ≤ n → (t : Bool) → cond t (suc n) (valid_len_up_to bytes n) ≤ suc n
-  by before true = omega arith
-  by before false = omega arith
+    by : valid_len_up_to bytes n ≤ n → (t : Bool) → cond t (suc n) (valid_len_up_to bytes n) ≤ suc n
+    by before true = omega arith
+    by before false = omega arith
 
 valid_longest : (bytes : List ℕ) (n m : ℕ) → valid_len_up_to bytes n < m → m ≤ n → ¬ (IsUtf8 (take m bytes))
 valid_longest bytes zero m l h = absurd (omega arith)
 valid_longest bytes (suc n) m l h = by (λ p q. valid_longest bytes n m p q) (is_utf8 (take (suc n) bytes)) refl l
   where
-  top : is_utf8 (take (suc n) bytes) ≡ false → m ≡ suc n → ¬ (IsUtf8 (take m bytes))
-  top e k u = true_false (is_utf8 (take (suc n) bytes)) (is_utf8-from_IsUtf8 (take (suc n) bytes) (subst (λ (j : ℕ). IsUtf8 (take j bytes)) k u)) e
-  by : (valid_len_up_to bytes n < m → m ≤ n → ¬ (IsUtf8 (take m bytes))) → (t : Bool) → is_utf8 (take (suc n) bytes) ≡ t → cond t (suc n) (valid_len_up_to bytes n) < m → ¬ (IsUtf8 (take m bytes))
-  by before true e k = absurd (omega arith)
-  by before false e k = elim (cases_lt m (suc n)) [
-    | inl q ↦ before k (omega arith)
-    | inr q ↦ top e (omega arith)
-  ]
+    top : is_utf8 (take (suc n) bytes) ≡ false → m ≡ suc n → ¬ (IsUtf8 (take m bytes))
+    top e k u = true_false (is_utf8 (take (suc n) bytes)) (is_utf8-from_IsUtf8 (take (suc n) bytes) (subst (λ (j : ℕ). IsUtf8 (take j bytes)) k u)) e
+
+    by : (valid_len_up_to bytes n < m → m ≤ n → ¬ (IsUtf8 (take m bytes))) → (t : Bool) → is_utf8 (take (suc n) bytes) ≡ t → cond t (suc n) (valid_len_up_to bytes n) < m → ¬ (IsUtf8 (take m bytes))
+    by before true e k = absurd (omega arith)
+    by before false e k = elim (cases_lt m (suc n)) [
+      | inl q ↦ before k (omega arith)
+      | inr q ↦ top e (omega arith)
+    ]
 
 -- ---- how much of bytes that aren't a text can begin one of this length
 
@@ -250,12 +251,12 @@ stuck_bad bytes n rest parts lt good c =
           ];
     }
   where
-  next_taken : (good : ℕ) (rest : List ℕ) (b : ℕ) (more : List ℕ) → drop good rest ≡ b ∷ more → take (good + 1) rest ≡ take good rest ++ b ∷ []
-  next_taken good rest b more k =
-      let all : rest ≡ (take good rest ++ b ∷ []) ++ more = sym (take-append-drop good rest) ∙ ap (λ (z : List ℕ). take good rest ++ z) k ∙ sym (append_assoc (take good rest) (b ∷ []) more) in
-      let left : length rest - good ≡ suc (length more) = sym (length-drop good rest) ∙ ap length k in
-      let len : length (take good rest ++ b ∷ []) ≡ good + 1 = omega (arith, length-append (take good rest) (b ∷ []), length-take good rest) in
-      ap (take (good + 1)) all ∙ take_at (take good rest ++ b ∷ []) more (good + 1) len
+    next_taken : (good : ℕ) (rest : List ℕ) (b : ℕ) (more : List ℕ) → drop good rest ≡ b ∷ more → take (good + 1) rest ≡ take good rest ++ b ∷ []
+    next_taken good rest b more k =
+        let all : rest ≡ (take good rest ++ b ∷ []) ++ more = sym (take-append-drop good rest) ∙ ap (λ (z : List ℕ). take good rest ++ z) k ∙ sym (append_assoc (take good rest) (b ∷ []) more) in
+        let left : length rest - good ≡ suc (length more) = sym (length-drop good rest) ∙ ap length k in
+        let len : length (take good rest ++ b ∷ []) ≡ good + 1 = omega (arith, length-append (take good rest) (b ∷ []), length-take good rest) in
+        ap (take (good + 1)) all ∙ take_at (take good rest ++ b ∷ []) more (good + 1) len
 
 fault_some : {A : Type 0} (o : Option Fault) (x : A) (f : Fault) → unless_fault o x ≡ Err f → o ≡ Some f
 fault_some None x f e = absurd cc
@@ -267,28 +268,29 @@ left_behind good len = elim (cases_eq good len) [
   | inr h ↦ rw (ne_eqb good len h) refl
 ]
   where
-  cases_eq : (m n : ℕ) → (m ≡ n) ⊎ ¬ (m ≡ n)
-  cases_eq m n = by (eqb m n) refl
-    where
-    by : (t : Bool) → eqb m n ≡ t → (m ≡ n) ⊎ ¬ (m ≡ n)
-    by true e = inl (eqb-true m n e)
-    by false e = inr (eqb-false m n e)
+    cases_eq : (m n : ℕ) → (m ≡ n) ⊎ ¬ (m ≡ n)
+    cases_eq m n = by (eqb m n) refl
+      where
+        by : (t : Bool) → eqb m n ≡ t → (m ≡ n) ⊎ ¬ (m ≡ n)
+        by true e = inl (eqb-true m n e)
+        by false e = inr (eqb-false m n e)
 
 text_fault_stuck : (bytes : List ℕ) (n : ℕ) (rest : List ℕ) (f : Fault) → bytes ≡ spelled_u32 n ++ rest → n < 2 ^ 32 → text_fault n rest ≡ Some f → IsStuck spelled_text FitsText bytes f.left
 text_fault_stuck bytes n rest f parts lt e = by (is_utf8 (take n rest)) refl (ltb (length rest) n) refl
   where
-  some_is : (d g : Fault) → some_fault d ≡ some_fault g → d ≡ g
-  some_is d g q = cc
-  by : (t : Bool) → is_utf8 (take n rest) ≡ t → (s : Bool) → ltb (length rest) n ≡ s → IsStuck spelled_text FitsText bytes f.left
-  by true t true s =
-      let q = some_is (record { left = 0; kind = bad.Short }) f (rw (t, s) at e) in
-      subst (λ (d : Fault). IsStuck spelled_text FitsText bytes d.left) q (stuck_short bytes n rest parts lt (IsUtf8-from_is_utf8 (take n rest) t) (ltb-true _ _ s))
-  by true t false s = absurd (none_is_some f (rw (t, s) at e))
-  by false t s _ =
-      let q = some_is (fault_behind (good_len n (take n rest)) (length rest)) f (rw t at e) in
-      let no_text : ¬ (IsUtf8 (take n rest)) = λ u. true_false (is_utf8 (take n rest)) (is_utf8-from_IsUtf8 (take n rest) u) t in
-      let c = cut_is n (take n rest) no_text (omega (arith, length-take n rest)) in
-      subst (λ (d : Fault). IsStuck spelled_text FitsText bytes d.left) q (subst (IsStuck spelled_text FitsText bytes) (sym (left_behind (good_len n (take n rest)) (length rest))) (stuck_bad bytes n rest parts lt (good_len n (take n rest)) c))
+    some_is : (d g : Fault) → some_fault d ≡ some_fault g → d ≡ g
+    some_is d g q = cc
+
+    by : (t : Bool) → is_utf8 (take n rest) ≡ t → (s : Bool) → ltb (length rest) n ≡ s → IsStuck spelled_text FitsText bytes f.left
+    by true t true s =
+        let q = some_is (record { left = 0; kind = bad.Short }) f (rw (t, s) at e) in
+        subst (λ (d : Fault). IsStuck spelled_text FitsText bytes d.left) q (stuck_short bytes n rest parts lt (IsUtf8-from_is_utf8 (take n rest) t) (ltb-true _ _ s))
+    by true t false s = absurd (none_is_some f (rw (t, s) at e))
+    by false t s _ =
+        let q = some_is (fault_behind (good_len n (take n rest)) (length rest)) f (rw t at e) in
+        let no_text : ¬ (IsUtf8 (take n rest)) = λ u. true_false (is_utf8 (take n rest)) (is_utf8-from_IsUtf8 (take n rest) u) t in
+        let c = cut_is n (take n rest) no_text (omega (arith, length-take n rest)) in
+        subst (λ (d : Fault). IsStuck spelled_text FitsText bytes d.left) q (subst (IsStuck spelled_text FitsText bytes) (sym (left_behind (good_len n (take n rest)) (length rest))) (stuck_bad bytes n rest parts lt (good_len n (take n rest)) c))
 
 -- the length itself ends too early
 length_stuck : (bytes : List ℕ) (f : Fault) → AreBytes bytes → number_at w32 bytes ≡ Err f → IsStuck spelled_text FitsText bytes f.left

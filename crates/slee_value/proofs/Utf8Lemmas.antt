@@ -78,35 +78,38 @@ code_of_four a b d e = (a - 240) * 262144 + (b - 128) * 4096 + (d - 128) * 64 + 
 pub three_is_text : (a b d : ℕ) → IsThree a b d → IsUtf8 (a ∷ b ∷ d ∷ [])
 three_is_text a b d h = by (cases_lt 224 a) (cases_lt a 237) (cases_lt 237 a)
   where
-  made : 2048 ≤ code_of_three a b d → code_of_three a b d < 65536 → scalar (code_of_three a b d) ≡ true → IsUtf8 (a ∷ b ∷ d ∷ [])
-  made l m s =
-      let p : 224 + code_of_three a b d / 4096 ≡ a = omega (arith, h.low, h.high, h.second.follows, h.third) in
-      let q : next (code_of_three a b d / 64) ≡ b = omega (arith, h.low, h.high, h.second.follows, h.third) in
-      let r : next (code_of_three a b d) ≡ d = omega (arith, h.low, h.high, h.second.follows, h.third) in
-      char_is_text (code_of_three a b d) (a ∷ b ∷ d ∷ []) s (three (code_of_three a b d) l m ∙ cc (p, q, r))
-  by : (224 < a) ⊎ (a ≤ 224) → (a < 237) ⊎ (237 ≤ a) → (237 < a) ⊎ (a ≤ 237) → IsUtf8 (a ∷ b ∷ d ∷ [])
-  by (inl l) (inl m) _ = made (omega (arith, h.second.follows, h.third)) (omega (arith, h.high, h.second.follows, h.third)) (low_scalar (code_of_three a b d) (omega (arith, h.second.follows, h.third)))
-  by (inr l) (inl m) _ = made (omega (arith, h.low, h.second.after_224 (omega (arith, h.low)), h.second.follows, h.third)) (omega (arith, h.high, h.second.follows, h.third)) (low_scalar (code_of_three a b d) (omega (arith, h.second.follows, h.third)))
-  by _ (inr m) (inl k) = made (omega (arith, h.second.follows, h.third)) (omega (arith, h.high, h.second.follows, h.third)) (high_scalar (code_of_three a b d) (omega (arith, h.second.follows, h.third)) (omega (arith, h.high, h.second.follows, h.third)))
-  by _ (inr m) (inr k) = made (omega (arith, h.second.follows, h.third)) (omega (arith, h.high, h.second.follows, h.third)) (low_scalar (code_of_three a b d) (omega (arith, h.second.after_237 (omega arith), h.second.follows, h.third)))
+    made : 2048 ≤ code_of_three a b d → code_of_three a b d < 65536 → scalar (code_of_three a b d) ≡ true → IsUtf8 (a ∷ b ∷ d ∷ [])
+    made l m s =
+        let p : 224 + code_of_three a b d / 4096 ≡ a = omega (arith, h.low, h.high, h.second.follows, h.third) in
+        let q : next (code_of_three a b d / 64) ≡ b = omega (arith, h.low, h.high, h.second.follows, h.third) in
+        let r : next (code_of_three a b d) ≡ d = omega (arith, h.low, h.high, h.second.follows, h.third) in
+        char_is_text (code_of_three a b d) (a ∷ b ∷ d ∷ []) s (three (code_of_three a b d) l m ∙ cc (p, q, r))
+
+    by : (224 < a) ⊎ (a ≤ 224) → (a < 237) ⊎ (237 ≤ a) → (237 < a) ⊎ (a ≤ 237) → IsUtf8 (a ∷ b ∷ d ∷ [])
+    by (inl l) (inl m) _ = made (omega (arith, h.second.follows, h.third)) (omega (arith, h.high, h.second.follows, h.third)) (low_scalar (code_of_three a b d) (omega (arith, h.second.follows, h.third)))
+    by (inr l) (inl m) _ = made (omega (arith, h.low, h.second.after_224 (omega (arith, h.low)), h.second.follows, h.third)) (omega (arith, h.high, h.second.follows, h.third)) (low_scalar (code_of_three a b d) (omega (arith, h.second.follows, h.third)))
+    by _ (inr m) (inl k) = made (omega (arith, h.second.follows, h.third)) (omega (arith, h.high, h.second.follows, h.third)) (high_scalar (code_of_three a b d) (omega (arith, h.second.follows, h.third)) (omega (arith, h.high, h.second.follows, h.third)))
+    by _ (inr m) (inr k) = made (omega (arith, h.second.follows, h.third)) (omega (arith, h.high, h.second.follows, h.third)) (low_scalar (code_of_three a b d) (omega (arith, h.second.after_237 (omega arith), h.second.follows, h.third)))
 
 pub four_is_text : (a b d e : ℕ) → IsFour a b d e → IsUtf8 (a ∷ b ∷ d ∷ e ∷ [])
 four_is_text a b d e h = made (least (cases_lt 240 a)) (most (cases_lt a 244))
   where
-  least : (240 < a) ⊎ (a ≤ 240) → 65536 ≤ code_of_four a b d e
-  least (inl l) = omega (arith, h.second.follows, h.third, h.fourth)
-  least (inr l) = omega (arith, h.low, h.second.after_240 (omega (arith, h.low)), h.second.follows, h.third, h.fourth)
-  most : (a < 244) ⊎ (244 ≤ a) → code_of_four a b d e < 1114112
-  most (inl l) = omega (arith, h.second.follows, h.third, h.fourth)
-  most (inr l) = omega (arith, h.high, h.second.after_244 (omega (arith, h.high)), h.second.follows, h.third, h.fourth)
-  made : 65536 ≤ code_of_four a b d e → code_of_four a b d e < 1114112 → IsUtf8 (a ∷ b ∷ d ∷ e ∷ [])
-  made l m =
-      let p : 240 + code_of_four a b d e / 262144 ≡ a = omega (arith, h.low, h.second.follows, h.third, h.fourth) in
-      let q : next (code_of_four a b d e / 4096) ≡ b = omega (arith, h.low, h.second.follows, h.third, h.fourth) in
-      let e64 : code_of_four a b d e / 64 ≡ (a - 240) * 4096 + (b - 128) * 64 + (d - 128) = omega (arith, h.low, h.second.follows, h.third, h.fourth) in
-      let r : next (code_of_four a b d e / 64) ≡ d = subst (λ (n : ℕ). next n ≡ d) (sym e64) (omega (arith, h.low, h.second.follows, h.third, h.fourth)) in
-      let t : next (code_of_four a b d e) ≡ e = omega (arith, h.low, h.second.follows, h.third, h.fourth) in
-      char_is_text (code_of_four a b d e) (a ∷ b ∷ d ∷ e ∷ []) (high_scalar (code_of_four a b d e) (omega arith) m) (four (code_of_four a b d e) l ∙ cc (p, q, r, t))
+    least : (240 < a) ⊎ (a ≤ 240) → 65536 ≤ code_of_four a b d e
+    least (inl l) = omega (arith, h.second.follows, h.third, h.fourth)
+    least (inr l) = omega (arith, h.low, h.second.after_240 (omega (arith, h.low)), h.second.follows, h.third, h.fourth)
+
+    most : (a < 244) ⊎ (244 ≤ a) → code_of_four a b d e < 1114112
+    most (inl l) = omega (arith, h.second.follows, h.third, h.fourth)
+    most (inr l) = omega (arith, h.high, h.second.after_244 (omega (arith, h.high)), h.second.follows, h.third, h.fourth)
+
+    made : 65536 ≤ code_of_four a b d e → code_of_four a b d e < 1114112 → IsUtf8 (a ∷ b ∷ d ∷ e ∷ [])
+    made l m =
+        let p : 240 + code_of_four a b d e / 262144 ≡ a = omega (arith, h.low, h.second.follows, h.third, h.fourth) in
+        let q : next (code_of_four a b d e / 4096) ≡ b = omega (arith, h.low, h.second.follows, h.third, h.fourth) in
+        let e64 : code_of_four a b d e / 64 ≡ (a - 240) * 4096 + (b - 128) * 64 + (d - 128) = omega (arith, h.low, h.second.follows, h.third, h.fourth) in
+        let r : next (code_of_four a b d e / 64) ≡ d = subst (λ (n : ℕ). next n ≡ d) (sym e64) (omega (arith, h.low, h.second.follows, h.third, h.fourth)) in
+        let t : next (code_of_four a b d e) ≡ e = omega (arith, h.low, h.second.follows, h.third, h.fourth) in
+        char_is_text (code_of_four a b d e) (a ∷ b ∷ d ∷ e ∷ []) (high_scalar (code_of_four a b d e) (omega arith) m) (four (code_of_four a b d e) l ∙ cc (p, q, r, t))
 
 -- how a text begins
 pub data Head (text : List ℕ) : Type 0 where

@@ -35,6 +35,7 @@ pub enum PartFault {
 
 impl From<NoMemory> for PartFault {
     ghost use Rattle.slee_value.specs.declared.fault.PartFault.TheVariants.{NoMemory as Refused};
+
     ghost from_gives = { λ _ e. e ≡ Refused };
 
     fn from(_: NoMemory) -> Self {
@@ -44,6 +45,7 @@ impl From<NoMemory> for PartFault {
 
 impl From<AllocError> for PartFault {
     ghost use Rattle.slee_value.specs.declared.fault.PartFault.TheVariants.{NoMemory as Refused};
+
     ghost from_gives = { λ _ e. e ≡ Refused };
 
     fn from(_: AllocError) -> Self {
@@ -53,6 +55,7 @@ impl From<AllocError> for PartFault {
 
 impl<T: Drop> From<AllocFailed<T>> for PartFault {
     ghost use Rattle.slee_value.specs.declared.fault.PartFault.TheVariants.{NoMemory as Refused};
+
     ghost from_gives = { λ _ e. e ≡ Refused };
 
     fn from(_: AllocFailed<T>) -> Self {

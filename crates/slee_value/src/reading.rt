@@ -15,7 +15,10 @@ pub fn read_u32(bytes: &[u8]) -> Result<(u32, &[u8]), PartFault>
     ensures { Gives (λ x. (x.0, x.1.now)) result (number_at w32 bytes.now) }
 {
     if bytes.len() < 4 {
-        return Err(PartFault::Bad { left: 0, kind: ValueBad::Short });
+        return Err(PartFault::Bad {
+            left: 0,
+            kind: ValueBad::Short,
+        });
     }
     let (front, rest) = bytes.split_at(4);
     let number = u32::from_le_bytes([front[0], front[1], front[2], front[3]]);
@@ -27,7 +30,10 @@ pub fn read_u64(bytes: &[u8]) -> Result<(u64, &[u8]), PartFault>
     ensures { Gives (λ x. (x.0, x.1.now)) result (number_at w64 bytes.now) }
 {
     if bytes.len() < 8 {
-        return Err(PartFault::Bad { left: 0, kind: ValueBad::Short });
+        return Err(PartFault::Bad {
+            left: 0,
+            kind: ValueBad::Short,
+        });
     }
     let (front, rest) = bytes.split_at(8);
     let number = u64::from_le_bytes([
@@ -41,10 +47,16 @@ pub fn read_flag(bytes: &[u8]) -> Result<(bool, &[u8]), PartFault>
     ensures { Gives (λ x. (x.0, x.1.now)) result (flag_at bytes.now) }
 {
     match bytes {
-        [] => Err(PartFault::Bad { left: 0, kind: ValueBad::Short }),
+        [] => Err(PartFault::Bad {
+            left: 0,
+            kind: ValueBad::Short,
+        }),
         [0, rest @ ..] => Ok((false, rest)),
         [1, rest @ ..] => Ok((true, rest)),
-        [_, ..] => Err(PartFault::Bad { left: bytes.len(), kind: ValueBad::Flag }),
+        [_, ..] => Err(PartFault::Bad {
+            left: bytes.len(),
+            kind: ValueBad::Flag,
+        }),
     }
 }
 
@@ -71,7 +83,10 @@ fn text_of(alloc: Global, len: usize, bytes: &[u8]) -> Result<Text, PartFault>
         }
         Ok(text) => {
             if bytes.len() < len {
-                Err(PartFault::Bad { left: 0, kind: ValueBad::Short })
+                Err(PartFault::Bad {
+                    left: 0,
+                    kind: ValueBad::Short,
+                })
             } else {
                 Ok(Text::from_str(alloc, text)?)
             }
@@ -82,7 +97,11 @@ fn text_of(alloc: Global, len: usize, bytes: &[u8]) -> Result<Text, PartFault>
 fn front_of(bytes: &[u8], len: usize) -> &[u8]
     ensures { result.now ≡ take len bytes.now }
 {
-    if bytes.len() < len { bytes } else { &bytes[..len] }
+    if bytes.len() < len {
+        bytes
+    } else {
+        &bytes[..len]
+    }
 }
 
 fn fault_at(good: usize, len: usize) -> PartFault
@@ -90,9 +109,15 @@ fn fault_at(good: usize, len: usize) -> PartFault
     ensures { Fails {Y = List ℕ} result (Err (fault_behind good len)) }
 {
     if good == len {
-        PartFault::Bad { left: 0, kind: ValueBad::Short }
+        PartFault::Bad {
+            left: 0,
+            kind: ValueBad::Short,
+        }
     } else {
-        PartFault::Bad { left: len - good, kind: ValueBad::Utf8 }
+        PartFault::Bad {
+            left: len - good,
+            kind: ValueBad::Utf8,
+        }
     }
 }
 
@@ -153,7 +178,10 @@ pub fn read_part(alloc: Global, bytes: &[u8]) -> Result<(Value, &[u8]), PartFaul
     ensures { Gives (λ x. (x.0, x.1.now)) result (value_at bytes.now) }
 {
     match bytes {
-        [] => Err(PartFault::Bad { left: 0, kind: ValueBad::Short }),
+        [] => Err(PartFault::Bad {
+            left: 0,
+            kind: ValueBad::Short,
+        }),
         [0, rest @ ..] => {
             let (number, rest) = read_u64(rest)?;
             Ok((Value::Int(number.cast_signed()), rest))
@@ -174,6 +202,9 @@ pub fn read_part(alloc: Global, bytes: &[u8]) -> Result<(Value, &[u8]), PartFaul
             let (number, rest) = read_u64(rest)?;
             Ok((Value::Timer(TimerId(number)), rest))
         }
-        [_, ..] => Err(PartFault::Bad { left: bytes.len(), kind: ValueBad::Tag }),
+        [_, ..] => Err(PartFault::Bad {
+            left: bytes.len(),
+            kind: ValueBad::Tag,
+        }),
     }
 }
