@@ -8,3 +8,4 @@ pub mod PieceLemmas
 pub mod FieldLemmas
 pub mod EffectLemmas
 pub mod ListLemmas
+pub mod NamesLemmas
