@@ -253,25 +253,61 @@ AreBodies tag (body ∷ rest) = IsBody tag body × AreBodies (suc tag) rest
 
 all_bodies : AreBodies 0 bodies
 unfolding AreBodies
-all_bodies = (no_body 0
-    , (body_of 1 (λ p. SetField p.0 p.1.0 p.1.1) setting set_field_case read_setting
-    , (body_of 2 (λ p. SetAttr p.0 p.1.0 p.1.1) setting set_attr_case read_setting
-    , (body_of 3 (λ p. Create p.0 p.1.0 p.1.1) creation create_case read_creation
-    , (body_of 4 (λ p. Remove p) one remove_case reads_ref
-    , (body_of 5 (λ p. SetPriority p.0 p.1) ranked set_priority_case read_ranked
-    , (body_of 6 (λ p. Attach p.0 p.1) two attach_case read_two
-    , (body_of 7 (λ p. Detach p.0 p.1) two detach_case read_two
-    , (body_of 8 (λ p. SetMask p.0 p.1.0 p.1.1.0 p.1.1.1) masked set_mask_case read_masked
-    , (body_of 9 (λ p. Fire p.0 p.1.0 p.1.1.0 p.1.1.1) firing fire_case read_firing
-    , (body_of 10 (λ p. NewNull) nothing new_null_case reads_nothing
-    , (body_of 11 (λ p. EndNull p) one end_null_case reads_ref
-    , (body_of 12 (λ p. SetTimer p.0 p.1.0 p.1.1.0 p.1.1.1.0 p.1.1.1.1) timed set_timer_case read_timed
-    , (body_of 13 (λ p. CancelTimer p) one cancel_timer_case reads_ref
-    , (body_of 14 (λ p. Bind p.0 p.1) bound bind_case read_bound
-    , (body_of 15 (λ p. Unbind p) text unbind_case reads_text
-    , (body_of 16 (λ p. Emit p.0 p.1) said emit_case read_said
-    , (body_of 17 (λ p. Usage p.0 p.1.0 p.1.1) counted usage_case read_counted
-    , tt))))))))))))))))))
+all_bodies = (
+  no_body 0,
+  (
+    body_of 1 (λ p. SetField p.0 p.1.0 p.1.1) setting set_field_case read_setting,
+    (
+      body_of 2 (λ p. SetAttr p.0 p.1.0 p.1.1) setting set_attr_case read_setting,
+      (
+        body_of 3 (λ p. Create p.0 p.1.0 p.1.1) creation create_case read_creation,
+        (
+          body_of 4 (λ p. Remove p) one remove_case reads_ref,
+          (
+            body_of 5 (λ p. SetPriority p.0 p.1) ranked set_priority_case read_ranked,
+            (
+              body_of 6 (λ p. Attach p.0 p.1) two attach_case read_two,
+              (
+                body_of 7 (λ p. Detach p.0 p.1) two detach_case read_two,
+                (
+                  body_of 8 (λ p. SetMask p.0 p.1.0 p.1.1.0 p.1.1.1) masked set_mask_case read_masked,
+                  (
+                    body_of 9 (λ p. Fire p.0 p.1.0 p.1.1.0 p.1.1.1) firing fire_case read_firing,
+                    (
+                      body_of 10 (λ p. NewNull) nothing new_null_case reads_nothing,
+                      (
+                        body_of 11 (λ p. EndNull p) one end_null_case reads_ref,
+                        (
+                          body_of 12 (λ p. SetTimer p.0 p.1.0 p.1.1.0 p.1.1.1.0 p.1.1.1.1) timed set_timer_case read_timed,
+                          (
+                            body_of 13 (λ p. CancelTimer p) one cancel_timer_case reads_ref,
+                            (
+                              body_of 14 (λ p. Bind p.0 p.1) bound bind_case read_bound,
+                              (
+                                body_of 15 (λ p. Unbind p) text unbind_case reads_text,
+                                (
+                                  body_of 16 (λ p. Emit p.0 p.1) said emit_case read_said,
+                                  (
+                                    body_of 17 (λ p. Usage p.0 p.1.0 p.1.1) counted usage_case read_counted,
+                                    tt,
+                                  ),
+                                ),
+                              ),
+                            ),
+                          ),
+                        ),
+                      ),
+                    ),
+                  ),
+                ),
+              ),
+            ),
+          ),
+        ),
+      ),
+    ),
+  ),
+)
 
 body_at : (tag : ℕ) (rest : List (List ℕ → Part Effect)) (i : ℕ) → AreBodies tag rest → IsBody (tag + i) (slice_index_or rest i no_effect)
 unfolding AreBodies

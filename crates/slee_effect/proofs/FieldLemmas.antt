@@ -44,9 +44,9 @@ in_order_ok None read x e = (refl, e)
 in_order_ok (Some left) (Ok y) x e = absurd cc
 in_order_ok (Some left) (Err f) x e = absurd (by (ltb f.left left) e)
   where
-  by : (c : Bool) → cond c (Err (record { left = left; kind = bad.Tag })) (Err f) ≡ Ok x → ⊥
-  by true q = cc
-  by false q = cc
+    by : (c : Bool) → cond c (Err (record { left = left; kind = bad.Tag })) (Err f) ≡ Ok x → ⊥
+    by true q = cc
+    by false q = cc
 
 length_of : (name rest : List ℕ) → FitsText name → number_at w32 (spelled_text name ++ rest) ≡ Ok (length name, name ++ rest)
 length_of name rest f = ap (number_at w32) (append_assoc (spelled_u32 (length name)) name rest) ∙ reads_u32.again (length name) (name ++ rest) f.short
@@ -89,8 +89,8 @@ fall_stuck before bytes n rest left parts lt falls begins =
           true_false (is_below before q.0) q.2.1 (falls.none q.0 q.1 t.0 t.1);
     }
   where
-  true_false : (b : Bool) → b ≡ true → b ≡ false → ⊥
-  true_false b p q = cc
+    true_false : (b : Bool) → b ≡ true → b ≡ false → ⊥
+    true_false b p q = cc
 
 -- a front of what begins a text
 shorter_begins : (m : ℕ) (front : List ℕ) → Begins spelled_text FitsText front → Begins spelled_text FitsText (take m front)
@@ -121,17 +121,17 @@ fall_first before bytes f n rest left h d o (Ok x) r e =
     let u = reads_u32.takes bytes (n, rest) h d in
     let falls = falls_of before n rest left o in
     subst (λ (g : Fault). IsStuckBy spelled_text (FitsName (Some before)) FitsText bytes g.left) (err_is {A = List ℕ × List ℕ} (record { left = left; kind = bad.Tag }) f e)
-      (fall_stuck before bytes n rest left u.0.parts u.1 falls (begins_read bytes x n rest left h r d falls.in_name))
+    (fall_stuck before bytes n rest left u.0.parts u.1 falls (begins_read bytes x n rest left h r d falls.in_name))
 fall_first before bytes f n rest left h d o (Err g) r e = by (cases_lt g.left left)
   where
-  by : (g.left < left) ⊎ (left ≤ g.left) → IsStuckBy spelled_text (FitsName (Some before)) FitsText bytes f.left
-  by (inl lt) =
-      let u = reads_u32.takes bytes (n, rest) h d in
-      let falls = falls_of before n rest left o in
-      subst (λ (k : Fault). IsStuckBy spelled_text (FitsName (Some before)) FitsText bytes k.left) (err_is {A = List ℕ × List ℕ} (record { left = left; kind = bad.Tag }) f (rw (lt-ltb g.left left lt) at e))
+    by : (g.left < left) ⊎ (left ≤ g.left) → IsStuckBy spelled_text (FitsName (Some before)) FitsText bytes f.left
+    by (inl lt) =
+        let u = reads_u32.takes bytes (n, rest) h d in
+        let falls = falls_of before n rest left o in
+        subst (λ (k : Fault). IsStuckBy spelled_text (FitsName (Some before)) FitsText bytes k.left) (err_is {A = List ℕ × List ℕ} (record { left = left; kind = bad.Tag }) f (rw (lt-ltb g.left left lt) at e))
         (fall_stuck before bytes n rest left u.0.parts u.1 falls (begins_fault bytes g left h r lt))
-  by (inr le) =
-      text_part_stuck (Some before) bytes f h (r ∙ (rw (le-ltb g.left left le) at e))
+    by (inr le) =
+        text_part_stuck (Some before) bytes f h (r ∙ (rw (le-ltb g.left left le) at e))
 
 name_by : (before : Option (List ℕ)) (bytes : List ℕ) (f : Fault) → AreBytes bytes → (n : Part ℕ) → number_at w32 bytes ≡ n → (o : Option ℕ) → fall_behind before n ≡ o → in_order o (text_at bytes) ≡ Err f → IsStuckBy spelled_text (FitsName before) FitsText bytes f.left
 name_by before bytes f h n d None o e = text_part_stuck before bytes f h e
@@ -266,8 +266,8 @@ reads_rows_zero before = record {
   loosen = λ x f. (f.0, f.1.0);
 }
   where
-  zero_at : List ℕ → Part (List Row)
-  zero_at bytes = Ok ([], bytes)
+    zero_at : List ℕ → Part (List Row)
+    zero_at bytes = Ok ([], bytes)
 
 reads_rows : (n : ℕ) (before : Option (List ℕ)) → ReadsBy spelled_rows (FitsRows n before) (LooseRows n) (rows_at n before)
 reads_rows zero before = reads_rows_zero before

@@ -90,8 +90,8 @@ reads_items_zero = record {
   loosen = λ x f. subst (λ (z : List Effect). LooseItems 0 z) (sym (nil_of x f.0)) (refl, tt);
 }
   where
-  zero_at : List ℕ → Part (List Effect)
-  zero_at bytes = Ok ([], bytes)
+    zero_at : List ℕ → Part (List Effect)
+    zero_at bytes = Ok ([], bytes)
 
 reads_items : (n : ℕ) → ReadsBy spelled_items (FitItems n) (LooseItems n) (items_at n)
 reads_items zero = reads_items_zero
@@ -131,20 +131,22 @@ first_bad : (bytes : List ℕ) (left : ℕ) → IsStuckBy spelling_of_effects Fi
 first_bad bytes left s =
     let len : length bytes ≡ length s.front + length s.back = ap length s.parts ∙ length-append s.front s.back in
     let at : length bytes - left ≡ length s.front = omega (arith, s.left_is) in
-    let front : take (length bytes - left) bytes ≡ s.front = rw at (ap (take (length s.front)) s.parts ∙ take_at s.front s.back (length s.front) refl) in
-    (omega (arith, s.left_is), record {
-      within = omega arith;
-      begins = subst BeginsLooseList (sym front) s.begins;
-      ends = λ more. first_ends bytes s.front s.back (length bytes - left) at s.parts more s.ends;
-    })
+    let front : take (length bytes - left) bytes ≡ s.front = rw at (ap (take (length s.front)) s.parts ∙ take_at s.front s.back (length s.front) refl) in (
+      omega (arith, s.left_is),
+      record {
+        within = omega arith;
+        begins = subst BeginsLooseList (sym front) s.begins;
+        ends = λ more. first_ends bytes s.front s.back (length bytes - left) at s.parts more s.ends;
+      },
+    )
   where
-  first_ends : (bytes front back : List ℕ) (at : ℕ) → at ≡ length front → bytes ≡ front ++ back → at < length bytes → ((b : ℕ) (more : List ℕ) → back ≡ b ∷ more → ¬ (Begins spelling_of_effects FitEffects (front ++ b ∷ []))) → ¬ (BeginsList (take (at + 1) bytes))
-  first_ends bytes front [] at e parts more ends = absurd (omega (arith, ap length parts, length-append front []))
-  first_ends bytes front (b ∷ back) at e parts more ends =
-      let all : bytes ≡ (front ++ b ∷ []) ++ back = parts ∙ sym (append_assoc front (b ∷ []) back) in
-      let len : length (front ++ b ∷ []) ≡ at + 1 = omega (arith, length-append front (b ∷ [])) in
-      let cut : take (at + 1) bytes ≡ front ++ b ∷ [] = ap (take (at + 1)) all ∙ take_at (front ++ b ∷ []) back (at + 1) len in
-      subst (λ (t : List ℕ). ¬ (BeginsList t)) (sym cut) (ends b back refl)
+    first_ends : (bytes front back : List ℕ) (at : ℕ) → at ≡ length front → bytes ≡ front ++ back → at < length bytes → ((b : ℕ) (more : List ℕ) → back ≡ b ∷ more → ¬ (Begins spelling_of_effects FitEffects (front ++ b ∷ []))) → ¬ (BeginsList (take (at + 1) bytes))
+    first_ends bytes front [] at e parts more ends = absurd (omega (arith, ap length parts, length-append front []))
+    first_ends bytes front (b ∷ back) at e parts more ends =
+        let all : bytes ≡ (front ++ b ∷ []) ++ back = parts ∙ sym (append_assoc front (b ∷ []) back) in
+        let len : length (front ++ b ∷ []) ≡ at + 1 = omega (arith, length-append front (b ∷ [])) in
+        let cut : take (at + 1) bytes ≡ front ++ b ∷ [] = ap (take (at + 1)) all ∙ take_at (front ++ b ∷ []) back (at + 1) len in
+        subst (λ (t : List ℕ). ¬ (BeginsList t)) (sym cut) (ends b back refl)
 
 -- bytes behind a whole list
 behind_stuck : (bytes : List ℕ) (x : List Effect × List ℕ) (f : Fault) → AreBytes bytes → effects_at bytes ≡ Ok x → whole x ≡ Err f → IsStuckBy spelling_of_effects FitEffects AreLooseEffects bytes f.left
@@ -174,11 +176,11 @@ list_stuck bytes f h e = elim (bind_err (effects_at bytes) whole f e) [
 pub no_fault : {A : Type 0} (bytes : List ℕ) (f : Fault) (effects : List Effect) → FitEffects effects → bytes ≡ spelling_of_effects effects → list_of bytes ≡ Err f → A
 no_fault bytes f effects fit e r = absurd (clash (list_of bytes) effects f (ap list_of e ∙ list_again effects fit) r)
   where
-  clash : (r : Result (List Effect) Fault) (x : List Effect) (d : Fault) → r ≡ Ok x → r ≡ Err d → ⊥
-  clash r x d p q = cc
+    clash : (r : Result (List Effect) Fault) (x : List Effect) (d : Fault) → r ≡ Ok x → r ≡ Err d → ⊥
+    clash r x d p q = cc
 
 pub list_is : (bytes : List ℕ) (read effects : List Effect) → FitEffects effects → bytes ≡ spelling_of_effects effects → list_of bytes ≡ Ok read → read ≡ effects
 list_is bytes read effects fit e r = same (list_of bytes) read effects r (ap list_of e ∙ list_again effects fit)
   where
-  same : (r : Result (List Effect) Fault) (x y : List Effect) → r ≡ Ok x → r ≡ Ok y → x ≡ y
-  same r x y p q = cc
+    same : (r : Result (List Effect) Fault) (x y : List Effect) → r ≡ Ok x → r ≡ Ok y → x ≡ y
+    same r x y p q = cc

@@ -32,9 +32,9 @@ which : (p b : ℕ) → Which p b
 which p b = elim (cases_lt p b) [
   | inl h ↦ less h
   | inr h ↦ (elim (cases_lt b p) [
-      | inl k ↦ more k
-      | inr k ↦ equal k h
-    ])
+    | inl k ↦ more k
+    | inr k ↦ equal k h
+  ])
 ]
 
 some_none : {B : Type 0} (n : ℕ) (o : Option ℕ) → o ≡ Some n → o ≡ None → B
@@ -46,10 +46,10 @@ none_rises before [] rest e = some_none (length rest + 1) (fall before 0 rest) r
 none_rises [] (b ∷ bs) rest e = refl
 none_rises (p ∷ ps) (b ∷ bs) rest e = by (λ h. none_rises ps bs rest h) (which p b)
   where
-  by : (fall ps (length bs) (bs ++ rest) ≡ None → is_below ps bs ≡ true) → Which p b → is_below (p ∷ ps) (b ∷ bs) ≡ true
-  by next (less h) = below_less p b ps bs h
-  by next (more h) = some_none (length (b ∷ (bs ++ rest))) (fall (p ∷ ps) (suc (length bs)) (b ∷ (bs ++ rest))) (fall_more p b ps (bs ++ rest) (length bs) h) e
-  by next (equal h k) = below_same p b ps bs h k ∙ next (sym (fall_equal p b ps (bs ++ rest) (length bs) h k) ∙ e)
+    by : (fall ps (length bs) (bs ++ rest) ≡ None → is_below ps bs ≡ true) → Which p b → is_below (p ∷ ps) (b ∷ bs) ≡ true
+    by next (less h) = below_less p b ps bs h
+    by next (more h) = some_none (length (b ∷ (bs ++ rest))) (fall (p ∷ ps) (suc (length bs)) (b ∷ (bs ++ rest))) (fall_more p b ps (bs ++ rest) (length bs) h) e
+    by next (equal h k) = below_same p b ps bs h k ∙ next (sym (fall_equal p b ps (bs ++ rest) (length bs) h k) ∙ e)
 
 -- where the name rises nothing falls
 pub rises_none : (before name rest : List ℕ) → is_below before name ≡ true → fall before (length name) (name ++ rest) ≡ None
@@ -58,12 +58,13 @@ rises_none (p ∷ ps) [] rest e = absurd cc
 rises_none [] (b ∷ bs) rest e = refl
 rises_none (p ∷ ps) (b ∷ bs) rest e = by (λ h. rises_none ps bs rest h) (which p b)
   where
-  contra : is_below (p ∷ ps) (b ∷ bs) ≡ false → fall (p ∷ ps) (suc (length bs)) (b ∷ (bs ++ rest)) ≡ None
-  contra f = absurd cc
-  by : (is_below ps bs ≡ true → fall ps (length bs) (bs ++ rest) ≡ None) → Which p b → fall (p ∷ ps) (suc (length bs)) (b ∷ (bs ++ rest)) ≡ None
-  by next (less h) = fall_less p b ps (bs ++ rest) (length bs) h
-  by next (more h) = contra (below_more p b ps bs h)
-  by next (equal h k) = fall_equal p b ps (bs ++ rest) (length bs) h k ∙ next (sym (below_same p b ps bs h k) ∙ e)
+    contra : is_below (p ∷ ps) (b ∷ bs) ≡ false → fall (p ∷ ps) (suc (length bs)) (b ∷ (bs ++ rest)) ≡ None
+    contra f = absurd cc
+
+    by : (is_below ps bs ≡ true → fall ps (length bs) (bs ++ rest) ≡ None) → Which p b → fall (p ∷ ps) (suc (length bs)) (b ∷ (bs ++ rest)) ≡ None
+    by next (less h) = fall_less p b ps (bs ++ rest) (length bs) h
+    by next (more h) = contra (below_more p b ps bs h)
+    by next (equal h k) = fall_equal p b ps (bs ++ rest) (length bs) h k ∙ next (sym (below_same p b ps bs h k) ∙ e)
 
 -- what a fall means: so many bytes are left from the first one with which no name of that length rises
 pub record Falls (before : List ℕ) (n : ℕ) (bytes : List ℕ) (left : ℕ) : Type 0 where
@@ -86,11 +87,12 @@ fall_all before bytes n left e =
       none = λ name rest len q. subst (λ (t : List ℕ). is_below before t ≡ false) (sym (nil_of name len)) (not_below_nil before);
     }
   where
-  some_is : fall before zero bytes ≡ Some left → length bytes + 1 ≡ left
-  some_is q = cc
-  nil_of : (t : List ℕ) → length t ≡ 0 → t ≡ []
-  nil_of [] h = refl
-  nil_of (x ∷ t) h = absurd (omega arith)
+    some_is : fall before zero bytes ≡ Some left → length bytes + 1 ≡ left
+    some_is q = cc
+
+    nil_of : (t : List ℕ) → length t ≡ 0 → t ≡ []
+    nil_of [] h = refl
+    nil_of (x ∷ t) h = absurd (omega arith)
 
 fall_here : (p b : ℕ) (ps bs : List ℕ) (n left : ℕ) → b < p → length (b ∷ bs) ≡ left → Falls (p ∷ ps) (suc n) (b ∷ bs) left
 fall_here p b ps bs n left h e = record {
@@ -100,8 +102,8 @@ fall_here p b ps bs n left h e = record {
   none = λ name rest len q. below_first name rest (q ∙ ap (λ (k : ℕ). take k (b ∷ bs) ++ rest) (let k : length (b ∷ bs) + 1 - left ≡ 1 = omega arith in k));
 }
   where
-  below_first : (name rest : List ℕ) → name ≡ b ∷ rest → is_below (p ∷ ps) name ≡ false
-  below_first name rest q = subst (λ (t : List ℕ). is_below (p ∷ ps) t ≡ false) (sym q) (below_more p b ps rest h)
+    below_first : (name rest : List ℕ) → name ≡ b ∷ rest → is_below (p ∷ ps) name ≡ false
+    below_first name rest q = subst (λ (t : List ℕ). is_below (p ∷ ps) t ≡ false) (sym q) (below_more p b ps rest h)
 
 fall_next : (p b : ℕ) (ps bs : List ℕ) (n left : ℕ) → p ≤ b → b ≤ p → Falls ps n bs left → Falls (p ∷ ps) (suc n) (b ∷ bs) left
 fall_next p b ps bs n left h k f = record {
@@ -121,9 +123,10 @@ falls_of [] (suc n) bytes left e = absurd cc
 falls_of (p ∷ ps) (suc n) [] left e = absurd cc
 falls_of (p ∷ ps) (suc n) (b ∷ bs) left e = by (λ h. falls_of ps n bs left h) (which p b)
   where
-  some_is : (i : ℕ) (o : Option ℕ) → o ≡ Some i → o ≡ Some left → i ≡ left
-  some_is i o q r = cc
-  by : (fall ps n bs ≡ Some left → Falls ps n bs left) → Which p b → Falls (p ∷ ps) (suc n) (b ∷ bs) left
-  by next (less h) = some_none left (fall (p ∷ ps) (suc n) (b ∷ bs)) e (fall_less p b ps bs n h)
-  by next (more h) = fall_here p b ps bs n left h (some_is (length (b ∷ bs)) (fall (p ∷ ps) (suc n) (b ∷ bs)) (fall_more p b ps bs n h) e)
-  by next (equal h k) = fall_next p b ps bs n left h k (next (sym (fall_equal p b ps bs n h k) ∙ e))
+    some_is : (i : ℕ) (o : Option ℕ) → o ≡ Some i → o ≡ Some left → i ≡ left
+    some_is i o q r = cc
+
+    by : (fall ps n bs ≡ Some left → Falls ps n bs left) → Which p b → Falls (p ∷ ps) (suc n) (b ∷ bs) left
+    by next (less h) = some_none left (fall (p ∷ ps) (suc n) (b ∷ bs)) e (fall_less p b ps bs n h)
+    by next (more h) = fall_here p b ps bs n left h (some_is (length (b ∷ bs)) (fall (p ∷ ps) (suc n) (b ∷ bs)) (fall_more p b ps bs n h) e)
+    by next (equal h k) = fall_next p b ps bs n left h k (next (sym (fall_equal p b ps bs n h k) ∙ e))

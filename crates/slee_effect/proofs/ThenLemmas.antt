@@ -54,13 +54,13 @@ module _ {A B : Type 0} (make : A → B) (part : B → A) (spell : A → List �
   mapped_stuck bytes f h e =
       elim (bind_err (read bytes) made f e) [
         | inl d ↦ (let s = reads.stuck bytes f h d in record {
-            front = s.front;
-            back = s.back;
-            parts = s.parts;
-            left_is = s.left_is;
-            begins = (make s.begins.0, s.begins.1, loosens s.begins.0 s.begins.2, spells s.begins.0 s.begins.2 ∙ s.begins.3);
-            ends = λ b more k q. s.ends b more k (part q.0, q.1, fit' q.0 q.2, spells' q.0 q.2 ∙ q.3);
-          })
+          front = s.front;
+          back = s.back;
+          parts = s.parts;
+          left_is = s.left_is;
+          begins = (make s.begins.0, s.begins.1, loosens s.begins.0 s.begins.2, spells s.begins.0 s.begins.2 ∙ s.begins.3);
+          ends = λ b more k q. s.ends b more k (part q.0, q.1, fit' q.0 q.2, spells' q.0 q.2 ∙ q.3);
+        })
         | inr d ↦ absurd cc
       ]
 
@@ -144,9 +144,9 @@ module _ {A B : Type 0} (sa : A → List ℕ) (fa la : A → Type 0) (ra : List 
         elim (bind_err (ra bytes) second f e) [
           | inl d ↦ after_first bytes f h d
           | inr p ↦ (elim (bind_err (rb p.0.0 p.0.1) (λ (y : B × List ℕ). Ok ((p.0.0, y.0), y.1)) f p.2) [
-              | inl d ↦ after_second bytes f p.0 h p.1 d
-              | inr q ↦ absurd cc
-            ])
+            | inl d ↦ after_second bytes f p.0 h p.1 d
+            | inr q ↦ absurd cc
+          ])
         ];
     some = (let x = one.some in let y = (other x.0).some in ((x.0, y.0), sa x.0 ++ sb y.0, (x.2, y.2), refl));
     bytes = λ x f. bytes_append (sa x.0) (sb x.1) (one.bytes x.0 f.0) ((other x.0).bytes x.1 f.1);
@@ -171,17 +171,17 @@ pub same_cons : {A : Type 0} (r : Part A) (g : A → List ℕ → Part (List A))
 same_cons (Err f) g = refl
 same_cons {A} (Ok x) g = by (g x.0 x.1)
   where
-  by : (s : Part (List A)) → (s >>= consed x.0) ≡ ((s >>= paired x.0) >>= joined)
-  by (Ok y) = refl
-  by (Err f) = refl
+    by : (s : Part (List A)) → (s >>= consed x.0) ≡ ((s >>= paired x.0) >>= joined)
+    by (Ok y) = refl
+    by (Err f) = refl
 
 pub same_counted : {B : Type 0} (r : Part ℕ) (g : ℕ → List ℕ → Part B) → (r >>= λ x. g x.0 x.1) ≡ ((r >>= λ x. g x.0 x.1 >>= paired x.0) >>= other_of)
 same_counted (Err f) g = refl
 same_counted {B} (Ok x) g = by (g x.0 x.1)
   where
-  by : (s : Part B) → s ≡ ((s >>= paired x.0) >>= other_of)
-  by (Ok y) = refl
-  by (Err f) = refl
+    by : (s : Part B) → s ≡ ((s >>= paired x.0) >>= other_of)
+    by (Ok y) = refl
+    by (Err f) = refl
 
 -- a count, and a list of that length
 module _ {A : Type 0} (spell : List A → List ℕ) (fits loose : List A → Type 0) (items : ℕ → List ℕ → Part (List A))

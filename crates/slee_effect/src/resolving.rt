@@ -34,23 +34,108 @@ fn resolved(effect: Effect, next: Next) -> Effect
     ensures { result ≡ resolved_effect next effect }
 {
     match effect {
-        Effect::SetField { entity, name, value } => Effect::SetField { entity: number_of(entity, next.entity), name, value: value_of(value, next) },
-        Effect::SetAttr { activity, key, value } => Effect::SetAttr { activity: number_of(activity, next.activity), key, value: value_of(value, next) },
-        Effect::Create { parent, relation, priority } => Effect::Create { parent: number_of(parent, next.entity), relation, priority },
-        Effect::Remove { entity } => Effect::Remove { entity: number_of(entity, next.entity) },
-        Effect::SetPriority { entity, priority } => Effect::SetPriority { entity: number_of(entity, next.entity), priority },
-        Effect::Attach { entity, activity } => Effect::Attach { entity: number_of(entity, next.entity), activity: number_of(activity, next.activity) },
-        Effect::Detach { entity, activity } => Effect::Detach { entity: number_of(entity, next.entity), activity: number_of(activity, next.activity) },
-        Effect::SetMask { entity, activity, event, on } => Effect::SetMask { entity: number_of(entity, next.entity), activity: number_of(activity, next.activity), event, on },
-        Effect::Fire { activity, event, service, fields } => Effect::Fire { activity: number_of(activity, next.activity), event, service, fields: fields_of(fields, next) },
+        Effect::SetField {
+            entity,
+            name,
+            value,
+        } => Effect::SetField {
+            entity: number_of(entity, next.entity),
+            name,
+            value: value_of(value, next),
+        },
+        Effect::SetAttr {
+            activity,
+            key,
+            value,
+        } => Effect::SetAttr {
+            activity: number_of(activity, next.activity),
+            key,
+            value: value_of(value, next),
+        },
+        Effect::Create {
+            parent,
+            relation,
+            priority,
+        } => Effect::Create {
+            parent: number_of(parent, next.entity),
+            relation,
+            priority,
+        },
+        Effect::Remove { entity } => Effect::Remove {
+            entity: number_of(entity, next.entity),
+        },
+        Effect::SetPriority { entity, priority } => Effect::SetPriority {
+            entity: number_of(entity, next.entity),
+            priority,
+        },
+        Effect::Attach { entity, activity } => Effect::Attach {
+            entity: number_of(entity, next.entity),
+            activity: number_of(activity, next.activity),
+        },
+        Effect::Detach { entity, activity } => Effect::Detach {
+            entity: number_of(entity, next.entity),
+            activity: number_of(activity, next.activity),
+        },
+        Effect::SetMask {
+            entity,
+            activity,
+            event,
+            on,
+        } => Effect::SetMask {
+            entity: number_of(entity, next.entity),
+            activity: number_of(activity, next.activity),
+            event,
+            on,
+        },
+        Effect::Fire {
+            activity,
+            event,
+            service,
+            fields,
+        } => Effect::Fire {
+            activity: number_of(activity, next.activity),
+            event,
+            service,
+            fields: fields_of(fields, next),
+        },
         Effect::NewNull => Effect::NewNull,
-        Effect::EndNull { activity } => Effect::EndNull { activity: number_of(activity, next.activity) },
-        Effect::SetTimer { activity, start, period, times, keep } => Effect::SetTimer { activity: number_of(activity, next.activity), start, period, times, keep },
-        Effect::CancelTimer { timer } => Effect::CancelTimer { timer: number_of(timer, next.timer) },
-        Effect::Bind { name, activity } => Effect::Bind { name, activity: number_of(activity, next.activity) },
+        Effect::EndNull { activity } => Effect::EndNull {
+            activity: number_of(activity, next.activity),
+        },
+        Effect::SetTimer {
+            activity,
+            start,
+            period,
+            times,
+            keep,
+        } => Effect::SetTimer {
+            activity: number_of(activity, next.activity),
+            start,
+            period,
+            times,
+            keep,
+        },
+        Effect::CancelTimer { timer } => Effect::CancelTimer {
+            timer: number_of(timer, next.timer),
+        },
+        Effect::Bind { name, activity } => Effect::Bind {
+            name,
+            activity: number_of(activity, next.activity),
+        },
         Effect::Unbind { name } => Effect::Unbind { name },
-        Effect::Emit { entity, text } => Effect::Emit { entity: number_of(entity, next.entity), text },
-        Effect::Usage { entity, name, amount } => Effect::Usage { entity: number_of(entity, next.entity), name, amount },
+        Effect::Emit { entity, text } => Effect::Emit {
+            entity: number_of(entity, next.entity),
+            text,
+        },
+        Effect::Usage {
+            entity,
+            name,
+            amount,
+        } => Effect::Usage {
+            entity: number_of(entity, next.entity),
+            name,
+            amount,
+        },
     }
 }
 
@@ -70,7 +155,9 @@ fn value_of(value: Val, next: Next) -> Val
 {
     match value {
         Val::Plain(value) => Val::Plain(value),
-        Val::NewActivity(place) => Val::Plain(Value::Activity(ActivityId(next.activity + u64::from(place)))),
+        Val::NewActivity(place) => Val::Plain(Value::Activity(ActivityId(
+            next.activity + u64::from(place),
+        ))),
         Val::NewTimer(place) => Val::Plain(Value::Timer(TimerId(next.timer + u64::from(place)))),
     }
 }

@@ -63,11 +63,17 @@ fn first_fault(left: usize, read: Result<(Text, &[u8]), PartFault>) -> PartFault
     ensures { (bytes : List ℕ) → Gives (λ x. (x.0, x.1.now)) read.entry (text_at bytes) → Fails result (in_order (Some left) (text_at bytes)) }
 {
     match read {
-        Ok(_) => PartFault::Bad { left, kind: ValueBad::Tag },
+        Ok(_) => PartFault::Bad {
+            left,
+            kind: ValueBad::Tag,
+        },
         Err(PartFault::NoMemory) => PartFault::NoMemory,
         Err(PartFault::Bad { left: first, kind }) => {
             if first < left {
-                PartFault::Bad { left, kind: ValueBad::Tag }
+                PartFault::Bad {
+                    left,
+                    kind: ValueBad::Tag,
+                }
             } else {
                 PartFault::Bad { left: first, kind }
             }
