@@ -197,15 +197,15 @@ effect_again (SetPriority entity priority) rest f = case_again _ _ _ _ _ _ _ _ _
 effect_again (Attach entity activity) rest f = case_again _ _ _ _ _ _ _ _ _ _ attach_case read_two (entity, activity) rest f
 effect_again (Detach entity activity) rest f = case_again _ _ _ _ _ _ _ _ _ _ detach_case read_two (entity, activity) rest f
 effect_again (SetMask entity activity event on) rest f = case_again _ _ _ _ _ _ _ _ _ _ set_mask_case read_masked (entity, (activity, (event, on))) rest f
-effect_again (Fire activity event service fields) rest f = case_again _ _ _ _ _ _ _ _ _ _ fire_case read_firing (activity, (event, (service, fields))) rest f
+effect_again (Fire activity event service row) rest f = case_again _ _ _ _ _ _ _ _ _ _ fire_case read_firing (activity, (event, (service, row))) rest f
 effect_again NewNull rest f = case_again _ _ _ _ _ _ _ _ _ _ new_null_case reads_nothing tt rest f
 effect_again (EndNull activity) rest f = case_again _ _ _ _ _ _ _ _ _ _ end_null_case reads_ref activity rest f
 effect_again (SetTimer activity start period times keep) rest f = case_again _ _ _ _ _ _ _ _ _ _ set_timer_case read_timed (activity, (start, (period, (times, keep)))) rest f
 effect_again (CancelTimer timer) rest f = case_again _ _ _ _ _ _ _ _ _ _ cancel_timer_case reads_ref timer rest f
 effect_again (Bind name activity) rest f = case_again _ _ _ _ _ _ _ _ _ _ bind_case read_bound (name, activity) rest f
 effect_again (Unbind name) rest f = case_again _ _ _ _ _ _ _ _ _ _ unbind_case reads_text name rest f
-effect_again (Emit entity text) rest f = case_again _ _ _ _ _ _ _ _ _ _ emit_case read_said (entity, text) rest f
-effect_again (Usage entity name amount) rest f = case_again _ _ _ _ _ _ _ _ _ _ usage_case read_counted (entity, (name, amount)) rest f
+effect_again (Emit entity words) rest f = case_again _ _ _ _ _ _ _ _ _ _ emit_case read_said (entity, words) rest f
+effect_again (Usage entity name number) rest f = case_again _ _ _ _ _ _ _ _ _ _ usage_case read_counted (entity, (name, number)) rest f
 
 effect_bytes : (x : Effect) → FitsEffect x → AreBytes (spelled_effect x)
 effect_bytes (SetField entity name value) f = case_bytes _ _ _ _ _ _ _ _ _ _ set_field_case read_setting (entity, (name, value)) (omega arith) f
@@ -216,15 +216,15 @@ effect_bytes (SetPriority entity priority) f = case_bytes _ _ _ _ _ _ _ _ _ _ se
 effect_bytes (Attach entity activity) f = case_bytes _ _ _ _ _ _ _ _ _ _ attach_case read_two (entity, activity) (omega arith) f
 effect_bytes (Detach entity activity) f = case_bytes _ _ _ _ _ _ _ _ _ _ detach_case read_two (entity, activity) (omega arith) f
 effect_bytes (SetMask entity activity event on) f = case_bytes _ _ _ _ _ _ _ _ _ _ set_mask_case read_masked (entity, (activity, (event, on))) (omega arith) f
-effect_bytes (Fire activity event service fields) f = case_bytes _ _ _ _ _ _ _ _ _ _ fire_case read_firing (activity, (event, (service, fields))) (omega arith) f
+effect_bytes (Fire activity event service row) f = case_bytes _ _ _ _ _ _ _ _ _ _ fire_case read_firing (activity, (event, (service, row))) (omega arith) f
 effect_bytes NewNull f = case_bytes _ _ _ _ _ _ _ _ _ _ new_null_case reads_nothing tt (omega arith) f
 effect_bytes (EndNull activity) f = case_bytes _ _ _ _ _ _ _ _ _ _ end_null_case reads_ref activity (omega arith) f
 effect_bytes (SetTimer activity start period times keep) f = case_bytes _ _ _ _ _ _ _ _ _ _ set_timer_case read_timed (activity, (start, (period, (times, keep)))) (omega arith) f
 effect_bytes (CancelTimer timer) f = case_bytes _ _ _ _ _ _ _ _ _ _ cancel_timer_case reads_ref timer (omega arith) f
 effect_bytes (Bind name activity) f = case_bytes _ _ _ _ _ _ _ _ _ _ bind_case read_bound (name, activity) (omega arith) f
 effect_bytes (Unbind name) f = case_bytes _ _ _ _ _ _ _ _ _ _ unbind_case reads_text name (omega arith) f
-effect_bytes (Emit entity text) f = case_bytes _ _ _ _ _ _ _ _ _ _ emit_case read_said (entity, text) (omega arith) f
-effect_bytes (Usage entity name amount) f = case_bytes _ _ _ _ _ _ _ _ _ _ usage_case read_counted (entity, (name, amount)) (omega arith) f
+effect_bytes (Emit entity words) f = case_bytes _ _ _ _ _ _ _ _ _ _ emit_case read_said (entity, words) (omega arith) f
+effect_bytes (Usage entity name number) f = case_bytes _ _ _ _ _ _ _ _ _ _ usage_case read_counted (entity, (name, number)) (omega arith) f
 
 effect_some : Begins spelled_effect IsLooseEffect []
 effect_some = (NewNull, 10 ∷ [], tt, refl)
@@ -335,15 +335,15 @@ loosen_effect (SetPriority entity priority) f = f
 loosen_effect (Attach entity activity) f = f
 loosen_effect (Detach entity activity) f = f
 loosen_effect (SetMask entity activity event on) f = f
-loosen_effect (Fire activity event service fields) f = (f.0, (f.1.0, (f.1.1.0, f.1.1.1.0)))
+loosen_effect (Fire activity event service row) f = (f.0, (f.1.0, (f.1.1.0, f.1.1.1.0)))
 loosen_effect NewNull f = f
 loosen_effect (EndNull activity) f = f
 loosen_effect (SetTimer activity start period times keep) f = f
 loosen_effect (CancelTimer timer) f = f
 loosen_effect (Bind name activity) f = f
 loosen_effect (Unbind name) f = f
-loosen_effect (Emit entity text) f = f
-loosen_effect (Usage entity name amount) f = f
+loosen_effect (Emit entity words) f = f
+loosen_effect (Usage entity name number) f = f
 
 pub reads_effect : ReadsBy spelled_effect FitsEffect IsLooseEffect effect_at
 reads_effect = record { takes = effect_takes; again = effect_again; stuck = effect_stuck; some = effect_some; bytes = effect_bytes; loosen = loosen_effect }

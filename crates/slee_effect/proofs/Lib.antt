@@ -9,3 +9,4 @@ pub mod FieldLemmas
 pub mod EffectLemmas
 pub mod ListLemmas
 pub mod NamesLemmas
+pub mod StepLemmas

@@ -1,5 +1,5 @@
 -- Numbers in the values of fields leave their names.
-use Rattle.std.proofs.Common.{◌≡◌, ℕ, List, [], ◌∷◌, map, refl, ap, IsTrue, subst, sym}
+use Rattle.std.proofs.Common.{◌≡◌, ℕ, suc, List, [], ◌∷◌, length, map, refl, ap}
 use Rattle.slee_value.specs.Order.{rises, names_of}
 use Rattle.slee_effect.specs.declared.value.Val.{Val}
 use Rattle.slee_effect.specs.declared.next.Next.{Next}
@@ -11,3 +11,7 @@ same_names next (f ∷ fields) = ap (λ (ns : List (List ℕ)). f.0 ∷ ns) (sam
 
 pub names_stay : (next : Next) (fields : List (List ℕ × Val)) → rises (names_of (map (resolved_field next) fields)) ≡ rises (names_of fields)
 names_stay next fields = ap rises (same_names next fields)
+
+pub len_stays : (next : Next) (fields : List (List ℕ × Val)) → length (map (resolved_field next) fields) ≡ length fields
+len_stays next [] = refl
+len_stays next (f ∷ fields) = ap suc (len_stays next fields)
