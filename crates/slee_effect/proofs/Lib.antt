@@ -1,1 +1,12 @@
 pub mod Loops
+pub mod FallLemmas
+pub mod ExitLemmas
+pub mod LastLemmas
+pub mod OrderLemmas
+pub mod ThenLemmas
+pub mod PieceLemmas
+pub mod FieldLemmas
+pub mod EffectLemmas
+pub mod ListLemmas
+pub mod NamesLemmas
+pub mod StepLemmas

@@ -61,10 +61,13 @@ fall [] (suc n) bytes = None
 fall (p ∷ ps) (suc n) [] = None
 fall (p ∷ ps) (suc n) (b ∷ bs) = if nat_lt b p then Some (length (b ∷ bs)) else (if nat_lt p b then None else fall ps n bs)
 
+abbrev pub fall_after : Option (List ℕ) → ℕ → List ℕ → Option ℕ
+fall_after None len bytes = None
+fall_after (Some before) len bytes = fall before len bytes
+
 abbrev pub fall_behind : Option (List ℕ) → Part ℕ → Option ℕ
-fall_behind None len = None
-fall_behind (Some before) (Ok len) = fall before len.0 len.1
-fall_behind (Some before) (Err f) = None
+fall_behind before (Ok len) = fall_after before len.0 len.1
+fall_behind before (Err f) = None
 
 -- the fault that stands first
 abbrev pub in_order : {A : Type 0} → Option ℕ → Part A → Part A

@@ -1,6 +1,10 @@
-ghost use Rattle.std.specs.Prelude.{◌≡◌, ◌++◌, ◌∷◌, [], IfOk, OnOk, OnErr, length};
+ghost use Rattle.std.specs.Prelude.{◌≡◌, ◌++◌, ◌∷◌, [], IfOk, OnOk, OnErr, length, map};
+ghost use Rattle.std.specs.List.{AllByRecursion};
+ghost use Rattle.slee_effect.specs.Resolving.{resolved_effect, CanResolve};
 
 use crate::Effect;
+use crate::next::Next;
+use crate::resolving::resolve_all;
 use slee_value::NoMemory;
 use std::alloc::Global;
 use std::marker::Model;
@@ -67,6 +71,19 @@ impl Effects {
         let effects = copied_effects(alloc, self.as_slice())?;
         Ok(Effects { effects })
     }
+}
+
+/// Puts numbers in place of what the effects create: of each kind, the k-th gets the next number and k.
+pub fn resolve(effects: &mut Effects, entity: u64, activity: u64, timer: u64)
+    requires { AllByRecursion (CanResolve (record { entity = entity; activity = activity; timer = timer })) effects.old }
+    ensures { effects.new ≡ map (resolved_effect (record { entity = entity; activity = activity; timer = timer })) effects.old }
+{
+    let next = Next {
+        entity,
+        activity,
+        timer,
+    };
+    resolve_all(&mut effects.effects, next);
 }
 
 fn copied_effects(alloc: Global, effects: &[Effect]) -> Result<Vec<Effect>, NoMemory>

@@ -1,7 +1,11 @@
-ghost use Rattle.std.specs.Prelude.{◌≡◌, ◌++◌, ◌∷◌, [], IsTrue, IfOk, OnOk, OnErr, length};
+ghost use Rattle.std.specs.Prelude.{◌≡◌, ◌++◌, ◌∷◌, [], IsTrue, IfOk, OnOk, OnErr, length, map};
+ghost use Rattle.std.specs.List.{AllByRecursion};
+ghost use Rattle.slee_effect.specs.Resolving.{resolved_field, CanResolveField};
 ghost use Rattle.slee_value.specs.Order.{rises, names_of};
 
 use crate::Val;
+use crate::next::Next;
+use crate::resolving::resolve_fields;
 use slee_value::{NoMemory, Text};
 use std::alloc::Global;
 use std::marker::Model;
@@ -66,6 +70,15 @@ impl FiredFields {
         ensures rising { IsTrue (rises (names_of self.now)) }
     {
         self.fields.len()
+    }
+
+    /// Puts numbers in place of activities and timers that are created.
+    #[tactic(auto, using(crate::proofs::NamesLemmas::names_stay))]
+    pub(crate) fn resolve(&mut self, next: Next)
+        requires { AllByRecursion (CanResolveField next) self.old }
+        ensures { self.new ≡ map (resolved_field next) self.old }
+    {
+        resolve_fields(&mut self.fields, next);
     }
 
     /// A copy.

@@ -5,18 +5,25 @@ mod effect;
 mod effects;
 mod fault;
 mod fired;
+mod laws;
+mod next;
 mod parts;
 mod reading;
 mod reference;
+mod resolving;
 mod rows;
 mod value;
 mod writing;
 
 pub use effect::Effect;
-pub use effects::Effects;
+pub use effects::{Effects, resolve};
 pub use fault::EffectFault;
 pub use fired::FiredFields;
+pub use laws::{effects_have_one_spelling, lists_have_one_spelling};
 pub use reading::read_effects;
 pub use reference::Ref;
 pub use value::Val;
 pub use writing::write_effects;
+
+#[cfg(test)]
+mod tests;

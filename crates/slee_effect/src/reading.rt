@@ -1,4 +1,4 @@
-ghost use Rattle.std.specs.Prelude.{◌≡◌, List, length, IfOk, IfErr};
+ghost use Rattle.std.specs.Prelude.{◌≡◌, List, length, slice_index_or, IfOk, IfErr};
 ghost use Rattle.slee_value.specs.Reading.{Gives};
 ghost use Rattle.slee_value.specs.declared.fault.PartFault.TheVariants.{Bad};
 ghost use Rattle.slee_value.specs.declared.fault.ValueBad.TheVariants.{Tag};
@@ -6,7 +6,7 @@ ghost use Rattle.slee_effect.specs.declared.effect.Effect.{Effect as EffectModel
 ghost use Rattle.slee_effect.specs.Bytes.{spelling_of_effects};
 ghost use Rattle.slee_effect.specs.Fitting.{FitEffects};
 ghost use Rattle.slee_effect.specs.Lists.{IsRead, StandsRight, Answers};
-ghost use Rattle.slee_effect.specs.Reading.{effect_at, items_at, list_of};
+ghost use Rattle.slee_effect.specs.Reading.{effect_at, bodies, no_effect, items_at, list_of};
 
 use crate::parts::{
     read_binding, read_creation, read_fire, read_mask, read_named, read_priority, read_ref,
@@ -18,6 +18,13 @@ use std::alloc::Global;
 
 /// The list of effects that the bytes are, all of them.
 pub fn read_effects(alloc: Global, bytes: &[u8]) -> Result<Effects, EffectFault>
+    // What is read is spelled so, each byte of it.
+    ensures found { IfOk result (λ e. FitEffects e × (bytes.now ≡ spelling_of_effects e)) }
+    // What is spelled so is read, unless memory runs out.
+    ensures only { (es : List EffectModel) → FitEffects es → bytes.now ≡ spelling_of_effects es → IsRead es result }
+    // A fault stands at the first byte that can't go on.
+    ensures place { IfErr result (λ e. StandsRight bytes.now e) }
+    // Which list or fault it is.
     ensures exact { Answers bytes.now result }
 {
     match list(alloc, bytes) {
@@ -65,13 +72,19 @@ fn stray(bytes: &[u8]) -> PartFault
 fn read_effect(alloc: Global, bytes: &[u8]) -> Result<(Effect, &[u8]), PartFault>
     ensures { Gives (λ x. (x.0, x.1.now)) result (effect_at bytes.now) }
 {
-    let [tag, rest @ ..] = bytes else {
-        return Err(PartFault::Bad {
+    match bytes {
+        [] => Err(PartFault::Bad {
             left: 0,
             kind: ValueBad::Short,
-        });
-    };
-    match *tag {
+        }),
+        [tag, rest @ ..] => read_body(alloc, *tag, rest),
+    }
+}
+
+fn read_body(alloc: Global, tag: u8, rest: &[u8]) -> Result<(Effect, &[u8]), PartFault>
+    ensures { Gives (λ x. (x.0, x.1.now)) result (slice_index_or bodies tag no_effect rest.now) }
+{
+    match tag {
         1 => {
             let ((entity, (name, value)), rest) = read_setting(alloc, rest)?;
             Ok((
@@ -190,6 +203,9 @@ fn read_effect(alloc: Global, bytes: &[u8]) -> Result<(Effect, &[u8]), PartFault
                 rest,
             ))
         }
-        _ => Err(stray(bytes)),
+        _ => Err(PartFault::Bad {
+            left: rest.len() + 1,
+            kind: ValueBad::Tag,
+        }),
     }
 }

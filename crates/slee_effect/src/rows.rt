@@ -1,7 +1,6 @@
-ghost use Rattle.std.specs.Prelude.{◌≡◌, None};
-ghost use Rattle.std.specs.Int.{w32};
-ghost use Rattle.slee_value.specs.Reading.{Gives, number_at};
-ghost use Rattle.slee_effect.specs.Reading.{fall, fall_behind, name_at, field_at, rows_at, fields_at, last_name};
+ghost use Rattle.std.specs.Prelude.{◌≡◌, ℕ, List, None, Some};
+ghost use Rattle.slee_value.specs.Reading.{Gives, Fails, text_at};
+ghost use Rattle.slee_effect.specs.Reading.{fall, fall_after, in_order, name_at, field_at, rows_at, fields_at, last_name};
 
 use crate::parts::read_val;
 use crate::{FiredFields, Val};
@@ -53,38 +52,41 @@ fn read_name<'a>(
 ) -> Result<(Text, &'a [u8]), PartFault>
     ensures { Gives (λ x. (x.0, x.1.now)) result (name_at (last_name fields.now) bytes.now) }
 {
-    let read = read_text(alloc, bytes);
-    match fall_of(fields, bytes) {
-        None => read,
-        Some(left) => match read {
-            Ok(_) => Err(PartFault::Bad {
-                left,
-                kind: ValueBad::Tag,
-            }),
-            Err(PartFault::NoMemory) => Err(PartFault::NoMemory),
-            Err(PartFault::Bad { left: first, kind }) => {
-                if first < left {
-                    Err(PartFault::Bad {
-                        left,
-                        kind: ValueBad::Tag,
-                    })
-                } else {
-                    Err(PartFault::Bad { left: first, kind })
-                }
-            }
-        },
+    let (len, rest) = read_u32(bytes)?;
+    match fall_of(fields, len as usize, rest) {
+        None => read_text(alloc, bytes),
+        Some(left) => Err(first_fault(left, read_text(alloc, bytes))),
     }
 }
 
-fn fall_of(fields: &[(Text, Val)], bytes: &[u8]) -> Option<usize>
-    ensures { result ≡ fall_behind (last_name fields.now) (number_at w32 bytes.now) }
+fn first_fault(left: usize, read: Result<(Text, &[u8]), PartFault>) -> PartFault
+    ensures { (bytes : List ℕ) → Gives (λ x. (x.0, x.1.now)) read.entry (text_at bytes) → Fails result (in_order (Some left) (text_at bytes)) }
+{
+    match read {
+        Ok(_) => PartFault::Bad {
+            left,
+            kind: ValueBad::Tag,
+        },
+        Err(PartFault::NoMemory) => PartFault::NoMemory,
+        Err(PartFault::Bad { left: first, kind }) => {
+            if first < left {
+                PartFault::Bad {
+                    left,
+                    kind: ValueBad::Tag,
+                }
+            } else {
+                PartFault::Bad { left: first, kind }
+            }
+        }
+    }
+}
+
+fn fall_of(fields: &[(Text, Val)], len: usize, bytes: &[u8]) -> Option<usize>
+    ensures { result ≡ fall_after (last_name fields.now) len bytes.now }
 {
     match fields.last() {
         None => None,
-        Some((before, _)) => match read_u32(bytes) {
-            Err(_) => None,
-            Ok((len, rest)) => fall_at(before.as_bytes(), len as usize, rest),
-        },
+        Some((before, _)) => fall_at(before.as_bytes(), len, bytes),
     }
 }
 
@@ -92,7 +94,13 @@ fn fall_at(before: &[u8], len: usize, bytes: &[u8]) -> Option<usize>
     ensures { result ≡ fall before.now len bytes.now }
 {
     'same: for at in 0..len {
-        if at == before.len() || at == bytes.len() || before[at] < bytes[at] {
+        if at == before.len() {
+            return None;
+        }
+        if at == bytes.len() {
+            return None;
+        }
+        if before[at] < bytes[at] {
             return None;
         }
         if bytes[at] < before[at] {

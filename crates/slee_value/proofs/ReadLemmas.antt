@@ -109,6 +109,13 @@ pub record ReadsBy {A : Type 0} (spell : A → List ℕ) (fits loose : A → Typ
 abbrev pub Reads : {A : Type 0} → (A → List ℕ) → (A → Type 0) → (List ℕ → Part A) → Type 0
 Reads spell fits = ReadsBy spell fits fits
 
+-- things that fit have one spelling, and none is a front of another's
+pub one_spelling : {A : Type 0} (spell : A → List ℕ) (fits loose : A → Type 0) (read : List ℕ → Part A) → ReadsBy spell fits loose read → (x y : A) (r q : List ℕ) → fits x → fits y → spell x ++ r ≡ spell y ++ q → (x ≡ y) × (r ≡ q)
+one_spelling {A} spell fits loose read reads x y r q f g e =
+    let both : done (x, r) ≡ done (y, q) = sym (reads.again x r f) ∙ ap read e ∙ reads.again y q g in
+    let same = ok_is (x, r) (y, q) both in
+    (ap (λ (p : A × List ℕ). p.0) same, ap (λ (p : A × List ℕ). p.1) same)
+
 -- ---- what is read, made into something else
 
 pub reads_mapped : {A B : Type 0} (make : A → B) (part : B → A) (spell : A → List ℕ) (fits : A → Type 0) (spell' : B → List ℕ) (fits' : B → Type 0) (read : List ℕ → Part A)

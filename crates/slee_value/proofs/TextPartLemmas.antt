@@ -211,7 +211,7 @@ text_begins n front rest text lt u len e =
     (text, rest, record { utf8 = u; short = omega arith }, all)
 
 -- the text of a spelling whose length is n
-text_after : (n : ℕ) (front rest text : List ℕ) → n < 2 ^ 32 → FitsText text → spelled_text text ≡ (spelled_u32 n ++ front) ++ rest → (length text ≡ n) × (text ≡ front ++ rest)
+pub text_after : (n : ℕ) (front rest text : List ℕ) → n < 2 ^ 32 → FitsText text → spelled_text text ≡ (spelled_u32 n ++ front) ++ rest → (length text ≡ n) × (text ≡ front ++ rest)
 text_after n front rest text lt f e =
     let split : spelled_u32 (length text) ++ text ≡ spelled_u32 n ++ (front ++ rest) = e ∙ append_assoc (spelled_u32 n) front rest in
     let same : done (length text, text) ≡ done (n, front ++ rest) = sym (reads_u32.again (length text) text f.short) ∙ ap (number_at w32) split ∙ reads_u32.again n (front ++ rest) lt in

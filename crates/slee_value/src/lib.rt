@@ -9,6 +9,7 @@ mod fault;
 mod ids;
 mod keep;
 mod kind;
+mod laws;
 mod memory;
 mod name;
 mod names;
@@ -26,6 +27,7 @@ pub use fault::{PartFault, ValueBad, ValueFault};
 pub use ids::{ActivityId, EntityId, EventId, TimerId};
 pub use keep::Keep;
 pub use kind::Kind;
+pub use laws::{texts_have_one_spelling, values_have_one_spelling};
 pub use memory::NoMemory;
 pub use name::{NAME_LIMIT, Name};
 pub use names::Names;
@@ -34,3 +36,6 @@ pub use reading::{read_flag, read_part, read_text, read_u32, read_u64, read_valu
 pub use text::Text;
 pub use value::Value;
 pub use writing::{write_text, write_value};
+
+#[cfg(test)]
+mod tests;

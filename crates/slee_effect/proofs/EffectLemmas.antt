@@ -1,0 +1,349 @@
+-- Each effect is read as it is spelled.
+use Rattle.std.proofs.Common.{◌≡◌, ℕ, zero, suc, ◌+◌, ◌^◌, ◌<◌, ◌≤◌, ℤ, Bool, List, [], ◌∷◌, ◌++◌, length, get_or, Option, Result, Ok, Err, refl, sym, ap, subst, ◌∙◌, arith, FitsSigned}
+use Rattle.std.specs.Prelude.{⊤, slice_index_or}
+use Rattle.std.specs.Int.{w8, w32, w64}
+use Rattle.slee_value.specs.declared.keep.Keep.{Keep}
+use Rattle.slee_value.specs.declared.fault.ValueBad.TheVariants as bad
+use Rattle.slee_value.specs.Bytes.{spelled_u64, spelled_i64, spelled_text, spelled_flag, FitsText}
+use Rattle.slee_value.specs.Reading.{Fault, Part, mapped, pair, number_at, i64_at, flag_at, text_at}
+use Rattle.slee_value.proofs.ReadLemmas.{AreBytes, Takes, Begins, IsStuckBy, ReadsBy, spell_pair, fits_pair, reads_pair, IsCaseBy, case_takes, case_again, case_bytes, case_stuck, no_case, no_bytes, err_is}
+use Rattle.slee_value.proofs.PartLemmas.{reads_u64, reads_i64, reads_flag}
+use Rattle.slee_value.proofs.TextPartLemmas.{reads_text}
+use Rattle.slee_effect.specs.declared.reference.Ref.{Ref}
+use Rattle.slee_effect.specs.declared.value.Val.{Val}
+use Rattle.slee_effect.specs.declared.effect.Effect.{Effect}
+use Rattle.slee_effect.specs.declared.effect.Effect.TheVariants.{SetField, SetAttr, Create, Remove, SetPriority, Attach, Detach, SetMask, Fire, NewNull, EndNull, SetTimer, CancelTimer, Bind, Unbind, Emit, Usage}
+use Rattle.slee_effect.specs.Bytes.{spelled_i8, spelled_option, spelled_keep, spelled_ref, spelled_val, spelled_fields, spelled_effect}
+use Rattle.slee_effect.specs.Fitting.{FitsRef, FitsVal, FitsOption, AreFields, AreRisingFields, FitsEffect, IsLooseEffect}
+use Rattle.slee_effect.specs.Reading.{nothing_at, i8_at, keep_at, option_at, ref_at, val_at, fields_at, bodies, no_effect, effect_at}
+use Rattle.slee_effect.proofs.PieceLemmas.{reads_nothing, reads_i8, reads_keep, reads_option, reads_ref, reads_val}
+use Rattle.slee_effect.proofs.FieldLemmas.{reads_fields}
+
+-- ---- shapes: how a part is spelled, what fits, and how it is read
+
+record Shape (A : Type 0) : Type 1 where
+  spell : A → List ℕ
+  fits : A → Type 0
+  loose : A → Type 0
+  read : List ℕ → Part A
+
+abbrev IsRead : {A : Type 0} → Shape A → Type 0
+IsRead s = ReadsBy s.spell s.fits s.loose s.read
+
+abbrev both : {A B : Type 0} → Shape A → Shape B → Shape (A × B)
+both a b = record { spell = spell_pair a.spell b.spell; fits = fits_pair a.fits b.fits; loose = fits_pair a.loose b.loose; read = pair a.read b.read }
+
+read_both : {A B : Type 0} (a : Shape A) (b : Shape B) → IsRead a → IsRead b → IsRead (both a b)
+read_both a b p q = reads_pair a.spell a.fits a.loose a.read b.spell b.fits b.loose b.read p q
+
+abbrev strict : {A : Type 0} → (A → List ℕ) → (A → Type 0) → (List ℕ → Part A) → Shape A
+strict spell fits read = record { spell = spell; fits = fits; loose = fits; read = read }
+
+abbrev nothing : Shape (Unit {0})
+nothing = strict (λ u. []) (λ u. ⊤) nothing_at
+
+abbrev one : Shape Ref
+one = strict spelled_ref FitsRef ref_at
+
+abbrev text : Shape (List ℕ)
+text = strict spelled_text FitsText text_at
+
+abbrev val : Shape Val
+val = strict spelled_val FitsVal val_at
+
+abbrev rank : Shape ℤ
+rank = strict spelled_i8 (FitsSigned w8) i8_at
+
+abbrev amount : Shape ℤ
+amount = strict spelled_i64 (FitsSigned w64) i64_at
+
+abbrev moment : Shape ℕ
+moment = strict spelled_u64 (λ n. n < 2 ^ 64) (number_at w64)
+
+abbrev flag : Shape Bool
+flag = strict spelled_flag (λ f. ⊤) flag_at
+
+abbrev kept : Shape Keep
+kept = strict spelled_keep (λ k. ⊤) keep_at
+
+abbrev option : Shape (Option (List ℕ))
+option = strict spelled_option FitsOption option_at
+
+abbrev fields : Shape (List (List ℕ × Val))
+fields = record { spell = spelled_fields; fits = AreRisingFields; loose = AreFields; read = fields_at }
+
+abbrev setting : Shape (Ref × (List ℕ × Val))
+setting = both one (both text val)
+
+read_setting : IsRead setting
+read_setting = read_both one (both text val) reads_ref (read_both text val reads_text reads_val)
+
+abbrev creation : Shape (Ref × (List ℕ × ℤ))
+creation = both one (both text rank)
+
+read_creation : IsRead creation
+read_creation = read_both one (both text rank) reads_ref (read_both text rank reads_text reads_i8)
+
+abbrev ranked : Shape (Ref × ℤ)
+ranked = both one rank
+
+read_ranked : IsRead ranked
+read_ranked = read_both one rank reads_ref reads_i8
+
+abbrev two : Shape (Ref × Ref)
+two = both one one
+
+read_two : IsRead two
+read_two = read_both one one reads_ref reads_ref
+
+abbrev masked : Shape (Ref × (Ref × (List ℕ × Bool)))
+masked = both one (both one (both text flag))
+
+read_masked : IsRead masked
+read_masked = read_both one (both one (both text flag)) reads_ref (read_both one (both text flag) reads_ref (read_both text flag reads_text reads_flag))
+
+abbrev firing : Shape (Ref × (List ℕ × (Option (List ℕ) × List (List ℕ × Val))))
+firing = both one (both text (both option fields))
+
+read_firing : IsRead firing
+read_firing = read_both one (both text (both option fields)) reads_ref (read_both text (both option fields) reads_text (read_both option fields reads_option reads_fields))
+
+abbrev timed : Shape (Ref × (ℕ × (ℕ × (ℕ × Keep))))
+timed = both one (both moment (both moment (both moment kept)))
+
+read_timed : IsRead timed
+read_timed = read_both one (both moment (both moment (both moment kept))) reads_ref (read_both moment (both moment (both moment kept)) reads_u64 (read_both moment (both moment kept) reads_u64 (read_both moment kept reads_u64 reads_keep)))
+
+abbrev bound : Shape (List ℕ × Ref)
+bound = both text one
+
+read_bound : IsRead bound
+read_bound = read_both text one reads_text reads_ref
+
+abbrev said : Shape (Ref × List ℕ)
+said = both one text
+
+read_said : IsRead said
+read_said = read_both one text reads_ref reads_text
+
+abbrev counted : Shape (Ref × (List ℕ × ℤ))
+counted = both one (both text amount)
+
+read_counted : IsRead counted
+read_counted = read_both one (both text amount) reads_ref (read_both text amount reads_text reads_i64)
+
+-- ---- the effects by their first byte
+
+abbrev IsEffectCase : {A : Type 0} → ℕ → (A → Effect) → Shape A → Type 0
+IsEffectCase tag make s = IsCaseBy spelled_effect FitsEffect IsLooseEffect effect_at tag make s.spell s.fits s.loose s.read
+
+set_field_case : IsEffectCase 1 (λ p. SetField p.0 p.1.0 p.1.1) setting
+set_field_case = record { spells = λ x. refl; fit = λ x f. f; loosens = λ x f. f; reads = λ bytes. refl }
+
+set_attr_case : IsEffectCase 2 (λ p. SetAttr p.0 p.1.0 p.1.1) setting
+set_attr_case = record { spells = λ x. refl; fit = λ x f. f; loosens = λ x f. f; reads = λ bytes. refl }
+
+create_case : IsEffectCase 3 (λ p. Create p.0 p.1.0 p.1.1) creation
+create_case = record { spells = λ x. refl; fit = λ x f. f; loosens = λ x f. f; reads = λ bytes. refl }
+
+remove_case : IsEffectCase 4 (λ p. Remove p) one
+remove_case = record { spells = λ x. refl; fit = λ x f. f; loosens = λ x f. f; reads = λ bytes. refl }
+
+set_priority_case : IsEffectCase 5 (λ p. SetPriority p.0 p.1) ranked
+set_priority_case = record { spells = λ x. refl; fit = λ x f. f; loosens = λ x f. f; reads = λ bytes. refl }
+
+attach_case : IsEffectCase 6 (λ p. Attach p.0 p.1) two
+attach_case = record { spells = λ x. refl; fit = λ x f. f; loosens = λ x f. f; reads = λ bytes. refl }
+
+detach_case : IsEffectCase 7 (λ p. Detach p.0 p.1) two
+detach_case = record { spells = λ x. refl; fit = λ x f. f; loosens = λ x f. f; reads = λ bytes. refl }
+
+set_mask_case : IsEffectCase 8 (λ p. SetMask p.0 p.1.0 p.1.1.0 p.1.1.1) masked
+set_mask_case = record { spells = λ x. refl; fit = λ x f. f; loosens = λ x f. f; reads = λ bytes. refl }
+
+fire_case : IsEffectCase 9 (λ p. Fire p.0 p.1.0 p.1.1.0 p.1.1.1) firing
+fire_case = record { spells = λ x. refl; fit = λ x f. f; loosens = λ x f. f; reads = λ bytes. refl }
+
+new_null_case : IsEffectCase 10 (λ p. NewNull) nothing
+new_null_case = record { spells = λ x. refl; fit = λ x f. f; loosens = λ x f. f; reads = λ bytes. refl }
+
+end_null_case : IsEffectCase 11 (λ p. EndNull p) one
+end_null_case = record { spells = λ x. refl; fit = λ x f. f; loosens = λ x f. f; reads = λ bytes. refl }
+
+set_timer_case : IsEffectCase 12 (λ p. SetTimer p.0 p.1.0 p.1.1.0 p.1.1.1.0 p.1.1.1.1) timed
+set_timer_case = record { spells = λ x. refl; fit = λ x f. f; loosens = λ x f. f; reads = λ bytes. refl }
+
+cancel_timer_case : IsEffectCase 13 (λ p. CancelTimer p) one
+cancel_timer_case = record { spells = λ x. refl; fit = λ x f. f; loosens = λ x f. f; reads = λ bytes. refl }
+
+bind_case : IsEffectCase 14 (λ p. Bind p.0 p.1) bound
+bind_case = record { spells = λ x. refl; fit = λ x f. f; loosens = λ x f. f; reads = λ bytes. refl }
+
+unbind_case : IsEffectCase 15 (λ p. Unbind p) text
+unbind_case = record { spells = λ x. refl; fit = λ x f. f; loosens = λ x f. f; reads = λ bytes. refl }
+
+emit_case : IsEffectCase 16 (λ p. Emit p.0 p.1) said
+emit_case = record { spells = λ x. refl; fit = λ x f. f; loosens = λ x f. f; reads = λ bytes. refl }
+
+usage_case : IsEffectCase 17 (λ p. Usage p.0 p.1.0 p.1.1) counted
+usage_case = record { spells = λ x. refl; fit = λ x f. f; loosens = λ x f. f; reads = λ bytes. refl }
+
+pub effect_again : (x : Effect) (rest : List ℕ) → FitsEffect x → effect_at (spelled_effect x ++ rest) ≡ Ok (x, rest)
+effect_again (SetField entity name value) rest f = case_again _ _ _ _ _ _ _ _ _ _ set_field_case read_setting (entity, (name, value)) rest f
+effect_again (SetAttr activity key value) rest f = case_again _ _ _ _ _ _ _ _ _ _ set_attr_case read_setting (activity, (key, value)) rest f
+effect_again (Create parent relation priority) rest f = case_again _ _ _ _ _ _ _ _ _ _ create_case read_creation (parent, (relation, priority)) rest f
+effect_again (Remove entity) rest f = case_again _ _ _ _ _ _ _ _ _ _ remove_case reads_ref entity rest f
+effect_again (SetPriority entity priority) rest f = case_again _ _ _ _ _ _ _ _ _ _ set_priority_case read_ranked (entity, priority) rest f
+effect_again (Attach entity activity) rest f = case_again _ _ _ _ _ _ _ _ _ _ attach_case read_two (entity, activity) rest f
+effect_again (Detach entity activity) rest f = case_again _ _ _ _ _ _ _ _ _ _ detach_case read_two (entity, activity) rest f
+effect_again (SetMask entity activity event on) rest f = case_again _ _ _ _ _ _ _ _ _ _ set_mask_case read_masked (entity, (activity, (event, on))) rest f
+effect_again (Fire activity event service row) rest f = case_again _ _ _ _ _ _ _ _ _ _ fire_case read_firing (activity, (event, (service, row))) rest f
+effect_again NewNull rest f = case_again _ _ _ _ _ _ _ _ _ _ new_null_case reads_nothing tt rest f
+effect_again (EndNull activity) rest f = case_again _ _ _ _ _ _ _ _ _ _ end_null_case reads_ref activity rest f
+effect_again (SetTimer activity start period times keep) rest f = case_again _ _ _ _ _ _ _ _ _ _ set_timer_case read_timed (activity, (start, (period, (times, keep)))) rest f
+effect_again (CancelTimer timer) rest f = case_again _ _ _ _ _ _ _ _ _ _ cancel_timer_case reads_ref timer rest f
+effect_again (Bind name activity) rest f = case_again _ _ _ _ _ _ _ _ _ _ bind_case read_bound (name, activity) rest f
+effect_again (Unbind name) rest f = case_again _ _ _ _ _ _ _ _ _ _ unbind_case reads_text name rest f
+effect_again (Emit entity words) rest f = case_again _ _ _ _ _ _ _ _ _ _ emit_case read_said (entity, words) rest f
+effect_again (Usage entity name number) rest f = case_again _ _ _ _ _ _ _ _ _ _ usage_case read_counted (entity, (name, number)) rest f
+
+effect_bytes : (x : Effect) → FitsEffect x → AreBytes (spelled_effect x)
+effect_bytes (SetField entity name value) f = case_bytes _ _ _ _ _ _ _ _ _ _ set_field_case read_setting (entity, (name, value)) (omega arith) f
+effect_bytes (SetAttr activity key value) f = case_bytes _ _ _ _ _ _ _ _ _ _ set_attr_case read_setting (activity, (key, value)) (omega arith) f
+effect_bytes (Create parent relation priority) f = case_bytes _ _ _ _ _ _ _ _ _ _ create_case read_creation (parent, (relation, priority)) (omega arith) f
+effect_bytes (Remove entity) f = case_bytes _ _ _ _ _ _ _ _ _ _ remove_case reads_ref entity (omega arith) f
+effect_bytes (SetPriority entity priority) f = case_bytes _ _ _ _ _ _ _ _ _ _ set_priority_case read_ranked (entity, priority) (omega arith) f
+effect_bytes (Attach entity activity) f = case_bytes _ _ _ _ _ _ _ _ _ _ attach_case read_two (entity, activity) (omega arith) f
+effect_bytes (Detach entity activity) f = case_bytes _ _ _ _ _ _ _ _ _ _ detach_case read_two (entity, activity) (omega arith) f
+effect_bytes (SetMask entity activity event on) f = case_bytes _ _ _ _ _ _ _ _ _ _ set_mask_case read_masked (entity, (activity, (event, on))) (omega arith) f
+effect_bytes (Fire activity event service row) f = case_bytes _ _ _ _ _ _ _ _ _ _ fire_case read_firing (activity, (event, (service, row))) (omega arith) f
+effect_bytes NewNull f = case_bytes _ _ _ _ _ _ _ _ _ _ new_null_case reads_nothing tt (omega arith) f
+effect_bytes (EndNull activity) f = case_bytes _ _ _ _ _ _ _ _ _ _ end_null_case reads_ref activity (omega arith) f
+effect_bytes (SetTimer activity start period times keep) f = case_bytes _ _ _ _ _ _ _ _ _ _ set_timer_case read_timed (activity, (start, (period, (times, keep)))) (omega arith) f
+effect_bytes (CancelTimer timer) f = case_bytes _ _ _ _ _ _ _ _ _ _ cancel_timer_case reads_ref timer (omega arith) f
+effect_bytes (Bind name activity) f = case_bytes _ _ _ _ _ _ _ _ _ _ bind_case read_bound (name, activity) (omega arith) f
+effect_bytes (Unbind name) f = case_bytes _ _ _ _ _ _ _ _ _ _ unbind_case reads_text name (omega arith) f
+effect_bytes (Emit entity words) f = case_bytes _ _ _ _ _ _ _ _ _ _ emit_case read_said (entity, words) (omega arith) f
+effect_bytes (Usage entity name number) f = case_bytes _ _ _ _ _ _ _ _ _ _ usage_case read_counted (entity, (name, number)) (omega arith) f
+
+effect_some : Begins spelled_effect IsLooseEffect []
+effect_some = (NewNull, 10 ∷ [], tt, refl)
+
+-- what stands behind a first byte
+record IsBody (tag : ℕ) (body : List ℕ → Part Effect) : Type 0 where
+  takes : ((bytes : List ℕ) → effect_at (tag ∷ bytes) ≡ body bytes) → (bytes : List ℕ) (x : Effect × List ℕ) → AreBytes (tag ∷ bytes) → body bytes ≡ Ok x → Takes (tag ∷ bytes) (spelled_effect x.0) x.1 × FitsEffect x.0
+  stuck : ((bytes : List ℕ) → effect_at (tag ∷ bytes) ≡ body bytes) → (bytes : List ℕ) (f : Fault) → AreBytes (tag ∷ bytes) → body bytes ≡ Err f → IsStuckBy spelled_effect FitsEffect IsLooseEffect (tag ∷ bytes) f.left
+
+body_of : {A : Type 0} (tag : ℕ) (make : A → Effect) (s : Shape A) → IsEffectCase tag make s → IsRead s → IsBody tag (mapped make s.read)
+body_of tag make s is reads = record {
+  takes = λ same bytes x h e. case_takes spelled_effect FitsEffect IsLooseEffect effect_at tag make s.spell s.fits s.loose s.read is reads bytes x h (same bytes ∙ e);
+  stuck = λ same bytes f h e. case_stuck spelled_effect FitsEffect IsLooseEffect effect_at tag make s.spell s.fits s.loose s.read is reads effect_again effect_bytes bytes f h (same bytes ∙ e);
+}
+
+no_body : (tag : ℕ) → IsBody tag no_effect
+no_body tag = record {
+  takes = λ same bytes x h e. absurd cc;
+  stuck = λ same bytes f h e.
+      no_case spelled_effect FitsEffect IsLooseEffect effect_at tag bytes f effect_again effect_some (λ more. (record { left = length more + 1; kind = bad.Tag }, same more)) (omega (arith, ap (λ (d : Fault). d.left) (err_is {A = Effect × List ℕ} _ f e)));
+}
+
+AreBodies : ℕ → List (List ℕ → Part Effect) → Type 0
+AreBodies tag [] = Unit {0}
+AreBodies tag (body ∷ rest) = IsBody tag body × AreBodies (suc tag) rest
+
+all_bodies : AreBodies 0 bodies
+unfolding AreBodies
+all_bodies = (
+  no_body 0,
+  (
+    body_of 1 (λ p. SetField p.0 p.1.0 p.1.1) setting set_field_case read_setting,
+    (
+      body_of 2 (λ p. SetAttr p.0 p.1.0 p.1.1) setting set_attr_case read_setting,
+      (
+        body_of 3 (λ p. Create p.0 p.1.0 p.1.1) creation create_case read_creation,
+        (
+          body_of 4 (λ p. Remove p) one remove_case reads_ref,
+          (
+            body_of 5 (λ p. SetPriority p.0 p.1) ranked set_priority_case read_ranked,
+            (
+              body_of 6 (λ p. Attach p.0 p.1) two attach_case read_two,
+              (
+                body_of 7 (λ p. Detach p.0 p.1) two detach_case read_two,
+                (
+                  body_of 8 (λ p. SetMask p.0 p.1.0 p.1.1.0 p.1.1.1) masked set_mask_case read_masked,
+                  (
+                    body_of 9 (λ p. Fire p.0 p.1.0 p.1.1.0 p.1.1.1) firing fire_case read_firing,
+                    (
+                      body_of 10 (λ p. NewNull) nothing new_null_case reads_nothing,
+                      (
+                        body_of 11 (λ p. EndNull p) one end_null_case reads_ref,
+                        (
+                          body_of 12 (λ p. SetTimer p.0 p.1.0 p.1.1.0 p.1.1.1.0 p.1.1.1.1) timed set_timer_case read_timed,
+                          (
+                            body_of 13 (λ p. CancelTimer p) one cancel_timer_case reads_ref,
+                            (
+                              body_of 14 (λ p. Bind p.0 p.1) bound bind_case read_bound,
+                              (
+                                body_of 15 (λ p. Unbind p) text unbind_case reads_text,
+                                (
+                                  body_of 16 (λ p. Emit p.0 p.1) said emit_case read_said,
+                                  (
+                                    body_of 17 (λ p. Usage p.0 p.1.0 p.1.1) counted usage_case read_counted,
+                                    tt,
+                                  ),
+                                ),
+                              ),
+                            ),
+                          ),
+                        ),
+                      ),
+                    ),
+                  ),
+                ),
+              ),
+            ),
+          ),
+        ),
+      ),
+    ),
+  ),
+)
+
+body_at : (tag : ℕ) (rest : List (List ℕ → Part Effect)) (i : ℕ) → AreBodies tag rest → IsBody (tag + i) (slice_index_or rest i no_effect)
+unfolding AreBodies
+body_at tag [] i all = no_body (tag + i)
+body_at tag (body ∷ rest) zero all = subst (λ (n : ℕ). IsBody n body) (let k : tag ≡ tag + 0 = omega arith in k) all.0
+body_at tag (body ∷ rest) (suc i) all = subst (λ (n : ℕ). IsBody n (slice_index_or rest i no_effect)) (let k : suc tag + i ≡ tag + suc i = omega arith in k) (body_at (suc tag) rest i all.1)
+
+body_is : (tag : ℕ) → IsBody tag (slice_index_or bodies tag no_effect)
+body_is tag = subst (λ (n : ℕ). IsBody n (slice_index_or bodies tag no_effect)) (let k : 0 + tag ≡ tag = omega arith in k) (body_at 0 bodies tag all_bodies)
+
+effect_takes : (bytes : List ℕ) (x : Effect × List ℕ) → AreBytes bytes → effect_at bytes ≡ Ok x → Takes bytes (spelled_effect x.0) x.1 × FitsEffect x.0
+effect_takes [] x h e = absurd cc
+effect_takes (tag ∷ bytes) x h e = (body_is tag).takes (λ more. refl) bytes x h e
+
+effect_stuck : (bytes : List ℕ) (f : Fault) → AreBytes bytes → effect_at bytes ≡ Err f → IsStuckBy spelled_effect FitsEffect IsLooseEffect bytes f.left
+effect_stuck [] f h e = subst (IsStuckBy spelled_effect FitsEffect IsLooseEffect []) (ap (λ (d : Fault). d.left) (err_is {A = Effect × List ℕ} _ f e)) (no_bytes spelled_effect FitsEffect IsLooseEffect effect_at effect_some)
+effect_stuck (tag ∷ bytes) f h e = (body_is tag).stuck (λ more. refl) bytes f h e
+
+loosen_effect : (x : Effect) → FitsEffect x → IsLooseEffect x
+loosen_effect (SetField entity name value) f = f
+loosen_effect (SetAttr activity key value) f = f
+loosen_effect (Create parent relation priority) f = f
+loosen_effect (Remove entity) f = f
+loosen_effect (SetPriority entity priority) f = f
+loosen_effect (Attach entity activity) f = f
+loosen_effect (Detach entity activity) f = f
+loosen_effect (SetMask entity activity event on) f = f
+loosen_effect (Fire activity event service row) f = (f.0, (f.1.0, (f.1.1.0, f.1.1.1.0)))
+loosen_effect NewNull f = f
+loosen_effect (EndNull activity) f = f
+loosen_effect (SetTimer activity start period times keep) f = f
+loosen_effect (CancelTimer timer) f = f
+loosen_effect (Bind name activity) f = f
+loosen_effect (Unbind name) f = f
+loosen_effect (Emit entity words) f = f
+loosen_effect (Usage entity name number) f = f
+
+pub reads_effect : ReadsBy spelled_effect FitsEffect IsLooseEffect effect_at
+reads_effect = record { takes = effect_takes; again = effect_again; stuck = effect_stuck; some = effect_some; bytes = effect_bytes; loosen = loosen_effect }

@@ -1,0 +1,15 @@
+//! Laws over the definitions.
+ghost use Rattle.std.specs.Prelude.{◌≡◌, ◌++◌, List, ℕ};
+ghost use Rattle.slee_effect.specs.declared.effect.Effect.{Effect};
+ghost use Rattle.slee_effect.specs.Bytes.{spelled_effect, spelling_of_effects};
+ghost use Rattle.slee_effect.specs.Fitting.{FitsEffect, FitEffects};
+
+/// An effect has one spelling, and no spelling of an effect is a front of another's.
+pub fn effects_have_one_spelling()
+    ensures { (v w : Effect) (r q : List ℕ) → FitsEffect v → FitsEffect w → spelled_effect v ++ r ≡ spelled_effect w ++ q → (v ≡ w) × (r ≡ q) }
+{}
+
+/// The same of lists of effects.
+pub fn lists_have_one_spelling()
+    ensures { (v w : List Effect) (r q : List ℕ) → FitEffects v → FitEffects w → spelling_of_effects v ++ r ≡ spelling_of_effects w ++ q → (v ≡ w) × (r ≡ q) }
+{}

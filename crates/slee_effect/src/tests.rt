@@ -1,0 +1,357 @@
+ghost use Rattle.std.specs.Prelude.{◌≡◌, IfOk};
+ghost use Rattle.slee_effect.specs.Bytes.{IsShortEffect};
+
+use crate::{
+    Effect, EffectFault, Effects, FiredFields, Ref, Val, read_effects, resolve, write_effects,
+};
+use slee_value::{Keep, NoMemory, Text, TimerId, Value};
+use std::alloc::Global;
+use std::process::Abort;
+use std::test::Fail;
+
+// `self.n = self.n + 1;` on entity 1, whose n was 0.
+const ONE_FIELD: [u8; 29] = [
+    1, 0, 0, 0, 1, 0, 1, 0, 0, 0, 0, 0, 0, 0, 1, 0, 0, 0, 0x6E, 0, 0, 1, 0, 0, 0, 0, 0, 0, 0,
+];
+
+// A fire on activity 1 with two fields, up to the length of the second name. The first is `a`.
+const TWO_FIELDS: [u8; 32] = [
+    1, 0, 0, 0, 9, 0, 1, 0, 0, 0, 0, 0, 0, 0, 1, 0, 0, 0, 0x65, 0, 2, 0, 0, 0, 1, 0, 0, 0, 0x61, 0,
+    2, 1,
+];
+
+fn text(alloc: Global, text: &str) -> Result<Text, NoMemory>
+    ensures { IfOk result (λ t. t ≡ text.now) }
+{
+    Text::from_str(alloc, text)
+}
+
+// Where the bytes are bad, or none where they are a list.
+fn place(alloc: Global, bytes: &[u8]) -> Result<Option<usize>, NoMemory> {
+    match read_effects(alloc, bytes) {
+        Ok(_) => Ok(None),
+        Err(EffectFault::Bad { at }) => Ok(Some(at)),
+        Err(EffectFault::NoMemory) => Err(NoMemory),
+    }
+}
+
+// Every front of the bytes ends too early, and no other byte at any place is refused before it.
+fn try_changes(rt: &impl Abort, alloc: Global, bytes: &[u8]) -> Result<(), Fail> {
+    for len in 0..bytes.len() {
+        assert_eq!(rt; place(alloc, &bytes[..len])?, Some(len));
+    }
+    let mut changed = Vec::from_slice(alloc, bytes)?;
+    for (at, byte) in bytes.iter().enumerate() {
+        for other in 0..=255 {
+            changed.clear();
+            changed.extend_from_slice(&bytes[..at])?;
+            changed.push(other)?;
+            changed.extend_from_slice(&bytes[at + 1..])?;
+            match place(alloc, &changed)? {
+                None => {}
+                Some(first) => assert!(rt; at <= first && other != *byte, "{changed:?}"),
+            }
+        }
+    }
+    Ok(())
+}
+
+// The list of this one effect is written as its count and these bytes, behind what stands there, and read again.
+fn expect(rt: &impl Abort, alloc: Global, effect: Effect, bytes: &[u8]) -> Result<(), Fail>
+    requires { IsShortEffect effect }
+{
+    let shown = format!(in alloc; "[{effect:?}]")?;
+    let mut effects = Effects::new(alloc);
+    effects.push(effect)?;
+    let mut out = Vec::from_slice(alloc, &[9])?;
+    write_effects(effects.as_slice(), &mut out)?;
+    let mut wanted = Vec::from_slice(alloc, &[9, 1, 0, 0, 0])?;
+    wanted.extend_from_slice(bytes)?;
+    assert_eq!(rt; out.as_slice(), wanted.as_slice());
+    let (_, list) = out.split_at(1);
+    let read = read_effects(alloc, list)
+        .ok()
+        .ok_or("the bytes are a list")?;
+    assert_eq!(rt;
+        format!(in alloc; "{:?}", read.as_slice())?.as_str(),
+        shown.as_str()
+    );
+    try_changes(rt, alloc, list)
+}
+
+#[test]
+fn values_and_entities_written_and_read(rt: HostRuntime) -> Result<(), Fail> {
+    let alloc = rt.alloc();
+    let name = text(alloc, "n")?;
+    expect(
+        &rt,
+        alloc,
+        Effect::SetField {
+            entity: Ref::Known(1),
+            name,
+            value: Val::Plain(Value::Int(1)),
+        },
+        &[
+            1, 0, 1, 0, 0, 0, 0, 0, 0, 0, 1, 0, 0, 0, 0x6E, 0, 0, 1, 0, 0, 0, 0, 0, 0, 0,
+        ],
+    )?;
+    let key = text(alloc, "b.k")?;
+    expect(
+        &rt,
+        alloc,
+        Effect::SetAttr {
+            activity: Ref::Fresh(2),
+            key,
+            value: Val::NewActivity(3),
+        },
+        &[
+            2, 1, 2, 0, 0, 0, 3, 0, 0, 0, 0x62, 0x2E, 0x6B, 1, 3, 0, 0, 0,
+        ],
+    )?;
+    let relation = text(alloc, "leg")?;
+    expect(
+        &rt,
+        alloc,
+        Effect::Create {
+            parent: Ref::Known(2),
+            relation,
+            priority: -1,
+        },
+        &[
+            3, 0, 2, 0, 0, 0, 0, 0, 0, 0, 3, 0, 0, 0, 0x6C, 0x65, 0x67, 0xFF,
+        ],
+    )?;
+    expect(
+        &rt,
+        alloc,
+        Effect::Remove {
+            entity: Ref::Fresh(0),
+        },
+        &[4, 1, 0, 0, 0, 0],
+    )?;
+    expect(
+        &rt,
+        alloc,
+        Effect::SetPriority {
+            entity: Ref::Fresh(0),
+            priority: 127,
+        },
+        &[5, 1, 0, 0, 0, 0, 0x7F],
+    )?;
+    Ok(())
+}
+
+#[test]
+fn attachments_written_and_read(rt: HostRuntime) -> Result<(), Fail> {
+    let alloc = rt.alloc();
+    expect(
+        &rt,
+        alloc,
+        Effect::Attach {
+            entity: Ref::Fresh(1),
+            activity: Ref::Fresh(256),
+        },
+        &[6, 1, 1, 0, 0, 0, 1, 0, 1, 0, 0],
+    )?;
+    expect(
+        &rt,
+        alloc,
+        Effect::Detach {
+            entity: Ref::Fresh(1),
+            activity: Ref::Fresh(256),
+        },
+        &[7, 1, 1, 0, 0, 0, 1, 0, 1, 0, 0],
+    )?;
+    let event = text(alloc, "e")?;
+    expect(
+        &rt,
+        alloc,
+        Effect::SetMask {
+            entity: Ref::Fresh(1),
+            activity: Ref::Fresh(0),
+            event,
+            on: true,
+        },
+        &[8, 1, 1, 0, 0, 0, 1, 0, 0, 0, 0, 1, 0, 0, 0, 0x65, 1],
+    )?;
+    let mut fields = FiredFields::new(alloc);
+    fields.push(text(alloc, "a")?, Val::NewTimer(5))?;
+    let event = text(alloc, "e")?;
+    let service = Some(text(alloc, "s")?);
+    expect(
+        &rt,
+        alloc,
+        Effect::Fire {
+            activity: Ref::Fresh(0),
+            event,
+            service,
+            fields,
+        },
+        &[
+            9, 1, 0, 0, 0, 0, 1, 0, 0, 0, 0x65, 1, 1, 0, 0, 0, 0x73, 1, 0, 0, 0, 1, 0, 0, 0, 0x61,
+            2, 5, 0, 0, 0,
+        ],
+    )?;
+    expect(&rt, alloc, Effect::NewNull, &[10])?;
+    expect(
+        &rt,
+        alloc,
+        Effect::EndNull {
+            activity: Ref::Fresh(0),
+        },
+        &[11, 1, 0, 0, 0, 0],
+    )?;
+    Ok(())
+}
+
+#[test]
+fn timers_and_names_written_and_read(rt: HostRuntime) -> Result<(), Fail> {
+    let alloc = rt.alloc();
+    expect(
+        &rt,
+        alloc,
+        Effect::SetTimer {
+            activity: Ref::Fresh(0),
+            start: 1,
+            period: 2,
+            times: 3,
+            keep: Keep::Last,
+        },
+        &[
+            12, 1, 0, 0, 0, 0, 1, 0, 0, 0, 0, 0, 0, 0, 2, 0, 0, 0, 0, 0, 0, 0, 3, 0, 0, 0, 0, 0, 0,
+            0, 1,
+        ],
+    )?;
+    expect(
+        &rt,
+        alloc,
+        Effect::CancelTimer {
+            timer: Ref::Fresh(0),
+        },
+        &[13, 1, 0, 0, 0, 0],
+    )?;
+    let name = text(alloc, "h")?;
+    expect(
+        &rt,
+        alloc,
+        Effect::Bind {
+            name,
+            activity: Ref::Fresh(0),
+        },
+        &[14, 1, 0, 0, 0, 0x68, 1, 0, 0, 0, 0],
+    )?;
+    let name = text(alloc, "h")?;
+    expect(&rt, alloc, Effect::Unbind { name }, &[15, 1, 0, 0, 0, 0x68])?;
+    let said = text(alloc, "x")?;
+    expect(
+        &rt,
+        alloc,
+        Effect::Emit {
+            entity: Ref::Fresh(0),
+            text: said,
+        },
+        &[16, 1, 0, 0, 0, 0, 1, 0, 0, 0, 0x78],
+    )?;
+    let name = text(alloc, "b.u")?;
+    expect(
+        &rt,
+        alloc,
+        Effect::Usage {
+            entity: Ref::Fresh(0),
+            name,
+            amount: -2,
+        },
+        &[
+            17, 1, 0, 0, 0, 0, 3, 0, 0, 0, 0x62, 0x2E, 0x75, 0xFE, 0xFF, 0xFF, 0xFF, 0xFF, 0xFF,
+            0xFF, 0xFF,
+        ],
+    )?;
+    Ok(())
+}
+
+#[test]
+fn faults_by_hand(rt: HostRuntime) -> Result<(), Fail> {
+    let alloc = rt.alloc();
+    let cases: [(&[u8], Option<usize>); 9] = [
+        (&[0, 0, 0, 0], None),
+        (&[1, 0, 0, 0, 0x12], Some(4)),
+        (&[1, 0, 0, 0, 0], Some(4)),
+        (&[0, 0, 0, 0, 7], Some(4)),
+        (&[2, 0, 0, 0, 10], Some(5)),
+        (&[1, 0, 0, 0, 4, 2], Some(5)),
+        (&[1, 0, 0, 0, 13, 1, 0, 0, 0, 0], None),
+        (&ONE_FIELD, None),
+        (&TWO_FIELDS, Some(32)),
+    ];
+    for (bytes, at) in cases {
+        assert_eq!(rt; place(alloc, bytes)?, at, "{bytes:?}");
+    }
+    Ok(())
+}
+
+#[test]
+fn names_of_fields_rise(rt: HostRuntime) -> Result<(), Fail> {
+    let alloc = rt.alloc();
+    // the second name, and where the list is bad
+    let cases: [(&[u8], Option<usize>); 10] = [
+        (&[1, 0, 0, 0, 0x62], None),
+        (&[2, 0, 0, 0, 0x61, 0x61], None),
+        (&[1, 0, 0, 0, 0x61], Some(36)),
+        (&[1, 0, 0, 0, 0x41], Some(36)),
+        (&[2, 0, 0, 0, 0x41, 0x61], Some(36)),
+        (&[0, 0, 0, 0], Some(35)),
+        (&[2, 0, 0, 0, 0x61], Some(37)),
+        (&[2, 0, 0, 0, 0xC3, 0x41], Some(37)),
+        (&[9, 0, 0, 0, 0x41], Some(36)),
+        (&[2, 0, 0, 0, 0x62, 0xFF], Some(37)),
+    ];
+    for (name, at) in cases {
+        let mut bytes = Vec::from_slice(alloc, &TWO_FIELDS)?;
+        bytes.extend_from_slice(name)?;
+        if at.is_none() {
+            bytes.extend_from_slice(&[0, 2, 1])?;
+        }
+        assert_eq!(rt; place(alloc, &bytes)?, at, "{name:?}");
+    }
+    Ok(())
+}
+
+#[test]
+fn numbers_for_what_is_created(rt: HostRuntime) -> Result<(), Fail> {
+    let alloc = rt.alloc();
+    let mut effects = Effects::new(alloc);
+    effects.push(Effect::Attach {
+        entity: Ref::Fresh(0),
+        activity: Ref::Fresh(2),
+    })?;
+    let name = text(alloc, "n")?;
+    effects.push(Effect::SetField {
+        entity: Ref::Known(1),
+        name,
+        value: Val::NewTimer(1),
+    })?;
+    effects.push(Effect::CancelTimer {
+        timer: Ref::Fresh(0),
+    })?;
+    resolve(&mut effects, 10, 20, 30);
+    let mut wanted = Effects::new(alloc);
+    wanted.push(Effect::Attach {
+        entity: Ref::Known(10),
+        activity: Ref::Known(22),
+    })?;
+    let name = text(alloc, "n")?;
+    wanted.push(Effect::SetField {
+        entity: Ref::Known(1),
+        name,
+        value: Val::Plain(Value::Timer(TimerId(31))),
+    })?;
+    wanted.push(Effect::CancelTimer {
+        timer: Ref::Known(30),
+    })?;
+    let shown = format!(in alloc; "{:?}", effects.as_slice())?;
+    assert_eq!(rt;
+        shown.as_str(),
+        format!(in alloc; "{:?}", wanted.as_slice())?.as_str()
+    );
+    Ok(())
+}
