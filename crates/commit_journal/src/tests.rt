@@ -4,7 +4,7 @@ ghost use Rattle.std.specs.Prelude.{◌≡◌, ◌≤◌, length, IsTrue, IfSome
 ghost use Rattle.commit_journal.specs.declared.stage.Stage.TheVariants.{Ready};
 
 use super::*;
-use slee_disk::{MemoryDisk, Side};
+use slee_disk::{Disk, MemoryDisk, Side};
 use slee_value::{Blob, NoMemory};
 use std::alloc::Global;
 use std::test::Fail;
@@ -28,12 +28,12 @@ fn disk_of(alloc: Global, a: &[u8], b: &[u8], fail: &[u8]) -> Result<MemoryDisk,
 }
 
 /// A journal on this disk, begun.
-fn begun(
+fn begun<D: Disk + Drop>(
     alloc: Global,
-    disk: MemoryDisk,
+    disk: D,
     deployment: &[u8],
     limit: u64,
-) -> Option<Journal<MemoryDisk>>
+) -> Option<Journal<D>>
     requires { limit ≤ 268435456 }
     ensures { IfSome result (λ journal. journal.stage ≡ Ready) }
 {
@@ -46,28 +46,59 @@ fn begun(
     Some(journal)
 }
 
-/// Adds payloads, and says whether there was room for all of them.
-fn add(journal: &mut Journal<MemoryDisk>, payload: &[u8]) -> bool
-    requires { journal.old.stage ≡ Ready }
-    ensures { journal.new.stage ≡ Ready }
+/// How a journal on an empty disk begins, with a header or with a snapshot.
+fn begins<D: Disk + Drop>(
+    alloc: Global,
+    disk: D,
+    limit: u64,
+) -> Option<(Result<(), BeginFault>, Result<u64, BeginFault>, D)>
+    requires { limit ≤ 268435456 }
 {
-    payload.len() <= 65_536 && journal.append(payload).is_ok()
+    let Ok(mut journal) = Journal::open(alloc, disk, b"", limit) else {
+        return None;
+    };
+    let first = journal.begin();
+    if matches!(first, Err(BeginFault::DiskFault)) {
+        return None;
+    }
+    let second = journal.renew(b"");
+    Some((first, second, journal.into_disk()))
 }
 
-/// Writes the batch, and says whether the disk has done so.
-fn written(journal: &mut Journal<MemoryDisk>) -> bool
+/// How many records a disk has, or what is wrong with it.
+fn found<D: Disk>(alloc: Global, disk: D, deployment: &[u8]) -> (Result<usize, JournalFault>, D) {
+    match Journal::open(alloc, disk, deployment, LIMIT) {
+        Ok(journal) => (Ok(journal.records().len()), journal.into_disk()),
+        Err((fault, disk)) => (Err(fault), disk),
+    }
+}
+
+/// Adds a payload.
+fn add<D: Disk>(journal: &mut Journal<D>, payload: &[u8]) -> Result<(), AppendFault>
+    requires ready { journal.old.stage ≡ Ready }
+    requires short { length payload.now ≤ 65536 }
+    ensures { journal.new.stage ≡ Ready }
+{
+    journal.append(payload)
+}
+
+/// Adds a short payload and writes the batch, and says whether that was done.
+fn written<D: Disk>(journal: &mut Journal<D>, payload: &[u8]) -> bool
     requires { journal.old.stage ≡ Ready }
     ensures { IsTrue result → journal.new.stage ≡ Ready }
 {
-    journal.flush().is_ok()
+    payload.len() <= 65_536 && journal.append(payload).is_ok() && journal.flush().is_ok()
 }
 
 /// Goes on with a snapshot, and says whether the generation is this.
-fn renewed(journal: &mut Journal<MemoryDisk>, snapshot: &[u8], generation: u64) -> bool
+fn renewed<D: Disk>(journal: &mut Journal<D>, snapshot: &[u8], generation: u64) -> bool
     requires { journal.old.stage ≡ Ready }
     ensures { IsTrue result → journal.new.stage ≡ Ready }
 {
-    journal.renew(snapshot) == Ok(generation)
+    match journal.renew(snapshot) {
+        Ok(number) => number == generation,
+        Err(_) => false,
+    }
 }
 
 #[test]
@@ -86,7 +117,7 @@ fn bytes_of_a_new_journal(rt: HostRuntime) -> Result<(), Fail> {
         length: 26,
         adding: 18,
     };
-    assert_eq!(rt; journal.append(&START), Err(full));
+    assert_eq!(rt; add(&mut journal, &START), Err(full));
     assert_eq!(rt; journal.into_disk().side(Side::A), NEW.as_slice());
     Ok(())
 }
@@ -97,21 +128,16 @@ fn sizes_of_sides(rt: HostRuntime) -> Result<(), Fail> {
     let Some(mut journal) = begun(alloc, disk_of(alloc, &NEW, &[], &[])?, b"ab", 44) else {
         panic!(rt; "not begun");
     };
-    assert!(rt; add(&mut journal, &START));
-    assert_eq!(rt; journal.batch(), 18);
-    assert!(rt; written(&mut journal));
-    assert_eq!(rt; journal.batch(), 0);
+    assert!(rt; written(&mut journal, &START));
     assert!(rt; renewed(&mut journal, &[], 2));
     let disk = journal.into_disk();
     assert_eq!(rt; disk.side(Side::A).len(), 44);
     assert_eq!(rt; disk.side(Side::A).get(25), Some(&1));
     assert_eq!(rt; disk.side(Side::B).len(), 26);
-
     let Some(mut journal) = begun(alloc, disk_of(alloc, &[], &[], &[])?, b"", 42) else {
         panic!(rt; "not begun without a deployment");
     };
-    assert!(rt; add(&mut journal, &START));
-    assert!(rt; written(&mut journal));
+    assert!(rt; written(&mut journal, &START));
     assert_eq!(rt; journal.into_disk().side(Side::A).len(), 42);
     Ok(())
 }
@@ -119,25 +145,31 @@ fn sizes_of_sides(rt: HostRuntime) -> Result<(), Fail> {
 #[test]
 fn a_side_that_is_too_large(rt: HostRuntime) -> Result<(), Fail> {
     let alloc = rt.alloc();
-    let Ok(mut journal) = Journal::open(alloc, disk_of(alloc, &[], &[], &[])?, b"", 23) else {
+    let Some((first, second, disk)) = begins(alloc, disk_of(alloc, &[], &[], &[])?, 23) else {
         panic!(rt; "not opened");
     };
     let full = BeginFault::Full {
         length: 0,
         adding: 24,
     };
-    assert_eq!(rt; journal.begin(), Err(full));
-    assert_eq!(rt; journal.renew(&[]), Err(full));
-    let disk = journal.into_disk();
+    assert_eq!(rt; first, Err(full));
+    assert_eq!(rt; second, Err(full));
     assert!(rt; disk.side(Side::A).is_empty() && disk.side(Side::B).is_empty());
     Ok(())
+}
+
+fn bad(side: Side, at: u64, kind: JournalBad) -> JournalFault {
+    JournalFault::BadJournal { side, at, kind }
 }
 
 #[test]
 fn faults_of_two_sides(rt: HostRuntime) -> Result<(), Fail> {
     let alloc = rt.alloc();
-    let bad = |side, at, kind| Some(JournalFault::BadJournal { side, at, kind });
-    let other = Some(JournalFault::OtherDeployment {
+    let header_a = Err(bad(Side::A, 0, JournalBad::Header));
+    let header_b = Err(bad(Side::B, 0, JournalBad::Header));
+    let length = Err(bad(Side::A, 25, JournalBad::Length));
+    let sides = Err(bad(Side::B, 0, JournalBad::Sides));
+    let other = Err(JournalFault::OtherDeployment {
         kept_len: 2,
         first_difference: 1,
     });
@@ -151,49 +183,28 @@ fn faults_of_two_sides(rt: HostRuntime) -> Result<(), Fail> {
     let last: &[u8] =
         b"\x01SLEEJ1\xff\xff\xff\xff\xff\xff\xff\xff\x02\0\0\0ab\0\0\0\0\x01\x01\0\0\0\x09\0";
     let zeroth: &[u8] = b"\x01SLEEJ1\0\0\0\0\0\0\0\0\x02\0\0\0ab\0\0\0\0\0";
-    let rows: [(&[u8], &[u8], &[u8], Option<JournalFault>, usize); 17] = [
-        (&NEW, b"", b"ab", None, 0),
-        (&NEW, b"", b"ac", other, 0),
-        (
-            &NEW[..5],
-            b"",
-            b"ab",
-            bad(Side::A, 0, JournalBad::Header),
-            0,
-        ),
-        (b"\x01", b"", b"ab", None, 0),
-        (b"\x02SLEEJ9", b"\x01", b"ab", None, 0),
-        (short, b"", b"ab", bad(Side::A, 0, JournalBad::Header), 0),
-        (b"", short, b"ab", bad(Side::B, 0, JournalBad::Header), 0),
-        (unnamed, b"", b"ab", bad(Side::A, 0, JournalBad::Header), 0),
-        (long, b"", b"ab", bad(Side::A, 25, JournalBad::Length), 0),
-        (
-            gateless,
-            b"",
-            b"ab",
-            bad(Side::A, 25, JournalBad::Length),
-            0,
-        ),
-        (long, b"", b"ac", bad(Side::A, 25, JournalBad::Length), 0),
-        (whole, b"", b"ab", None, 1),
-        (&NEW, &NEW, b"ab", bad(Side::B, 0, JournalBad::Sides), 0),
-        (whole, second, b"ab", None, 0),
-        (second, whole, b"ab", None, 0),
-        (last, zeroth, b"ab", None, 0),
-        (last, second, b"ab", None, 1),
+    let rows: [(&[u8], &[u8], &[u8], Result<usize, JournalFault>); 17] = [
+        (&NEW, b"", b"ab", Ok(0)),
+        (&NEW, b"", b"ac", other),
+        (&NEW[..5], b"", b"ab", header_a),
+        (b"\x01", b"", b"ab", Ok(0)),
+        (b"\x02SLEEJ9", b"\x01", b"ab", Ok(0)),
+        (short, b"", b"ab", header_a),
+        (b"", short, b"ab", header_b),
+        (unnamed, short, b"ab", header_a),
+        (long, b"", b"ab", length),
+        (gateless, b"", b"ab", length),
+        (long, b"", b"ac", length),
+        (whole, b"", b"ab", Ok(1)),
+        (&NEW, &NEW, b"ab", sides),
+        (whole, second, b"ab", Ok(0)),
+        (second, whole, b"ab", Ok(0)),
+        (last, zeroth, b"ab", Ok(0)),
+        (last, second, b"ab", Ok(1)),
     ];
-    for (row, (a, b, deployment, fault, records)) in rows.into_iter().enumerate() {
-        let disk = match Journal::open(alloc, disk_of(alloc, a, b, &[])?, deployment, LIMIT) {
-            Ok(journal) => {
-                assert_eq!(rt; None, fault, "row {row}");
-                assert_eq!(rt; journal.records().len(), records, "row {row}");
-                journal.into_disk()
-            }
-            Err((found, disk)) => {
-                assert_eq!(rt; Some(found), fault, "row {row}");
-                disk
-            }
-        };
+    for (row, (a, b, deployment, expected)) in rows.into_iter().enumerate() {
+        let (answer, disk) = found(alloc, disk_of(alloc, a, b, &[])?, deployment);
+        assert_eq!(rt; answer, expected, "row {row}");
         assert_eq!(rt; disk.side(Side::A), a, "row {row}");
         assert_eq!(rt; disk.side(Side::B), b, "row {row}");
     }
@@ -202,48 +213,46 @@ fn faults_of_two_sides(rt: HostRuntime) -> Result<(), Fail> {
 
 /// Does the first steps of a script on a journal as far as its disk lets it, and says how many were done. The last call
 /// is the sixth step, its flush, and the seventh.
-fn played(journal: &mut Journal<MemoryDisk>, steps: u64) -> u64
+fn played<D: Disk>(journal: &mut Journal<D>, steps: u64) -> u64
     requires { journal.old.stage ≡ Ready }
 {
-    if steps < 2 || !add(journal, &START) || !written(journal) {
+    if steps < 2 || !written(journal, &START) {
         return 1;
     }
-    if steps < 3 || !add(journal, b"") || !add(journal, b"second") || !written(journal) {
+    if steps < 3 || add(journal, b"").is_err() || !written(journal, b"second") {
         return 2;
     }
     if steps < 4 || !renewed(journal, b"after two", 2) {
         return 3;
     }
-    if steps < 5 || !add(journal, b"third") || !written(journal) {
+    if steps < 5 || !written(journal, b"third") {
         return 4;
     }
-    if steps < 7 || !add(journal, b"fourth") || !renewed(journal, b"after four", 3) {
+    if steps < 7 || add(journal, b"fourth").is_err() || !renewed(journal, b"after four", 3) {
         return 5;
     }
     7
 }
 
-/// The same from the opening of an empty disk on, whose calls fail where the list says so. Opening is no step, and
-/// beginning is the first.
-fn play(alloc: Global, fail: &[u8], steps: u64) -> Result<(u64, MemoryDisk), NoMemory> {
-    let disk = disk_of(alloc, &[], &[], fail)?;
+/// The same from the opening of an empty disk on. Opening is no step, and beginning is the first.
+fn play<D: Disk>(alloc: Global, disk: D, steps: u64) -> (u64, D) {
     let mut journal = match Journal::open(alloc, disk, b"ab", LIMIT) {
         Ok(journal) => journal,
-        Err((_, disk)) => return Ok((0, disk)),
+        Err((_, disk)) => return (0, disk),
     };
     if steps < 1 {
-        return Ok((0, journal.into_disk()));
+        return (0, journal.into_disk());
     }
     let Ok(()) = journal.begin() else {
-        return Ok((0, journal.into_disk()));
+        return (0, journal.into_disk());
     };
     let done = played(&mut journal, steps);
-    Ok((done, journal.into_disk()))
+    (done, journal.into_disk())
 }
 
 /// How many steps of the script a journal stands for, from what it gives after opening: the first two of them leave the
 /// same, and so does none.
-fn steps_in(journal: &Journal<MemoryDisk>) -> Option<u64> {
+fn steps_in<D: Disk>(journal: &Journal<D>) -> Option<u64> {
     let records = journal.records();
     let payload = |place: usize| records.get(place).map(|record| record.payload.as_slice());
     let payloads = (payload(0), payload(1), payload(2), records.len());
@@ -260,7 +269,7 @@ fn steps_in(journal: &Journal<MemoryDisk>) -> Option<u64> {
 }
 
 /// How many steps an image stands for.
-fn kept_in(alloc: Global, image: MemoryDisk) -> Option<u64> {
+fn kept_in<D: Disk + Drop>(alloc: Global, image: D) -> Option<u64> {
     match Journal::open(alloc, image, b"ab", LIMIT) {
         Ok(journal) => steps_in(&journal),
         Err(_) => None,
@@ -294,7 +303,7 @@ fn each_image_opens_to_a_right_prefix(rt: HostRuntime) -> Result<(), Fail> {
     let mut from = 0;
     let mut last: u64 = 0;
     for step in [0, 1, 2, 3, 4, 5, 7] {
-        let (done, disk) = play(alloc, &[], step)?;
+        let (done, disk) = play(alloc, disk_of(alloc, &[], &[], &[])?, step);
         assert_eq!(rt; done, step);
         if matches!(step, 2 | 3 | 5) {
             assert_eq!(rt;
@@ -318,11 +327,11 @@ fn each_image_opens_to_a_right_prefix(rt: HostRuntime) -> Result<(), Fail> {
 #[test]
 fn each_call_fails_in_turn(rt: HostRuntime) -> Result<(), Fail> {
     let alloc = rt.alloc();
-    let (_, whole) = play(alloc, &[], 7)?;
+    let (_, whole) = play(alloc, disk_of(alloc, &[], &[], &[])?, 7);
     let mut fail = Vec::new(alloc);
     for before in 0..whole.calls() {
         fail.push(1)?;
-        let (done, disk) = play(alloc, &fail, 7)?;
+        let (done, disk) = play(alloc, disk_of(alloc, &[], &[], &fail)?, 7);
         assert!(rt; done < 7, "call {before}");
         assert_eq!(rt; disk.calls(), before + 1);
         let most = if done == 5 { 7 } else { done.saturating_add(1) };
