@@ -104,10 +104,10 @@ finish_bound : (s : Parts) (a : ActivityId) (d e : DraftView) → did s (choices
     → e.changes ≡ d.changes ++ map removal (bound_to s a.0) → e.lines ≡ d.lines ++ map removed_line (bound_to s a.0) → IsClosedDraftOf s (choices.Finish a) e
 finish_bound s a d e is w enabled draft changes lines = record {
   state = ap (λ (xs : List Change). after_changes xs s) changes ∙ after_both d.changes (map removal es) s ∙ ap (λ (t : Parts). after_changes (map removal es) t) draft.state
-    ∙ after_removals es t ∙ ap (λ (ns : List ℕ). removed_all ns t) (sym same) ∙ sym (closing_loose t sound);
+      ∙ after_removals es t ∙ ap (λ (ns : List ℕ). removed_all ns t) (sym same) ∙ sym (closing_loose t sound);
   fits = subst (λ (xs : List Change). AllFit xs s) (sym changes) (fit_both d.changes (map removal es) s draft.fits (removals_fit es (after_changes d.changes s)));
   lines = lines ∙ ap (λ (ls : List (List ℕ)). ls ++ map removed_line es) draft.lines
-    ∙ ap (λ (ns : List ℕ). told s (choices.Finish a) ++ map removed_line ns) (sym same) ∙ ap (λ (ls : List (List ℕ)). told s (choices.Finish a) ++ ls) (sym (closing_loose_lines t sound));
+      ∙ ap (λ (ns : List ℕ). told s (choices.Finish a) ++ map removed_line ns) (sym same) ∙ ap (λ (ls : List (List ℕ)). told s (choices.Finish a) ++ ls) (sym (closing_loose_lines t sound));
 }
   where
     es : List ℕ
@@ -130,21 +130,21 @@ closed_ended s (choices.Deliver a) b d e is w enabled draft changes lines = absu
 closed_ended s (choices.Finish a) b d e is w enabled draft changes lines =
     let known = ended_did s a b (front s.events a.0) (sym is) in
     finish_bound s a d e known.0 w enabled draft
-      (changes ∙ ap (λ (x : ActivityId). d.changes ++ map removal (bound_to s x.0)) (sym known.1))
-      (lines ∙ ap (λ (x : ActivityId). d.lines ++ map removed_line (bound_to s x.0)) (sym known.1))
+    (changes ∙ ap (λ (x : ActivityId). d.changes ++ map removal (bound_to s x.0)) (sym known.1))
+    (lines ∙ ap (λ (x : ActivityId). d.lines ++ map removed_line (bound_to s x.0)) (sym known.1))
 
 -- one attachment more was looked at
 pub looked_on : {X : Type 0} (f : ℕ → X) (s : Parts) (old new start : List X) (cut rest : List Link) (x : Link) → cut ≡ x ∷ rest → new ≡ old ++ map f (alone s x.entity.0)
     → old ++ map f (bound s cut) ≡ start → new ++ map f (bound s rest) ≡ start
 looked_on {X = X} f s old new start cut rest x is added so_far = elim (cases_Bool (links_of s.links x.entity.0 == 1)) [
   | inl one ↦
-    let more : new ≡ old ++ f x.entity.0 ∷ [] = rw one at added in
-    let whole : bound s (x ∷ rest) ≡ x.entity.0 ∷ bound s rest = rw one in
-    ap (λ (xs : List X). xs ++ map f (bound s rest)) more ∙ append_assoc old (f x.entity.0 ∷ []) (map f (bound s rest))
+      let more : new ≡ old ++ f x.entity.0 ∷ [] = rw one at added in
+      let whole : bound s (x ∷ rest) ≡ x.entity.0 ∷ bound s rest = rw one in
+      ap (λ (xs : List X). xs ++ map f (bound s rest)) more ∙ append_assoc old (f x.entity.0 ∷ []) (map f (bound s rest))
       ∙ ap (λ (es : List ℕ). old ++ map f es) (sym whole) ∙ ap (λ (ls : List Link). old ++ map f (bound s ls)) (sym is) ∙ so_far
   | inr several ↦
-    let same : new ≡ old ++ [] = rw several at added in
-    let whole : bound s (x ∷ rest) ≡ bound s rest = rw several in
-    ap (λ (xs : List X). xs ++ map f (bound s rest)) (same ∙ append-nil old)
+      let same : new ≡ old ++ [] = rw several at added in
+      let whole : bound s (x ∷ rest) ≡ bound s rest = rw several in
+      ap (λ (xs : List X). xs ++ map f (bound s rest)) (same ∙ append-nil old)
       ∙ ap (λ (es : List ℕ). old ++ map f es) (sym whole) ∙ ap (λ (ls : List Link). old ++ map f (bound s ls)) (sym is) ∙ so_far
 ]

@@ -62,10 +62,10 @@ pub old_selected : {E : Type 0} (r : Result DraftView E) (s : Parts) (a : Activi
 old_selected (Err x) s a v root e w is due found own same lines = tt
 old_selected (Ok d) s a v root e w is due found own same lines =
     draft_of s (choices.Initial a) d (changes.MarkService a 0 ∷ changes.Attach root.entity a ∷ []) (same ∙ ap (λ (x : EntityId). changes.MarkService a 0 ∷ changes.Attach x a ∷ []) own)
-      (ap (λ (o : Option RootName). selected_with (after_change (changes.MarkService a 0) s) 0 a.0 o) (sym found) ∙ initial_did s a.0 v is due)
-      (tt, (entity_below s.entities root.entity.0 s.next_entity (root_there s a.0 root found) w.sound.ordered.entities_below, tt))
-      (lines ∙ ap (λ (x : EntityId). initial_heading a.0 v.id.0 (codes "prepaid") x.0 (codes "old") ∷ lines_of_attached s x.0 a.0) own
-        ∙ ap (λ (o : Option RootName). lines_of_selected s 0 a.0 v o) (sym found) ∙ initial_told s a.0 v is due)
+    (ap (λ (o : Option RootName). selected_with (after_change (changes.MarkService a 0) s) 0 a.0 o) (sym found) ∙ initial_did s a.0 v is due)
+    (tt, (entity_below s.entities root.entity.0 s.next_entity (root_there s a.0 root found) w.sound.ordered.entities_below, tt))
+    (lines ∙ ap (λ (x : EntityId). initial_heading a.0 v.id.0 (codes "prepaid") x.0 (codes "old") ∷ lines_of_attached s x.0 a.0) own
+    ∙ ap (λ (o : Option RootName). lines_of_selected s 0 a.0 v o) (sym found) ∙ initial_told s a.0 v is due)
 
 pub new_selected : {E : Type 0} (r : Result DraftView E) (s : Parts) (a : ActivityId) (v : Event) → IsWell s → front s.events a.0 ≡ Some v → due_service s a.0 v ≡ Some 0
     → root_selected s 0 a.0 ≡ None
@@ -75,9 +75,9 @@ pub new_selected : {E : Type 0} (r : Result DraftView E) (s : Parts) (a : Activi
 new_selected (Err x) s a v w is due none same lines = tt
 new_selected (Ok d) s a v w is due none same lines =
     draft_of s (choices.Initial a) d _ same
-      (ap (λ (o : Option RootName). selected_with (after_change (changes.MarkService a 0) s) 0 a.0 o) (sym none) ∙ initial_did s a.0 v is due)
-      (tt, (tt, ((w.sound.ordered.root_names_below, omega arith), (omega arith, tt))))
-      (lines ∙ ap (λ (o : Option RootName). lines_of_selected s 0 a.0 v o) (sym none) ∙ initial_told s a.0 v is due)
+    (ap (λ (o : Option RootName). selected_with (after_change (changes.MarkService a 0) s) 0 a.0 o) (sym none) ∙ initial_did s a.0 v is due)
+    (tt, (tt, ((w.sound.ordered.root_names_below, omega arith), (omega arith, tt))))
+    (lines ∙ ap (λ (o : Option RootName). lines_of_selected s 0 a.0 v o) (sym none) ∙ initial_told s a.0 v is due)
 
 some_row : (o : Option Entity) (e : EntityId) → option_map (λ (row : Entity). row.number) o ≡ Some e → (row : Entity) × (o ≡ Some row) × (row.number ≡ e)
 some_row None e is = absurd (cc)
@@ -92,13 +92,13 @@ delivered_drafted (Err x) s a v e said is next emits same lines = tt
 delivered_drafted (Ok d) s a v e said is next emits same lines =
     let row = some_row (first s a.0 v) e next in
     draft_of s (choices.Deliver a) d (changes.MarkEntity a row.0.number ∷ []) (same ∙ ap (λ (x : EntityId). changes.MarkEntity a x ∷ []) (sym row.2))
-      (ap (λ (o : Option Entity). option_map_or (λ (x : Entity). delivered s a.0 x) o s) (sym row.1)
-        ∙ ap (λ (o : Option Event). option_map_or (λ (w : Event). option_map_or (λ (x : Entity). delivered s a.0 x) (first s a.0 w) s) o s) (sym is))
-      (tt, tt)
-      (lines ∙ ap (λ (x : EntityId). deliver_heading a.0 v.id.0 x.0 (codes "fine") ∷ say_line x.0 said ∷ []) (sym row.2)
-        ∙ ap (λ (texts : List (List ℕ)). deliver_heading a.0 v.id.0 row.0.number.0 (codes "fine") ∷ map (say_line row.0.number.0) texts) (sym emits)
-        ∙ ap (λ (o : Option Entity). option_map_or (λ (x : Entity). lines_of_delivered a.0 v x) o []) (sym row.1)
-        ∙ ap (λ (o : Option Event). option_map_or (λ (w : Event). option_map_or (λ (x : Entity). lines_of_delivered a.0 w x) (first s a.0 w) []) o []) (sym is))
+    (ap (λ (o : Option Entity). option_map_or (λ (x : Entity). delivered s a.0 x) o s) (sym row.1)
+    ∙ ap (λ (o : Option Event). option_map_or (λ (w : Event). option_map_or (λ (x : Entity). delivered s a.0 x) (first s a.0 w) s) o s) (sym is))
+    (tt, tt)
+    (lines ∙ ap (λ (x : EntityId). deliver_heading a.0 v.id.0 x.0 (codes "fine") ∷ say_line x.0 said ∷ []) (sym row.2)
+    ∙ ap (λ (texts : List (List ℕ)). deliver_heading a.0 v.id.0 row.0.number.0 (codes "fine") ∷ map (say_line row.0.number.0) texts) (sym emits)
+    ∙ ap (λ (o : Option Entity). option_map_or (λ (x : Entity). lines_of_delivered a.0 v x) o []) (sym row.1)
+    ∙ ap (λ (o : Option Event). option_map_or (λ (w : Event). option_map_or (λ (x : Entity). lines_of_delivered a.0 w x) (first s a.0 w) []) o []) (sym is))
 
 finish_after : (s : Parts) (a : ActivityId) (v : Event) → after_changes (finish_changes a v) s ≡ finished s a.0 v
 finish_after s a v = elim (cases_Bool (bytes_eq v.name activity_end)) [ inl end ↦ rw end | inr more ↦ rw more ]
@@ -111,6 +111,6 @@ pub finished_drafted : {E : Type 0} (r : Result DraftView E) (s : Parts) (a : Ac
 finished_drafted (Err x) s a v is same lines = tt
 finished_drafted (Ok d) s a v is same lines =
     draft_of s (choices.Finish a) d (finish_changes a v) same
-      (finish_after s a v ∙ ap (λ (o : Option Event). option_map_or (λ (w : Event). finished s a.0 w) o s) (sym is))
-      (finish_fits s a v)
-      (lines ∙ ap (λ (o : Option Event). option_map_or (λ (w : Event). lines_of_finished a.0 w) o []) (sym is))
+    (finish_after s a v ∙ ap (λ (o : Option Event). option_map_or (λ (w : Event). finished s a.0 w) o s) (sym is))
+    (finish_fits s a v)
+    (lines ∙ ap (λ (o : Option Event). option_map_or (λ (w : Event). lines_of_finished a.0 w) o []) (sym is))

@@ -59,14 +59,14 @@ short_address (field ∷ other ∷ fields) is = cc
 emitted_short : (name : List ℕ) (fields : List (List ℕ × Value)) (said : List ℕ) → has_fields name fields ≡ true → emitted 0 name fields ≡ said ∷ [] → length said < 2 ^ 32
 emitted_short name fields said has emits = elim (cases_Bool (bytes_eq name invite)) [
   | inl is ↦
-    let address : is_address fields ≡ true = rw is at has in
-    let text : (codes "call " ++ address_in fields) ∷ [] ≡ said ∷ [] = rw is at emits in
-    let same : codes "call " ++ address_in fields ≡ said = cc in
-    omega (arith, ap length same, length-append (codes "call ") (address_in fields), short_address fields address)
+      let address : is_address fields ≡ true = rw is at has in
+      let text : (codes "call " ++ address_in fields) ∷ [] ≡ said ∷ [] = rw is at emits in
+      let same : codes "call " ++ address_in fields ≡ said = cc in
+      omega (arith, ap length same, length-append (codes "call ") (address_in fields), short_address fields address)
   | inr other ↦
-    let text : codes "over" ∷ [] ≡ said ∷ [] = rw other at emits in
-    let same : codes "over" ≡ said = cc in
-    omega (arith, ap length same)
+      let text : codes "over" ∷ [] ≡ said ∷ [] = rw other at emits in
+      let same : codes "over" ≡ said = cc in
+      omega (arith, ap length same)
 ]
 
 -- what a handler emits is short, since a line is

@@ -15,16 +15,16 @@ pub shown : (s : Parts) (a b c d e f : List ℕ)
     → f ≡ show_text s
 shown s a b c d e f one two three four five six =
     six ∙ ap (λ (x : List ℕ). x ++ line_texts events) (five ∙ ap (λ (x : List ℕ). x ++ line_texts links) (four ∙ ap (λ (x : List ℕ). x ++ line_texts entities) (three ∙ ap (λ (x : List ℕ). x ++ line_texts activities)
-      (two ∙ ap (λ (x : List ℕ). x ++ line_texts services) one))))
+    (two ∙ ap (λ (x : List ℕ). x ++ line_texts services) one))))
     ∙ append_assoc ((((line_texts counts ++ line_texts services) ++ line_texts activities) ++ line_texts entities)) (line_texts links) (line_texts events)
     ∙ append_assoc ((line_texts counts ++ line_texts services) ++ line_texts activities) (line_texts entities) (line_texts links ++ line_texts events)
     ∙ append_assoc (line_texts counts ++ line_texts services) (line_texts activities) (line_texts entities ++ (line_texts links ++ line_texts events))
     ∙ append_assoc (line_texts counts) (line_texts services) (line_texts activities ++ (line_texts entities ++ (line_texts links ++ line_texts events)))
     ∙ sym (texts_append counts (services ++ (activities ++ (entities ++ (links ++ events))))
-      ∙ ap (λ (x : List ℕ). line_texts counts ++ x) (texts_append services (activities ++ (entities ++ (links ++ events)))
-      ∙ ap (λ (x : List ℕ). line_texts services ++ x) (texts_append activities (entities ++ (links ++ events))
-      ∙ ap (λ (x : List ℕ). line_texts activities ++ x) (texts_append entities (links ++ events)
-      ∙ ap (λ (x : List ℕ). line_texts entities ++ x) (texts_append links events)))))
+    ∙ ap (λ (x : List ℕ). line_texts counts ++ x) (texts_append services (activities ++ (entities ++ (links ++ events)))
+    ∙ ap (λ (x : List ℕ). line_texts services ++ x) (texts_append activities (entities ++ (links ++ events))
+    ∙ ap (λ (x : List ℕ). line_texts activities ++ x) (texts_append entities (links ++ events)
+    ∙ ap (λ (x : List ℕ). line_texts entities ++ x) (texts_append links events)))))
   where
     counts : List (List ℕ)
     counts = (codes "clock " ++ decimal s.clock) ∷ (codes "inputs " ++ decimal s.inputs) ∷ []

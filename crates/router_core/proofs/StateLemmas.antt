@@ -39,7 +39,10 @@ fits_on cs rest c s t cut after fit = subst (λ (p : Parts). AllFit rest p) (sym
 -- a state with a choice has numbers for any plan
 pub fresh_numbers : (s : Parts) (c : Choice) (n : ℕ) → is_enabled s c ≡ true → n < 2 ^ 63 → HasNumbers n s
 fresh_numbers s c n is few = let f = enabled_fresh s c is in record {
-  inputs = omega (arith, f.inputs); entities = omega (arith, f.entities); activities = omega (arith, f.activities); events = omega (arith, f.events);
+  inputs = omega (arith, f.inputs);
+  entities = omega (arith, f.entities);
+  activities = omega (arith, f.activities);
+  events = omega (arith, f.events);
 }
 
 -- the changes of a plan were made

@@ -55,7 +55,7 @@ pub start_drafted : (s : Parts) (name heading : List ℕ) (d : DraftView) → re
     → IsDraftOf s (choices.Input (signals.Start name)) d
 start_drafted s name heading d stands head same lines =
     with_changes s (signals.Start name) None d (changes.Taken ∷ changes.Start (kinds.External name) ∷ []) stands same refl (tt, (absent s name stands, tt))
-      (lines ∙ ap (λ (h : List ℕ). h ∷ started_line s.next_activity name ∷ []) head)
+    (lines ∙ ap (λ (h : List ℕ). h ∷ started_line s.next_activity name ∷ []) head)
 
 -- the changes of an end, and of an event
 abbrev ending : Parts → ℕ → List Change
@@ -71,8 +71,8 @@ pub end_drafted : (s : Parts) (name heading : List ℕ) (a : ActivityId) (d : Dr
     → IsDraftOf s (choices.Input (signals.End name)) d
 end_drafted s name heading a d stands head number same lines =
     with_changes s (signals.End name) None d (ending s (number_named s name)) stands (same ∙ ap (ending s) number) refl (tt, (tt, (tt, (tt, tt))))
-      (lines ∙ ap (λ (h : List ℕ). h ∷ ending_line a.0 ∷ queued_line s.next_event activity_end a.0 ∷ []) head
-        ∙ ap (λ (n : ℕ). input_heading (spelled (signals.End name)) ∷ ending_line n ∷ queued_line s.next_event activity_end n ∷ []) number)
+    (lines ∙ ap (λ (h : List ℕ). h ∷ ending_line a.0 ∷ queued_line s.next_event activity_end a.0 ∷ []) head
+    ∙ ap (λ (n : ℕ). input_heading (spelled (signals.End name)) ∷ ending_line n ∷ queued_line s.next_event activity_end n ∷ []) number)
 
 pub fire_drafted : (s : Parts) (name event heading : List ℕ) (service : Option (List ℕ)) (words : List (List ℕ × List ℕ)) (fields : List (List ℕ × Value)) (a : ActivityId) (d : DraftView)
     → refusal s (signals.Fire name event service words) ≡ None → heading ≡ input_heading (spelled (signals.Fire name event service words))
@@ -82,9 +82,9 @@ pub fire_drafted : (s : Parts) (name event heading : List ℕ) (service : Option
     → IsDraftOf s (choices.Input (signals.Fire name event service words)) d
 fire_drafted s name event heading service words fields a d stands head number given same lines =
     with_changes s (signals.Fire name event service words) None d (firing s event (number_named s name) (fields_of words)) stands
-      (same ∙ ap (λ (n : ℕ). firing s event n fields) number ∙ ap (firing s event (number_named s name)) given) refl (tt, (tt, (tt, tt)))
-      (lines ∙ ap (λ (h : List ℕ). h ∷ queued_line s.next_event event a.0 ∷ []) head
-        ∙ ap (λ (n : ℕ). input_heading (spelled (signals.Fire name event service words)) ∷ queued_line s.next_event event n ∷ []) number)
+    (same ∙ ap (λ (n : ℕ). firing s event n fields) number ∙ ap (firing s event (number_named s name)) given) refl (tt, (tt, (tt, tt)))
+    (lines ∙ ap (λ (h : List ℕ). h ∷ queued_line s.next_event event a.0 ∷ []) head
+    ∙ ap (λ (n : ℕ). input_heading (spelled (signals.Fire name event service words)) ∷ queued_line s.next_event event n ∷ []) number)
 
 -- a line that fires gives each field once
 pub given_where_it_stands : (s : Parts) (name event : List ℕ) (service : Option (List ℕ)) (words : List (List ℕ × List ℕ)) → refusal s (signals.Fire name event service words) ≡ None
@@ -95,13 +95,13 @@ given_where_it_stands s name event service words is = by (unfit (external s.acti
     given none = elim (cases_Bool (is_event event)) [
       | inr other ↦ let why : Some (codes "unknown-event") ≡ None = rw other at none in cc
       | inl known ↦ elim (cases_Bool (is_none service)) [
-          | inr one ↦ let why : Some (codes "unknown-service") ≡ None = rw (known, one) at none in cc
-          | inl all ↦ elim (cases_Bool (is_some (fields_given words))) [
-              | inl is_given ↦ is_given
-              | inr bad ↦ let why : Some (codes "bad-fields") ≡ None = rw (known, all, bad) at none in cc
-              ]
-          ]
+        | inr one ↦ let why : Some (codes "unknown-service") ≡ None = rw (known, one) at none in cc
+        | inl all ↦ elim (cases_Bool (is_some (fields_given words))) [
+          | inl is_given ↦ is_given
+          | inr bad ↦ let why : Some (codes "bad-fields") ≡ None = rw (known, all, bad) at none in cc
+        ]
       ]
+    ]
 
     by : (found : Option (List ℕ)) → unfit (external s.activities name) ≡ found → is_some (fields_given words) ≡ true
     by None same = let none : unfit_event event service words ≡ None = rw same at is in given none
@@ -116,4 +116,4 @@ pub end_given : {E : Type 0} (r : Result DraftView E) (s : Parts) (signal : Sign
 end_given (Err e) s signal name heading a is stands head number same lines = tt
 end_given (Ok d) s signal name heading a is stands head number same lines =
     subst (λ (x : Signal). IsDraftOf s (choices.Input x) d) (sym is)
-      (end_drafted s name heading a d (subst (λ (x : Signal). refusal s x ≡ None) is stands) (subst (λ (x : Signal). heading ≡ input_heading (spelled x)) is head) number same lines)
+    (end_drafted s name heading a d (subst (λ (x : Signal). refusal s x ≡ None) is stands) (subst (λ (x : Signal). heading ≡ input_heading (spelled x)) is head) number same lines)

@@ -30,21 +30,21 @@ high_stay word (b ∷ bs) high =
     let here : is_escaped word b ≡ false = elim (cases_Bool (is_escaped word b)) [
       | inl is ↦ absurd (omega (arith, high 0 (omega arith), escaped_small word b is))
       | inr other ↦ other
-      ] in
+    ] in
     rw here (ap (λ more. b ∷ more) (high_stay word bs (λ k below. high (suc k) (omega arith))))
 
 one_escaped : (word : Bool) (c : ℕ) → scalar c ≡ true → IsUtf8 (escaped word (encode c))
 one_escaped word c valid = elim (cases_lt c 128) [
   | inl low ↦ subst (λ (bs : List ℕ). IsUtf8 (escaped word bs)) (sym (encode_ascii c low)) (elim (cases_Bool (is_escaped word c)) [
-      | inl is ↦ rw is (ascii_then 37 _ (omega arith) (ascii_then (hex_digit_of (c / 16)) _ (hex_small (c / 16) (omega arith)) (ascii_then (hex_digit_of (c % 16)) [] (hex_small (c % 16) (omega arith)) IsUtf8-nil)))
-      | inr other ↦ rw other (ascii_then c [] low IsUtf8-nil)
-      ])
+    | inl is ↦ rw is (ascii_then 37 _ (omega arith) (ascii_then (hex_digit_of (c / 16)) _ (hex_small (c / 16) (omega arith)) (ascii_then (hex_digit_of (c % 16)) [] (hex_small (c % 16) (omega arith)) IsUtf8-nil)))
+    | inr other ↦ rw other (ascii_then c [] low IsUtf8-nil)
+  ])
   | inr high ↦
-    let bytes_high : (k : ℕ) → k < length (encode c) → 128 ≤ get_or (encode c) k 0 = λ k below. elim (cases_lt (get_or (encode c) k 0) 128) [
-      | inl low ↦ absurd (omega (arith, high, inside_one c [] (encode c) k (sym (append-nil _)) below low))
-      | inr at ↦ at
+      let bytes_high : (k : ℕ) → k < length (encode c) → 128 ≤ get_or (encode c) k 0 = λ k below. elim (cases_lt (get_or (encode c) k 0) 128) [
+        | inl low ↦ absurd (omega (arith, high, inside_one c [] (encode c) k (sym (append-nil _)) below low))
+        | inr at ↦ at
       ] in
-    subst IsUtf8 (sym (high_stay word (encode c) bytes_high)) (IsUtf8-encode c valid)
+      subst IsUtf8 (sym (high_stay word (encode c) bytes_high)) (IsUtf8-encode c valid)
 ]
 
 escaped_append : (word : Bool) (xs ys : List ℕ) → escaped word (xs ++ ys) ≡ escaped word xs ++ escaped word ys
@@ -56,7 +56,7 @@ chars_escaped word [] valid = IsUtf8-nil
 chars_escaped word (c ∷ cs) valid =
     let parts = and_parts (scalar c) (scalars cs) valid in
     subst IsUtf8 (sym (escaped_append word (encode c) (encodes cs)))
-      (IsUtf8-append (escaped word (encode c)) (escaped word (encodes cs)) (one_escaped word c parts.0) (chars_escaped word cs parts.1))
+    (IsUtf8-append (escaped word (encode c)) (escaped word (encodes cs)) (one_escaped word c parts.0) (chars_escaped word cs parts.1))
 
 pub escaped_utf8 : (word : Bool) (text : List ℕ) → IsUtf8 text → IsUtf8 (escaped word text)
 escaped_utf8 word text is = subst (λ (bs : List ℕ). IsUtf8 (escaped word bs)) is.1.1 (chars_escaped word is.0 is.1.0)

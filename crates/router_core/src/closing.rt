@@ -6,7 +6,8 @@ ghost use Rattle.router_rules.specs.Step.{is_choice, is_enabled};
 ghost use Rattle.router_rules.specs.Well.{IsWell};
 ghost use Rattle.router_core.specs.Plans.{IsDraftOf, IsClosedDraftOf, bound_to, alone, removal, activity_ended};
 
-use crate::{built_in, draft::Draft, telling};
+use crate::draft::Draft;
+use crate::{built_in, telling};
 use router_model::Change;
 use router_stores::Stores;
 use slee_value::{ActivityId, EntityId, NoMemory};
@@ -23,7 +24,12 @@ fn remove(alloc: Global, draft: &mut Draft, entity: EntityId) -> Result<(), NoMe
 }
 
 /// Removes the entity, if it has but one attachment.
-fn remove_if_bound(alloc: Global, stores: &Stores, entity: EntityId, draft: &mut Draft) -> Result<(), NoMemory>
+fn remove_if_bound(
+    alloc: Global,
+    stores: &Stores,
+    entity: EntityId,
+    draft: &mut Draft,
+) -> Result<(), NoMemory>
     ensures changes { OnOk result (draft.new.changes ≡ draft.old.changes ++ map removal (alone stores.now.parts entity.0)) }
     ensures lines { OnOk result (draft.new.lines ≡ draft.old.lines ++ map removed_line (alone stores.now.parts entity.0)) }
 {
@@ -34,7 +40,12 @@ fn remove_if_bound(alloc: Global, stores: &Stores, entity: EntityId, draft: &mut
 }
 
 /// Removes the entities whose only attachment is to this activity.
-fn remove_bound(alloc: Global, stores: &Stores, activity: ActivityId, draft: &mut Draft) -> Result<(), NoMemory>
+fn remove_bound(
+    alloc: Global,
+    stores: &Stores,
+    activity: ActivityId,
+    draft: &mut Draft,
+) -> Result<(), NoMemory>
     ensures changes { OnOk result (draft.new.changes ≡ draft.old.changes ++ map removal (bound_to stores.now.parts activity.0)) }
     ensures lines { OnOk result (draft.new.lines ≡ draft.old.lines ++ map removed_line (bound_to stores.now.parts activity.0)) }
 {
@@ -62,7 +73,12 @@ fn activity_ended(stores: &Stores, choice: &Choice) -> Option<ActivityId>
 
 /// Closes the draft of a choice.
 #[tactic(auto, using(crate::proofs::ClosingLemmas::closed_still, crate::proofs::ClosingLemmas::closed_ended))]
-pub fn close(alloc: Global, stores: &Stores, choice: &Choice, draft: &mut Draft) -> Result<(), NoMemory>
+pub fn close(
+    alloc: Global,
+    stores: &Stores,
+    choice: &Choice,
+    draft: &mut Draft,
+) -> Result<(), NoMemory>
     requires well { IsWell stores.now.parts }
     requires valid { IsTrue (is_choice choice.now) }
     requires enabled { IsTrue (is_enabled stores.now.parts choice.now) }

@@ -5,7 +5,8 @@ ghost use Rattle.router_rules.specs.Well.{IsWell};
 ghost use Rattle.trace_history.specs.declared.choice.Choice.TheVariants as choices;
 ghost use Rattle.router_core.specs.Plans.{IsDraftOf};
 
-use crate::{choosing, draft::Draft, fronts, taking};
+use crate::draft::Draft;
+use crate::{choosing, fronts, taking};
 use router_stores::Stores;
 use slee_value::{ActivityId, NoMemory};
 use std::alloc::Global;

@@ -12,8 +12,9 @@ ghost use Rattle.router_rules.specs.Well.{IsWell};
 ghost use Rattle.trace_history.specs.declared.choice.Choice.TheVariants as choices;
 ghost use Rattle.router_core.specs.Plans.{IsDraftOf, finish_changes};
 
-use crate::{built_in, choosing, draft::Draft, telling};
-use router_model::{Change, Entity, Event};
+use crate::draft::Draft;
+use crate::{built_in, telling};
+use router_model::{Change, Event};
 use router_stores::Stores;
 use slee_value::{ActivityId, ConvName, EntityId, EventId, NoMemory, Text};
 use std::alloc::Global;
@@ -31,7 +32,13 @@ fn selection(activity: ActivityId) -> ConvName
     }
 }
 
-fn tell_attached(alloc: Global, stores: &Stores, draft: &mut Draft, entity: EntityId, activity: ActivityId) -> Result<(), NoMemory>
+fn tell_attached(
+    alloc: Global,
+    stores: &Stores,
+    draft: &mut Draft,
+    entity: EntityId,
+    activity: ActivityId,
+) -> Result<(), NoMemory>
     ensures changes { OnOk result (draft.new.changes ≡ draft.old.changes) }
     ensures lines { OnOk result (draft.new.lines ≡ draft.old.lines ++ lines_of_attached stores.now.parts entity.0 activity.0) }
 {
@@ -42,7 +49,13 @@ fn tell_attached(alloc: Global, stores: &Stores, draft: &mut Draft, entity: Enti
 }
 
 /// The root is there already.
-fn selected_old(alloc: Global, stores: &Stores, activity: ActivityId, event: EventId, root: EntityId) -> Result<Draft, NoMemory>
+fn selected_old(
+    alloc: Global,
+    stores: &Stores,
+    activity: ActivityId,
+    event: EventId,
+    root: EntityId,
+) -> Result<Draft, NoMemory>
     ensures changes { IfOk result (λ d. d.changes ≡ changes.MarkService activity 0 ∷ changes.Attach root activity ∷ []) }
     ensures lines { IfOk result (λ d. d.lines ≡ initial_heading activity.0 event.0 (codes "prepaid") root.0 (codes "old") ∷ lines_of_attached stores.now.parts root.0 activity.0) }
 {
@@ -57,7 +70,12 @@ fn selected_old(alloc: Global, stores: &Stores, activity: ActivityId, event: Eve
 }
 
 /// The root is made.
-fn selected_new(alloc: Global, stores: &Stores, activity: ActivityId, event: EventId) -> Result<Draft, NoMemory>
+fn selected_new(
+    alloc: Global,
+    stores: &Stores,
+    activity: ActivityId,
+    event: EventId,
+) -> Result<Draft, NoMemory>
     ensures changes { IfOk result (λ d. d.changes ≡ changes.MarkService activity 0 ∷ changes.CreateRoot (root_block 0) 0 (service_priority 0) ∷ changes.Root (record { 0 = stores.now.parts.next_entity }) (selection activity.0) ∷ changes.Attach (record { 0 = stores.now.parts.next_entity }) activity ∷ []) }
     ensures lines { IfOk result (λ d. d.lines ≡ initial_heading activity.0 event.0 (codes "prepaid") stores.now.parts.next_entity (codes "new") ∷ lines_of_attached stores.now.parts stores.now.parts.next_entity activity.0) }
 {
@@ -79,7 +97,12 @@ fn selected_new(alloc: Global, stores: &Stores, activity: ActivityId, event: Eve
 }
 
 /// What the initial selection of the service does.
-pub fn selected(alloc: Global, stores: &Stores, activity: ActivityId, event: &Event) -> Result<Draft, NoMemory>
+pub fn selected(
+    alloc: Global,
+    stores: &Stores,
+    activity: ActivityId,
+    event: &Event,
+) -> Result<Draft, NoMemory>
     requires well { IsWell stores.now.parts }
     requires front { front stores.now.parts.events activity.0 ≡ Some event.now }
     requires due { due_service stores.now.parts activity.0 event.now ≡ Some 0 }
@@ -91,7 +114,13 @@ pub fn selected(alloc: Global, stores: &Stores, activity: ActivityId, event: &Ev
     }
 }
 
-fn delivered_to(alloc: Global, activity: ActivityId, event: &Event, entity: EntityId, said: &Text) -> Result<Draft, NoMemory>
+fn delivered_to(
+    alloc: Global,
+    activity: ActivityId,
+    event: &Event,
+    entity: EntityId,
+    said: &Text,
+) -> Result<Draft, NoMemory>
     ensures changes { IfOk result (λ d. d.changes ≡ changes.MarkEntity activity entity ∷ []) }
     ensures lines { IfOk result (λ d. d.lines ≡ deliver_heading activity.0 event.now.id.0 entity.0 (codes "fine") ∷ say_line entity.0 said.now ∷ []) }
 {
@@ -103,7 +132,13 @@ fn delivered_to(alloc: Global, activity: ActivityId, event: &Event, entity: Enti
 }
 
 /// What the delivery to this entity does.
-pub fn delivered(alloc: Global, stores: &Stores, activity: ActivityId, event: &Event, entity: EntityId) -> Result<Draft, NoMemory>
+pub fn delivered(
+    alloc: Global,
+    stores: &Stores,
+    activity: ActivityId,
+    event: &Event,
+    entity: EntityId,
+) -> Result<Draft, NoMemory>
     requires front { front stores.now.parts.events activity.0 ≡ Some event.now }
     requires first { option_map (λ row. row.number) (first stores.now.parts activity.0 event.now) ≡ Some entity }
     ensures { IfOk result (λ d. IsDraftOf stores.now.parts (choices.Deliver activity) d) }

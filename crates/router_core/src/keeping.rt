@@ -43,7 +43,12 @@ fn numbered(alloc: Global, kind: u8, activity: ActivityId) -> Result<Vec<u8>, No
     Ok(bytes)
 }
 
-fn write_said(alloc: Global, entity: EntityId, said: Text, into: &mut Vec<u8>) -> Result<(), NoMemory>
+fn write_said(
+    alloc: Global,
+    entity: EntityId,
+    said: Text,
+    into: &mut Vec<u8>,
+) -> Result<(), NoMemory>
     requires { length said < 2 ^ 32 }
     ensures { OnOk result (into.new.items ≡ into.old.items ++ spelling_of_effects (effects.Emit (references.Known entity.0) said ∷ [])) }
 {
@@ -60,7 +65,12 @@ fn write_none(into: &mut Vec<u8>) -> Result<(), NoMemory>
 
 /// Adds the effects of the delivery that is next.
 #[tactic(auto, using(crate::proofs::KeepingLemmas::no_effects, crate::proofs::KeepingLemmas::no_receiver, crate::proofs::KeepingLemmas::one_effect, crate::proofs::KeepingLemmas::said_short))]
-fn write_due(alloc: Global, stores: &Stores, activity: ActivityId, into: &mut Vec<u8>) -> Result<(), NoMemory>
+fn write_due(
+    alloc: Global,
+    stores: &Stores,
+    activity: ActivityId,
+    into: &mut Vec<u8>,
+) -> Result<(), NoMemory>
     requires { IsWell stores.now.parts }
     ensures { OnOk result (into.new.items ≡ into.old.items ++ spelling_of_effects (effects_due stores.now.parts activity.0)) }
 {

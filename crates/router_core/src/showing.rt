@@ -57,7 +57,11 @@ fn put_activity(alloc: Global, row: &Activity, into: &mut Vec<u8>) -> Result<(),
     ensures { OnOk result (into.new.items ≡ into.old.items ++ line_text (activity_line row.now)) }
 {
     let kind = kind_words(alloc, &row.kind)?;
-    let line = format!(in alloc; "activity a{}{}{kind}", row.number.0, ending_word(row.ending))?;
+    let line = format!(in alloc;
+        "activity a{}{}{kind}",
+        row.number.0,
+        ending_word(row.ending)
+    )?;
     put_line(&line, into)
 }
 
@@ -117,7 +121,12 @@ fn put_links(alloc: Global, rows: &[Link], into: &mut Vec<u8>) -> Result<(), NoM
 fn put_pending(alloc: Global, row: &Queued, into: &mut Vec<u8>) -> Result<(), NoMemory>
     ensures { OnOk result (into.new.items ≡ into.old.items ++ line_text (pending_line row.now)) }
 {
-    let line = format!(in alloc; "pending v{} {} a{}", row.event.id.0, row.event.name.as_str(), row.activity.0)?;
+    let line = format!(in alloc;
+        "pending v{} {} a{}",
+        row.event.id.0,
+        row.event.name.as_str(),
+        row.activity.0
+    )?;
     put_line(&line, into)
 }
 

@@ -12,7 +12,8 @@ ghost use Rattle.router_rules.specs.Taking.{unfit, unfit_event, refusal, number_
 ghost use Rattle.trace_history.specs.declared.choice.Choice.TheVariants as choices;
 ghost use Rattle.router_core.specs.Plans.{IsDraftOf, event_next};
 
-use crate::{built_in, draft::Draft, telling};
+use crate::draft::Draft;
+use crate::{built_in, telling};
 use router_model::{AcKind, Activity, Change, Event};
 use router_stores::Stores;
 use signal_script::Signal;
@@ -25,13 +26,7 @@ fn unfit(found: Option<&Activity>) -> Option<&'static str>
 {
     match found {
         None => Some("unknown-activity"),
-        Some(row) => {
-            if row.ending {
-                Some("ending")
-            } else {
-                None
-            }
-        }
+        Some(row) => { if row.ending { Some("ending") } else { None } }
     }
 }
 
@@ -119,7 +114,12 @@ fn next_event(stores: &Stores, name: Text, fields: Payload) -> Event
     }
 }
 
-fn ended(alloc: Global, stores: &Stores, heading: Text, activity: ActivityId) -> Result<Draft, NoMemory>
+fn ended(
+    alloc: Global,
+    stores: &Stores,
+    heading: Text,
+    activity: ActivityId,
+) -> Result<Draft, NoMemory>
     ensures changes { IfOk result (λ d. d.changes ≡ changes.Taken ∷ changes.End activity ∷ changes.Push activity (event_next stores.now.parts activity_end []) ∷ changes.NextEvent ∷ []) }
     ensures lines { IfOk result (λ d. d.lines ≡ heading ∷ ending_line activity.0 ∷ queued_line stores.now.parts.next_event activity_end activity.0 ∷ []) }
 {
@@ -135,7 +135,14 @@ fn ended(alloc: Global, stores: &Stores, heading: Text, activity: ActivityId) ->
     Ok(draft)
 }
 
-fn fired(alloc: Global, stores: &Stores, heading: Text, activity: ActivityId, event: &Text, fields: Payload) -> Result<Draft, NoMemory>
+fn fired(
+    alloc: Global,
+    stores: &Stores,
+    heading: Text,
+    activity: ActivityId,
+    event: &Text,
+    fields: Payload,
+) -> Result<Draft, NoMemory>
     ensures changes { IfOk result (λ d. d.changes ≡ changes.Taken ∷ changes.Push activity (event_next stores.now.parts event.now fields) ∷ changes.NextEvent ∷ []) }
     ensures lines { IfOk result (λ d. d.lines ≡ heading ∷ queued_line stores.now.parts.next_event event.now activity.0 ∷ []) }
 {
@@ -166,7 +173,14 @@ fn obeyed(alloc: Global, stores: &Stores, heading: Text, signal: &Signal) -> Res
             fields,
         } => {
             let given = built_in::given_fields(alloc, fields.as_slice())?;
-            fired(alloc, stores, heading, number_named(stores, name), event, given)
+            fired(
+                alloc,
+                stores,
+                heading,
+                number_named(stores, name),
+                event,
+                given,
+            )
         }
     }
 }

@@ -19,19 +19,40 @@ pub fn input(alloc: Global, signal: &Signal) -> Result<Text, NoMemory>
     Ok(Text::from(String::from_utf8(bytes).unwrap()))
 }
 
-pub fn initial_new(alloc: Global, activity: ActivityId, event: EventId, entity: EntityId) -> Result<Text, NoMemory>
+pub fn initial_new(
+    alloc: Global,
+    activity: ActivityId,
+    event: EventId,
+    entity: EntityId,
+) -> Result<Text, NoMemory>
     ensures { IfOk result (λ line. line ≡ initial_heading activity.0 event.0 (codes "prepaid") entity.0 (codes "new")) }
 {
-    Ok(Text::from(format!(in alloc; "initial a{} v{} prepaid e{} new", activity.0, event.0, entity.0)?))
+    Ok(Text::from(format!(in alloc;
+        "initial a{} v{} prepaid e{} new",
+        activity.0, event.0, entity.0
+    )?))
 }
 
-pub fn initial_old(alloc: Global, activity: ActivityId, event: EventId, entity: EntityId) -> Result<Text, NoMemory>
+pub fn initial_old(
+    alloc: Global,
+    activity: ActivityId,
+    event: EventId,
+    entity: EntityId,
+) -> Result<Text, NoMemory>
     ensures { IfOk result (λ line. line ≡ initial_heading activity.0 event.0 (codes "prepaid") entity.0 (codes "old")) }
 {
-    Ok(Text::from(format!(in alloc; "initial a{} v{} prepaid e{} old", activity.0, event.0, entity.0)?))
+    Ok(Text::from(format!(in alloc;
+        "initial a{} v{} prepaid e{} old",
+        activity.0, event.0, entity.0
+    )?))
 }
 
-pub fn deliver(alloc: Global, activity: ActivityId, event: EventId, entity: EntityId) -> Result<Text, NoMemory>
+pub fn deliver(
+    alloc: Global,
+    activity: ActivityId,
+    event: EventId,
+    entity: EntityId,
+) -> Result<Text, NoMemory>
     ensures { IfOk result (λ line. line ≡ deliver_heading activity.0 event.0 entity.0 (codes "fine")) }
 {
     Ok(Text::from(format!(in alloc; "deliver a{} v{} e{} fine", activity.0, event.0, entity.0)?))
@@ -67,7 +88,12 @@ pub fn gone(alloc: Global, activity: ActivityId) -> Result<Text, NoMemory>
     Ok(Text::from(format!(in alloc; "  gone a{}", activity.0)?))
 }
 
-pub fn queued(alloc: Global, event: EventId, name: &str, activity: ActivityId) -> Result<Text, NoMemory>
+pub fn queued(
+    alloc: Global,
+    event: EventId,
+    name: &str,
+    activity: ActivityId,
+) -> Result<Text, NoMemory>
     ensures { IfOk result (λ line. line ≡ queued_line event.0 name.now activity.0) }
 {
     Ok(Text::from(format!(in alloc; "  queued v{} {name} a{}", event.0, activity.0)?))

@@ -44,8 +44,8 @@ pub on_rises : (links : List Link) (a : ℕ) → AllInOrder IsLinkBefore links �
 on_rises [] a order = tt
 on_rises (l ∷ ls) a order = elim (cases_Bool (l.activity.0 == a)) [
   | inl mine ↦
-    let same : l.activity.0 ≡ a = eqb-true l.activity.0 a mine in
-    rw mine (subst (λ (n : ℕ). AllByRecursion (ByEntity l) (links_on ls n)) same (behind_it l ls order.0), on_rises ls a order.1)
+      let same : l.activity.0 ≡ a = eqb-true l.activity.0 a mine in
+      rw mine (subst (λ (n : ℕ). AllByRecursion (ByEntity l) (links_on ls n)) same (behind_it l ls order.0), on_rises ls a order.1)
   | inr other ↦ rw other (on_rises ls a order.1)
 ]
 
@@ -90,25 +90,25 @@ go_together c [] (l ∷ ls) rise order there = cc
 go_together c (x ∷ xs) [] rise order there = go_together c xs [] rise.1 tt tt
 go_together c (x ∷ xs) (l ∷ ls) rise order there = elim (cases_Bool (l.entity.0 == x.number.0)) [
   | inl mine ↦
-    let same : l.entity.0 ≡ x.number.0 = eqb-true l.entity.0 x.number.0 mine in
-    let above : AllByRecursion (λ y. x.number.0 < y.entity.0) ls = all_from_all (ByEntity l) (λ y. x.number.0 < y.entity.0) (λ y less. omega (arith, less, same)) ls order.0 in
-    let rest = go_together c xs ls rise.1 order.1 (later_there x xs ls above there.1) in
-    let fewer : filter (λ row. has_link (l ∷ ls) row.number.0 && c row.number.0) xs ≡ filter (λ row. has_link ls row.number.0 && c row.number.0) xs
-        = filter_same (λ row. has_link (l ∷ ls) row.number.0 && c row.number.0) (λ row. has_link ls row.number.0 && c row.number.0) xs
-            (all_from_all (λ row. x.number.0 < row.number.0) (λ row. (has_link (l ∷ ls) row.number.0 && c row.number.0) ≡ (has_link ls row.number.0 && c row.number.0))
-              (λ row less. let away : (l.entity.0 == row.number.0) ≡ false = ne_eqb l.entity.0 row.number.0 (λ is. omega (arith, is, less, same)) in rw away) xs rise.0) in
-    let tail : map number_of (filter (λ row. has_link (l ∷ ls) row.number.0 && c row.number.0) xs) ≡ map linked_entity (filter (λ y. c y.entity.0) ls) = ap (map number_of) fewer ∙ rest in
-    elim (cases_Bool (c x.number.0)) [
-      | inl passes ↦ let too : c l.entity.0 ≡ true = ap c same ∙ passes in rw (mine, passes, too) (cons_same x.number.0 l.entity.0 _ _ (sym same) tail)
-      | inr fails ↦ let too : c l.entity.0 ≡ false = ap c same ∙ fails in rw (mine, fails, too) tail
+      let same : l.entity.0 ≡ x.number.0 = eqb-true l.entity.0 x.number.0 mine in
+      let above : AllByRecursion (λ y. x.number.0 < y.entity.0) ls = all_from_all (ByEntity l) (λ y. x.number.0 < y.entity.0) (λ y less. omega (arith, less, same)) ls order.0 in
+      let rest = go_together c xs ls rise.1 order.1 (later_there x xs ls above there.1) in
+      let fewer : filter (λ row. has_link (l ∷ ls) row.number.0 && c row.number.0) xs ≡ filter (λ row. has_link ls row.number.0 && c row.number.0) xs
+      = filter_same (λ row. has_link (l ∷ ls) row.number.0 && c row.number.0) (λ row. has_link ls row.number.0 && c row.number.0) xs
+      (all_from_all (λ row. x.number.0 < row.number.0) (λ row. (has_link (l ∷ ls) row.number.0 && c row.number.0) ≡ (has_link ls row.number.0 && c row.number.0))
+      (λ row less. let away : (l.entity.0 == row.number.0) ≡ false = ne_eqb l.entity.0 row.number.0 (λ is. omega (arith, is, less, same)) in rw away) xs rise.0) in
+      let tail : map number_of (filter (λ row. has_link (l ∷ ls) row.number.0 && c row.number.0) xs) ≡ map linked_entity (filter (λ y. c y.entity.0) ls) = ap (map number_of) fewer ∙ rest in
+      elim (cases_Bool (c x.number.0)) [
+        | inl passes ↦ let too : c l.entity.0 ≡ true = ap c same ∙ passes in rw (mine, passes, too) (cons_same x.number.0 l.entity.0 _ _ (sym same) tail)
+        | inr fails ↦ let too : c l.entity.0 ≡ false = ap c same ∙ fails in rw (mine, fails, too) tail
       ]
   | inr away ↦
-    let other : (x.number.0 == l.entity.0) ≡ false = ne_eqb x.number.0 l.entity.0 (λ is. absurd (eqb-false l.entity.0 x.number.0 away (sym is))) in
-    let behind : is_entity xs l.entity.0 ≡ true = rw other at there.0 in
-    let less : x.number.0 < l.entity.0 = entity_above xs x.number.0 l.entity.0 rise.0 behind in
-    let above : AllByRecursion (λ y. x.number.0 < y.entity.0) ls = all_from_all (ByEntity l) (λ y. x.number.0 < y.entity.0) (λ y more. omega (arith, less, more)) ls order.0 in
-    let none : has_link (l ∷ ls) x.number.0 ≡ false = none_below (l ∷ ls) x.number.0 (less, above) in
-    rw none (go_together c xs (l ∷ ls) rise.1 order (behind, later_there x xs ls above there.1))
+      let other : (x.number.0 == l.entity.0) ≡ false = ne_eqb x.number.0 l.entity.0 (λ is. absurd (eqb-false l.entity.0 x.number.0 away (sym is))) in
+      let behind : is_entity xs l.entity.0 ≡ true = rw other at there.0 in
+      let less : x.number.0 < l.entity.0 = entity_above xs x.number.0 l.entity.0 rise.0 behind in
+      let above : AllByRecursion (λ y. x.number.0 < y.entity.0) ls = all_from_all (ByEntity l) (λ y. x.number.0 < y.entity.0) (λ y more. omega (arith, less, more)) ls order.0 in
+      let none : has_link (l ∷ ls) x.number.0 ≡ false = none_below (l ∷ ls) x.number.0 (less, above) in
+      rw none (go_together c xs (l ∷ ls) rise.1 order (behind, later_there x xs ls above there.1))
 ]
   where
     cons_same : (m n : ℕ) (xs ys : List ℕ) → m ≡ n → xs ≡ ys → m ∷ xs ≡ n ∷ ys
@@ -131,24 +131,24 @@ once : (ls : List Link) (e : ℕ) → AllInOrder ByEntity ls → links_of ls e �
 once [] e order = refl
 once (l ∷ ls) e order = elim (cases_Bool (l.entity.0 == e)) [
   | inl mine ↦
-    let none : links_of ls e ≡ 0 = subst (λ (n : ℕ). links_of ls n ≡ 0) (eqb-true l.entity.0 e mine) (none_counted ls l.entity.0 order.0) in
-    rw (mine, none)
+      let none : links_of ls e ≡ 0 = subst (λ (n : ℕ). links_of ls n ≡ 0) (eqb-true l.entity.0 e mine) (none_counted ls l.entity.0 order.0) in
+      rw (mine, none)
   | inr other ↦ rw other (once ls e order.1)
 ]
 
 loses : (links : List Link) (e a : ℕ) → AllInOrder IsLinkBefore links → 0 < links_of links e
     → (links_of (without_links_on links a) e == 0) ≡ (has_link (links_on links a) e && (links_of links e == 1))
 loses links e a order held =
-  let split = count_split links e a in
-  let one = once (links_on links a) e (on_rises links a order) in
-  elim (cases_Bool (has_link (links_on links a) e)) [
-  | inl on ↦
-    let is : links_of (links_on links a) e ≡ 1 = rw on at one in
-    rw on (same_tests (links_of (without_links_on links a) e) (links_of links e) (omega (arith, split, is)))
-  | inr off ↦
-    let is : links_of (links_on links a) e ≡ 0 = rw off at one in
-    rw off (ne_eqb (links_of (without_links_on links a) e) 0 (λ none. omega (arith, split, is, none, held)))
-  ]
+    let split = count_split links e a in
+    let one = once (links_on links a) e (on_rises links a order) in
+    elim (cases_Bool (has_link (links_on links a) e)) [
+      | inl on ↦
+          let is : links_of (links_on links a) e ≡ 1 = rw on at one in
+          rw on (same_tests (links_of (without_links_on links a) e) (links_of links e) (omega (arith, split, is)))
+      | inr off ↦
+          let is : links_of (links_on links a) e ≡ 0 = rw off at one in
+          rw off (ne_eqb (links_of (without_links_on links a) e) 0 (λ none. omega (arith, split, is, none, held)))
+    ]
   where
     same_tests : (m n : ℕ) → n ≡ suc m → (m == 0) ≡ (n == 1)
     same_tests m n is = grind (arith, nat_tests)
@@ -156,10 +156,10 @@ loses links e a order held =
 pub loose_on : (s : Parts) (a : ℕ) → IsWell s → loose (without_links_on s.links a) s.entities ≡ map linked_entity (filter (λ l. links_of s.links l.entity.0 == 1) (links_on s.links a))
 loose_on s a w =
     ap (map number_of) (filter_same (λ row. links_of (without_links_on s.links a) row.number.0 == 0) (λ row. has_link (links_on s.links a) row.number.0 && (links_of s.links row.number.0 == 1)) s.entities
-      (all_from_all (IsHeld s.links) (λ row. (links_of (without_links_on s.links a) row.number.0 == 0) ≡ (has_link (links_on s.links a) row.number.0 && (links_of s.links row.number.0 == 1)))
-        (λ row held. loses s.links row.number.0 a w.sound.ordered.links held) s.entities w.held))
+    (all_from_all (IsHeld s.links) (λ row. (links_of (without_links_on s.links a) row.number.0 == 0) ≡ (has_link (links_on s.links a) row.number.0 && (links_of s.links row.number.0 == 1)))
+    (λ row held. loses s.links row.number.0 a w.sound.ordered.links held) s.entities w.held))
     ∙ go_together (λ e. links_of s.links e == 1) s.entities (links_on s.links a) w.sound.ordered.entities (on_rises s.links a w.sound.ordered.links)
-      (all_filter (λ l. is_entity s.entities l.entity.0 ≡ true) (λ l. l.activity.0 == a) s.links (all_from_all (IsLinkOf s.entities s.activities) (λ l. is_entity s.entities l.entity.0 ≡ true) (λ l is. is.entity) s.links w.sound.links))
+    (all_filter (λ l. is_entity s.entities l.entity.0 ≡ true) (λ l. l.activity.0 == a) s.links (all_from_all (IsLinkOf s.entities s.activities) (λ l. is_entity s.entities l.entity.0 ≡ true) (λ l is. is.entity) s.links w.sound.links))
 
 -- the first entity that may receive the front event
 
@@ -184,7 +184,7 @@ root_path rows e are there = by (length rows) (entity_at rows e) refl (some_leng
     found_there (x ∷ xs) n is none = elim (cases_Bool (x.number.0 == n)) [
       | inl mine ↦ let some : Some x ≡ None = rw mine at none in cc
       | inr other ↦ found_there xs n (rw other at is) (rw other at none)
-      ]
+    ]
 
     one : (p q : ℤ) (m k : ℕ) → p ≡ q → m ≡ k → ◌≡◌ {A = List (ℤ × ℕ)} ((p, m) ∷ []) ((q, k) ∷ [])
     one p q m k first second = cc
@@ -193,11 +193,11 @@ root_path rows e are there = by (length rows) (entity_at rows e) refl (some_leng
     by zero found is none = absurd (omega (arith, none))
     by (suc n) None is some = absurd (found_there rows e there is)
     by (suc n) (Some row) is some =
-      let root : IsBuiltInRoot row = found_all IsBuiltInRoot (λ r. r.number.0 == e) rows row is are in
-      let number : row.number.0 ≡ e = eqb-true row.number.0 e (found_passes (λ r. r.number.0 == e) rows row is) in
-      let top : parent_of row ≡ 0 = ap parent_in root.stem in
-      let empty : path n rows (parent_of row) ≡ [] = ap (λ (p : ℕ). path n rows p) top ∙ above n in
-      ap (λ (o : Option Entity). option_map_or (λ (r : Entity). path n rows (parent_of r) ++ (r.priority, r.number.0) ∷ []) o []) is
+        let root : IsBuiltInRoot row = found_all IsBuiltInRoot (λ r. r.number.0 == e) rows row is are in
+        let number : row.number.0 ≡ e = eqb-true row.number.0 e (found_passes (λ r. r.number.0 == e) rows row is) in
+        let top : parent_of row ≡ 0 = ap parent_in root.stem in
+        let empty : path n rows (parent_of row) ≡ [] = ap (λ (p : ℕ). path n rows p) top ∙ above n in
+        ap (λ (o : Option Entity). option_map_or (λ (r : Entity). path n rows (parent_of r) ++ (r.priority, r.number.0) ∷ []) o []) is
         ∙ ap (λ (front : List (ℤ × ℕ)). front ++ (row.priority, row.number.0) ∷ []) empty
         ∙ one row.priority (pos 0) row.number.0 e root.priority number
 
@@ -250,11 +250,12 @@ by_link c rows (l ∷ ls) = elim (cases_Bool (c l.entity.0)) [
 -- rising rows are found by their numbers
 found_each : (rows : List Entity) → Rises number_of rows → AllByRecursion (λ row. entity_at rows row.number.0 ≡ Some row) rows
 found_each [] rise = tt
-found_each (x ∷ xs) rise =
-    (let here : (x.number.0 == x.number.0) ≡ true = eq-eqb x.number.0 x.number.0 refl in rw here,
-     all_from_all (λ row. (x.number.0 < row.number.0) × (entity_at xs row.number.0 ≡ Some row)) (λ row. entity_at (x ∷ xs) row.number.0 ≡ Some row)
-       (λ row is. let away : (x.number.0 == row.number.0) ≡ false = ne_eqb x.number.0 row.number.0 (λ same. omega (arith, same, is.0)) in rw away is.1) xs
-       (all_both (λ row. x.number.0 < row.number.0) (λ row. entity_at xs row.number.0 ≡ Some row) xs rise.0 (found_each xs rise.1)))
+found_each (x ∷ xs) rise = (
+  let here : (x.number.0 == x.number.0) ≡ true = eq-eqb x.number.0 x.number.0 refl in rw here,
+  all_from_all (λ row. (x.number.0 < row.number.0) × (entity_at xs row.number.0 ≡ Some row)) (λ row. entity_at (x ∷ xs) row.number.0 ≡ Some row)
+      (λ row is. let away : (x.number.0 == row.number.0) ≡ false = ne_eqb x.number.0 row.number.0 (λ same. omega (arith, same, is.0)) in rw away is.1) xs
+      (all_both (λ row. x.number.0 < row.number.0) (λ row. entity_at xs row.number.0 ≡ Some row) xs rise.0 (found_each xs rise.1)),
+)
 
 -- an entity may receive the event where it is attached: the built-in block handles it, and it wasn't delivered to the entity
 abbrev pub receives : Parts → ℕ → Event → ℕ → Bool
@@ -266,10 +267,10 @@ first_on s a v w =
     first_of_all (is_eligible s a v) s.entities s.entities w.sound.entities w.sound.ordered.entities (all_there s.entities)
     ∙ by_number (is_eligible s a v) s.entities s.entities (found_each s.entities w.sound.ordered.entities)
     ∙ ap (λ (rows : List Entity). option_and_then (λ e. entity_at s.entities e) (head (map number_of rows)))
-        (filter_same (is_eligible s a v) (λ row. has_link (links_on s.links a) row.number.0 && receives s a v row.number.0) s.entities
-          (all_from_all IsBuiltInRoot (λ row. is_eligible s a v row ≡ (has_link (links_on s.links a) row.number.0 && receives s a v row.number.0))
-            (λ row root. rw (linked_on s.links row.number.0 a)) s.entities w.sound.entities))
+    (filter_same (is_eligible s a v) (λ row. has_link (links_on s.links a) row.number.0 && receives s a v row.number.0) s.entities
+    (all_from_all IsBuiltInRoot (λ row. is_eligible s a v row ≡ (has_link (links_on s.links a) row.number.0 && receives s a v row.number.0))
+    (λ row root. rw (linked_on s.links row.number.0 a)) s.entities w.sound.entities))
     ∙ ap (λ (ns : List ℕ). option_and_then (λ e. entity_at s.entities e) (head ns))
-        (go_together (receives s a v) s.entities (links_on s.links a) w.sound.ordered.entities (on_rises s.links a w.sound.ordered.links)
-          (all_filter (λ l. is_entity s.entities l.entity.0 ≡ true) (λ l. l.activity.0 == a) s.links (all_from_all (IsLinkOf s.entities s.activities) (λ l. is_entity s.entities l.entity.0 ≡ true) (λ l is. is.entity) s.links w.sound.links)))
+    (go_together (receives s a v) s.entities (links_on s.links a) w.sound.ordered.entities (on_rises s.links a w.sound.ordered.links)
+    (all_filter (λ l. is_entity s.entities l.entity.0 ≡ true) (λ l. l.activity.0 == a) s.links (all_from_all (IsLinkOf s.entities s.activities) (λ l. is_entity s.entities l.entity.0 ≡ true) (λ l is. is.entity) s.links w.sound.links)))
     ∙ by_link (receives s a v) s.entities (links_on s.links a)

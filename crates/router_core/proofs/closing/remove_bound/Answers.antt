@@ -8,11 +8,11 @@ use Rattle.router_core.proofs.closing.remove_bound.Goals as goal
 
 pub links-preserved : goal.links-preserved
 links-preserved c =
-  let none : Link = record { entity = record { 0 = 0 }; activity = record { 0 = 0 } } in
-  let cut = drop_more c.links_on-link-items.result.now c.links.link-index none c.links-test.true in
-  record {
-    changes = looked_on removal c.args.stores.now.parts c.links.draft.changes c.remove_if_bound.new.draft.changes _ _ _ (get_or c.links_on-link-items.result.now c.links.link-index none) cut
-      c.in_ok-remove_if_bound.ensures.changes c.links.invariant.changes;
-    lines = looked_on removed_line c.args.stores.now.parts c.links.draft.lines c.remove_if_bound.new.draft.lines _ _ _ (get_or c.links_on-link-items.result.now c.links.link-index none) cut
-      c.in_ok-remove_if_bound.ensures.lines c.links.invariant.lines;
-  }
+    let none : Link = record { entity = record { 0 = 0 }; activity = record { 0 = 0 } } in
+    let cut = drop_more c.links_on-link-items.result.now c.links.link-index none c.links-test.true in
+    record {
+      changes = looked_on removal c.args.stores.now.parts c.links.draft.changes c.remove_if_bound.new.draft.changes _ _ _ (get_or c.links_on-link-items.result.now c.links.link-index none) cut
+          c.in_ok-remove_if_bound.ensures.changes c.links.invariant.changes;
+      lines = looked_on removed_line c.args.stores.now.parts c.links.draft.lines c.remove_if_bound.new.draft.lines _ _ _ (get_or c.links_on-link-items.result.now c.links.link-index none) cut
+          c.in_ok-remove_if_bound.ensures.lines c.links.invariant.lines;
+    }
