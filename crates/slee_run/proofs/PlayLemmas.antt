@@ -1,7 +1,7 @@
 -- One step more of playing.
-use Rattle.std.proofs.Common.{◌≡◌, ◌≢◌, ℕ, ◌+◌, ◌-◌, ◌<◌, ◌≤◌, zero, suc, List, [], ◌∷◌, ◌++◌, length, length-drop, drop, true, false, not, ◌&&◌, if◌then◌else◌, refl, sym, ◌∙◌, ap, subst, arith, drop-drop, Option, Some, None, option_map, IsTrue}
+use Rattle.std.proofs.Common.{◌≡◌, ◌≢◌, ℕ, ◌+◌, ◌-◌, ◌<◌, ◌≤◌, zero, suc, List, [], ◌∷◌, ◌++◌, length, length-drop, take, drop, true, false, not, ◌&&◌, if◌then◌else◌, refl, sym, ◌∙◌, ap, subst, arith, drop-drop, Option, Some, None, option_map, IsTrue}
 use Rattle.std.proofs.lemmas.Bool.{and_parts, and_from, not_from_false}
-use Rattle.std.proofs.lemmas.List.{drop_all}
+use Rattle.std.proofs.lemmas.List.{drop_all, take_rest}
 use Rattle.std.specs.List.{list_all}
 use Rattle.std.specs.Option.{option_map_or}
 use Rattle.signal_script.specs.Signals.{is_signal}
@@ -18,7 +18,7 @@ use Rattle.router_rules.specs.History.{replay, due, due_next, line_choice, least
 use Rattle.router_rules.specs.declared.kindred.Kindred.{Kindred}
 use Rattle.router_rules.specs.declared.kindred.Kindred.TheVariants as kindreds
 use Rattle.router_rules.proofs.HistoryLemmas.{IsSoFar-start, IsSoFar-next, replay-append}
-use Rattle.slee_run.specs.Playing.{IsPlayed}
+use Rattle.slee_run.specs.Playing.{IsNext, IsPlayed}
 use Rattle.slee_run.specs.declared.playing.End.TheVariants as ends
 
 -- a choice that is next on an activity takes no line, and may be made
@@ -43,7 +43,7 @@ least_own s None c is = cc
 least_own s (Some a) c is = own_at s a (next s a) c refl is
 
 -- what is due on an activity or as a line: the lines that it takes, and that it may be made
-record IsDue (s : Parts) (lines : List Signal) (c : Choice) : Type 0 where
+pub record IsDue (s : Parts) (lines : List Signal) (c : Choice) : Type 0 where
   pub takes : input_of c ++ drop (length (input_of c)) lines ≡ lines
   pub most : length (input_of c) ≤ length lines
   pub valid : is_choice c ≡ true
@@ -122,12 +122,21 @@ stepped base steps lines h new s t taken c before valid fresh room is moved grow
         (subst (λ (u : Parts). due u rest ≡ Some (c, drop (length (input_of c)) rest)) before.state due_here) facts.takes facts.valid
         (subst (λ (u : Parts). IsTrue (is_enabled u c)) before.state enabled) refl
 
--- the choice that was found may be made
-pub enabled_due : (s : Parts) (lines : List Signal) (taken : ℕ) (c : Choice) → list_all is_signal lines ≡ true → is_used_up s ≡ false
-    → due_next (least_choice s) (drop taken lines) ≡ Some (c, drop (length (input_of c)) (drop taken lines)) → is_enabled s c ≡ true
-enabled_due s lines taken c valid fresh is =
-    and_from (not (is_used_up s)) (is_next s c) (not_from_false (is_used_up s) fresh)
-    (due_is s (drop taken lines) (drop (length (input_of c)) (drop taken lines)) (least_choice s) c refl (all_dropped taken lines valid) is).next
+-- what was found is due: it may be made, and it is one that a line can give
+pub found_due : (s : Parts) (lines : List Signal) (taken : ℕ) (c : Choice) → list_all is_signal lines ≡ true
+    → due_next (least_choice s) (drop taken lines) ≡ Some (c, drop (length (input_of c)) (drop taken lines)) → IsDue s (drop taken lines) c
+found_due s lines taken c valid is = due_is s (drop taken lines) (drop (length (input_of c)) (drop taken lines)) (least_choice s) c refl (all_dropped taken lines valid) is
+
+pub enabled_due : (s : Parts) (lines : List Signal) (c : Choice) → is_used_up s ≡ false → IsDue s lines c → is_enabled s c ≡ true
+enabled_due s lines c fresh facts = and_from (not (is_used_up s)) (is_next s c) (not_from_false (is_used_up s) fresh) facts.next
+
+-- the same, as the code cuts the lines
+pub cut_due : (s : Parts) (lines : List Signal) (taken : ℕ) (found : Option Choice) (c : Choice) → found ≡ Some c
+    → IsNext (least_choice s) (take (length lines - taken) (drop taken lines)) found
+    → due_next (least_choice s) (drop taken lines) ≡ Some (c, drop (length (input_of c)) (drop taken lines))
+cut_due s lines taken found c is next =
+    subst (λ (rest : List Signal). due_next (least_choice s) rest ≡ Some (c, drop (length (input_of c)) rest)) (take_rest lines taken)
+    (subst (λ (o : Option Choice). IsNext (least_choice s) (take (length lines - taken) (drop taken lines)) o) is next)
 
 -- nothing has been played
 pub begun : (base : Parts) (steps : ℕ) (lines : List Signal) (h : List Entry) (s : Parts) → h ≡ [] → s ≡ base → IsStepped base steps lines h s 0

@@ -1,12 +1,12 @@
 //! Playing signals, a step at a time.
-ghost use Rattle.std.specs.Prelude.{◌≡◌, ◌++◌, ◌∷◌, ◌+◌, ◌<◌, ◌≤◌, [], IfOk, IsTrue, MatchOption, MatchResult, OnOk, OnErr, Some, None, drop, length};
+ghost use Rattle.std.specs.Prelude.{◌≡◌, ◌++◌, ◌∷◌, [], IfOk, IsTrue, OnOk, OnErr, None, length};
 ghost use Rattle.signal_script.specs.Signals.{is_signal};
 ghost use Rattle.std.specs.List.{list_all};
 ghost use Rattle.trace_history.specs.Histories.{input_of};
-ghost use Rattle.router_model.specs.State.{initial, is_used_up};
+ghost use Rattle.router_model.specs.State.{initial};
 ghost use Rattle.router_rules.specs.Step.{after, step_entry, is_enabled, is_choice};
-ghost use Rattle.router_rules.specs.History.{due, due_next, least_choice};
-ghost use Rattle.slee_run.specs.Playing.{IsPlayed};
+ghost use Rattle.router_rules.specs.History.{least_choice};
+ghost use Rattle.slee_run.specs.Playing.{IsNext, IsPlayed};
 
 use router_core::State;
 use signal_script::{Signal, Signals};
@@ -37,53 +37,50 @@ pub struct Played {
 pub fn play(alloc: Global, signals: &Signals, steps: u64) -> Played
     ensures { IsPlayed initial steps signals.now result.history.entries result.end }
 {
-    let history = History::new(alloc);
-    match State::initial(alloc) {
-        Ok(state) => play_from(alloc, state, history, signals.as_slice(), steps),
-        Err(_) => Played {
-            history,
-            end: End::NoMemory,
-        },
-    }
+    let mut history = History::new(alloc);
+    let end = match State::initial(alloc) {
+        Ok(mut state) => play_from(alloc, &mut state, &mut history, signals.as_slice(), steps),
+        Err(_) => End::NoMemory,
+    };
+    Played { history, end }
 }
 
 /// Plays the signals from the initial state on.
 fn play_from(
     alloc: Global,
-    mut state: State,
-    mut history: History,
+    state: &mut State,
+    history: &mut History,
     signals: &[Signal],
     steps: u64,
-) -> Played
-    requires state { state.parts ≡ initial }
-    requires history { history.entries ≡ [] }
+) -> End
+    requires state { state.old.parts ≡ initial }
+    requires history { history.old.entries ≡ [] }
     requires valid { IsTrue (list_all is_signal signals.now) }
-    ensures { IsPlayed initial steps signals.now result.history.entries result.end }
+    ensures { IsPlayed initial steps signals.now history.new.entries result }
 {
     let mut taken: usize = 0;
-    let end = 'entries: loop {
+    'entries: loop {
         if state.used_up() {
-            break 'entries End::Spent;
+            return End::Spent;
         }
-        let choice = match next_choice(alloc, &state, &signals[taken..]) {
+        let choice = match next_choice(alloc, state, &signals[taken..]) {
             Ok(Some(choice)) => choice,
-            Ok(None) => break 'entries End::Done,
-            Err(_) => break 'entries End::NoMemory,
+            Ok(None) => return End::Done,
+            Err(_) => return End::NoMemory,
         };
         if history.len() == steps {
-            break 'entries End::Spent;
+            return End::Spent;
         }
         taken += inputs_of(&choice);
-        let Ok(()) = make(alloc, &mut state, &mut history, choice) else {
-            break 'entries End::NoMemory;
+        let Ok(()) = make(alloc, state, history, choice) else {
+            return End::NoMemory;
         };
-    };
-    Played { history, end }
+    }
 }
 
 /// What one worker does next: the choice of the least activity that has one, else the next line is taken.
 fn next_choice(alloc: Global, state: &State, lines: &[Signal]) -> Result<Option<Choice>, NoMemory>
-    ensures { IfOk result (λ next. MatchOption next (due_next (least_choice state.now.parts) lines.now ≡ None) (λ choice. due_next (least_choice state.now.parts) lines.now ≡ Some (choice, drop (length (input_of choice)) lines.now))) }
+    ensures { IfOk result (IsNext (least_choice state.now.parts) lines.now) }
 {
     match state.next_choice() {
         Some(choice) => Ok(Some(choice)),
@@ -92,7 +89,7 @@ fn next_choice(alloc: Global, state: &State, lines: &[Signal]) -> Result<Option<
 }
 
 fn next_line(alloc: Global, lines: &[Signal]) -> Result<Option<Choice>, NoMemory>
-    ensures { IfOk result (λ next. MatchOption next (due_next None lines.now ≡ None) (λ choice. due_next None lines.now ≡ Some (choice, drop (length (input_of choice)) lines.now))) }
+    ensures { IfOk result (IsNext None lines.now) }
 {
     match lines {
         [] => Ok(None),

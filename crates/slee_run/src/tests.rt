@@ -282,9 +282,6 @@ fn signals_have_a_limit(rt: HostRuntime) -> Result<(), Fail> {
         out.bytes()
             .ends_with(b"5\n  refused unknown-activity\nstatus 0 ok\n")
     );
-    let (status, out) = played_whole(alloc, most_lines(alloc)?, &[0, 1])?;
-    assert_eq!(rt; status, Status::WriteFault);
-    assert!(rt; out.bytes().starts_with(b"1 input fire c1 invite addr=5"));
     let mut more = most_lines(alloc)?;
     more.push(b'\n')?;
     expect(
