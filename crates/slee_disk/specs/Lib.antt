@@ -1,0 +1,10 @@
+pub mod Causes
+pub mod Sides
+pub mod Disk
+pub mod Taken
+pub mod Writes
+pub mod Memory
+pub mod Calls
+pub mod Instants
+pub mod MemoryDisk
+pub mod Untold

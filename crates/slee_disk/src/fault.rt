@@ -1,0 +1,13 @@
+use std::fmt;
+
+/// The outside has failed. Its count of faults tells that it has.
+#[derive(Clone, Copy, Debug, PartialEq, Eq)]
+pub struct Failed;
+
+impl fmt::Display for Failed {
+    fn fmt<W: fmt::Write>(&self, f: &mut fmt::Formatter<W>) -> fmt::Result {
+        write!(f, "input or output failed")
+    }
+}
+
+impl std::error::Error for Failed {}

@@ -1,0 +1,37 @@
+//! The outside as traits: a source of bytes, a sink of bytes and a disk of two sides.
+#![tactic(auto)]
+
+mod call;
+mod disk;
+mod fail_list;
+mod fault;
+mod host;
+mod host_disk;
+mod host_files;
+mod memory_disk;
+mod memory_sink;
+mod memory_source;
+mod pair;
+mod reading;
+mod side;
+mod sink;
+mod source;
+mod stop;
+mod writing;
+
+pub use call::{Act, Call};
+pub use disk::Disk;
+pub use fault::Failed;
+pub use host::{HostSink, HostSource, LateFile};
+pub use host_disk::HostDisk;
+pub use memory_disk::MemoryDisk;
+pub use memory_sink::MemorySink;
+pub use memory_source::MemorySource;
+pub use reading::{ReadFault, read_whole};
+pub use side::Side;
+pub use sink::Sink;
+pub use source::Source;
+pub use writing::write_whole;
+
+#[cfg(test)]
+mod tests;
