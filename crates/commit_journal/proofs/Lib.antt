@@ -1,0 +1,13 @@
+pub mod Differs
+pub mod Found
+pub mod Spelled
+pub mod Spelt
+pub mod Sizes
+pub mod Counting
+pub mod Recovers
+pub mod Opening
+pub mod Blanks
+pub mod Batches
+pub mod Writes
+pub mod Sound
+pub mod Opens

@@ -1,0 +1,23 @@
+-- How long spellings are.
+use Rattle.std.proofs.Common.{◌≡◌, ℕ, ◌+◌, List, [], ◌∷◌, ◌++◌, length, refl, ap, arith, length-append}
+use Rattle.std.specs.List.{flat_map}
+use Rattle.std.proofs.lemmas.List.Concat.{flat_map-cons}
+use Rattle.commit_journal.specs.Spelling.{Head, text, recorded, header, spelled, records_size, size}
+use Rattle.commit_journal.specs.Kept.{batched}
+
+pub length-recorded : (ps : List (List ℕ)) → length (flat_map recorded ps) ≡ records_size ps
+length-recorded [] = refl
+length-recorded (p ∷ ps) = omega (arith, ap length (flat_map-cons recorded p ps), length-append (recorded p) (flat_map recorded ps), length-recorded ps)
+
+pub records_size-more : (ps qs : List (List ℕ)) → records_size (ps ++ qs) ≡ records_size ps + records_size qs
+records_size-more [] qs = omega arith
+records_size-more (p ∷ ps) qs = omega (arith, records_size-more ps qs)
+
+pub length-header : (head : Head) → length (header head) ≡ 22 + length head.deployment + length head.snapshot
+length-header head = omega (arith, length-append (text head.deployment) (text head.snapshot))
+
+pub length-spelled : (head : Head) (ps : List (List ℕ)) → length (spelled head ps) + 1 ≡ size head ps
+length-spelled head ps = omega (arith, length-append (header head) (flat_map recorded ps), length-header head, length-recorded ps)
+
+pub length-batched : (batch : List (List ℕ)) → length (batched batch) ≡ records_size batch + 1
+length-batched batch = omega (arith, length-append (flat_map recorded batch) (0 ∷ []), length-recorded batch)

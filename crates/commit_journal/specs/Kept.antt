@@ -1,0 +1,65 @@
+-- A side that counts, and what two sides stand for.
+use Rattle.std.specs.Prelude.{◌≡◌, ◌≢◌, ◌⊎◌, ℕ, List, [], ◌∷◌, ◌++◌, length, Option, Some, None, Ok}
+use Rattle.std.specs.List.{flat_map, AllByRecursion}
+use Rattle.slee_disk.specs.Sides.{Sides, on, other}
+use Rattle.commit_journal.specs.declared.stage.Stage.{Stage}
+use Rattle.commit_journal.specs.declared.stage.Stage.TheVariants as stages
+use Rattle.commit_journal.specs.Spelling.{Head, recorded, spelled, FitsText, FitsHead}
+use Rattle.commit_journal.specs.Reading.{Front, Blank, front, Counts, counting, Kept, next, recovered}
+
+-- A side counts, and is spelled as far as a closed gate at this place, with this behind the gate.
+pub record StandsIn (kept : Kept) (at : ℕ) (tail : List ℕ) (sides : Sides) : Type 0 where
+  pub gate : ℕ
+  pub shut : gate ≢ 1
+  pub here : on kept.side sides ≡ spelled kept.head kept.payloads ++ gate ∷ tail
+  pub place : at ≡ length (spelled kept.head kept.payloads)
+  pub counts : counting (front sides.a) (front sides.b) ≡ Counts kept.side
+  pub fits_head : FitsHead kept.head
+  pub fits : AllByRecursion FitsText kept.payloads
+
+-- the same, with anything behind the gate
+pub record StandsFound (kept : Kept) (at : ℕ) (sides : Sides) : Type 0 where
+  pub tail : List ℕ
+  pub stands : StandsIn kept at tail sides
+
+-- both sides are blank
+abbrev pub AreBlank : Sides → Type 0
+AreBlank sides = (front sides.a ≡ Blank) × (front sides.b ≡ Blank)
+
+-- the sides stand for this
+abbrev pub Keeps : Kept → Sides → Type 0
+Keeps kept sides = recovered kept.head.deployment sides ≡ Ok (Some kept)
+
+-- the sides stand for what a journal has come to: for nothing yet, while it is blank
+abbrev pub Stands : Stage → Kept → Sides → Type 0
+Stands stages.Blank kept sides = recovered kept.head.deployment sides ≡ Ok None
+Stands stages.Found kept sides = Keeps kept sides
+Stands stages.Ready kept sides = Keeps kept sides
+Stands stages.Stopped kept sides = Keeps kept sides
+
+-- the same with more payloads
+abbrev pub with_more : Kept → List (List ℕ) → Kept
+with_more kept more = record { side = kept.side; head = kept.head; payloads = kept.payloads ++ more }
+
+-- the sides stand for what is kept, or for this and the batch
+abbrev pub KeepsOrMore : Kept → List (List ℕ) → Sides → Type 0
+KeepsOrMore kept batch sides = Keeps kept sides ⊎ Keeps (with_more kept batch) sides
+
+-- the same of what a journal has come to
+abbrev pub StandsOrMore : Stage → Kept → List (List ℕ) → Sides → Type 0
+StandsOrMore stage kept batch sides = Stands stage kept sides ⊎ Stands stage (with_more kept batch) sides
+
+-- the sides stand for what the journal has come to, or for the side that is being begun
+abbrev pub StandsOrBegun : Stage → Kept → Sides → Type 0
+StandsOrBegun stage kept sides = Stands stage kept sides ⊎ Keeps kept sides
+
+-- what is kept once a journal is renewed: no payload, on a blank journal's own side, else on the other side with the next generation
+abbrev pub renewed : Stage → Kept → List ℕ → Kept
+renewed stages.Blank kept snapshot = record { side = kept.side; head = record { generation = kept.head.generation; deployment = kept.head.deployment; snapshot = snapshot }; payloads = [] }
+renewed stages.Found kept snapshot = record { side = other kept.side; head = record { generation = next kept.head.generation; deployment = kept.head.deployment; snapshot = snapshot }; payloads = [] }
+renewed stages.Ready kept snapshot = record { side = other kept.side; head = record { generation = next kept.head.generation; deployment = kept.head.deployment; snapshot = snapshot }; payloads = [] }
+renewed stages.Stopped kept snapshot = record { side = other kept.side; head = record { generation = next kept.head.generation; deployment = kept.head.deployment; snapshot = snapshot }; payloads = [] }
+
+-- the bytes of a batch from the gate before it on: open gates between, and a closed one behind
+abbrev pub batched : List (List ℕ) → List ℕ
+batched batch = flat_map recorded batch ++ 0 ∷ []

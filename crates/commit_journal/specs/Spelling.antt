@@ -1,0 +1,47 @@
+-- The bytes of a side: an open gate, a header, a record for each payload, and then one closed gate.
+use Rattle.std.specs.Prelude.{ℕ, ◌+◌, ◌<◌, ◌^◌, List, [], ◌∷◌, ◌++◌, length, codes}
+use Rattle.std.specs.List.{flat_map}
+use Rattle.std.specs.Int.{w32, w64, to_le_bytes}
+
+abbrev pub magic : List ℕ
+magic = codes "SLEEJ1"
+
+-- what stands before the records
+pub record Head : Type 0 where
+  pub generation : ℕ
+  pub deployment : List ℕ
+  -- empty for the initial state
+  pub snapshot : List ℕ
+
+-- a text is its length in four bytes, and its bytes
+abbrev pub text : List ℕ → List ℕ
+text bytes = to_le_bytes w32 (length bytes) ++ bytes
+
+-- a record is an open gate and the payload as a text
+abbrev pub recorded : List ℕ → List ℕ
+recorded payload = 1 ∷ text payload
+
+abbrev pub header : Head → List ℕ
+header head = magic ++ (to_le_bytes w64 head.generation ++ (text head.deployment ++ text head.snapshot))
+
+-- a side as far as its last gate
+abbrev pub spelled : Head → List (List ℕ) → List ℕ
+spelled head payloads = 1 ∷ (header head ++ flat_map recorded payloads)
+
+-- what has a spelling
+abbrev pub FitsText : List ℕ → Type 0
+FitsText bytes = length bytes < 2 ^ 32
+
+pub record FitsHead (head : Head) : Type 0 where
+  pub generation : head.generation < 2 ^ 64
+  pub deployment : FitsText head.deployment
+  pub snapshot : FitsText head.snapshot
+
+-- five bytes and the payload for each record
+abbrev pub records_size : List (List ℕ) → ℕ
+records_size [] = 0
+records_size (payload ∷ payloads) = 5 + length payload + records_size payloads
+
+-- the size of a side, its last gate included
+abbrev pub size : Head → List (List ℕ) → ℕ
+size head payloads = 24 + length head.deployment + length head.snapshot + records_size payloads

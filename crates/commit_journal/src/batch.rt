@@ -1,0 +1,82 @@
+// A batch of payloads in memory.
+ghost use Rattle.std.specs.Prelude.{◌≡◌, ◌≢◌, ◌<◌, ◌+◌, ◌^◌, ◌↔◌, [], ◌∷◌, ◌++◌, List, ℕ, length, IsTrue, OnOk, OnErr, IfOk};
+ghost use Rattle.std.specs.List.{AllByRecursion};
+ghost use Rattle.commit_journal.specs.Spelling.{FitsText, records_size};
+ghost use Rattle.commit_journal.specs.Kept.{batched};
+
+use slee_value::NoMemory;
+use std::alloc::Global;
+use std::marker::Model;
+
+/// Payloads that are to be written.
+#[derive(Drop)]
+pub(crate) struct Batch {
+    // As they will stand on the disk, the gate before them included, which is still closed while there are none.
+    bytes: Vec<u8>,
+}
+
+impl Model for Batch {
+    ghost use Rattle.std.specs.Prelude.{List, ℕ};
+    ghost use Rattle.commit_journal.specs.Batch.{payloads_in, IsBatch};
+
+    ghost Value = { List (List ℕ) };
+
+    ghost view = { λ b. payloads_in b.bytes.items };
+
+    ghost invariant = { λ b. IsBatch b.bytes.items };
+}
+
+impl Batch {
+    pub(crate) fn new(alloc: Global) -> Result<Self, NoMemory>
+        ensures { IfOk result (λ batch. batch ≡ []) }
+    {
+        let mut bytes = Vec::new(alloc);
+        bytes.push(0)?;
+        Ok(Batch { bytes })
+    }
+
+    pub(crate) fn is_empty(&self) -> bool
+        ensures { IsTrue result ↔ (self.now ≡ []) }
+    {
+        self.bytes.len() == 1
+    }
+
+    /// How many bytes its records have.
+    pub(crate) fn size(&self) -> u64
+        ensures size { result ≡ records_size self.now }
+        ensures small { result < 2 ^ 63 }
+    {
+        self.bytes.len() as u64 - 1
+    }
+
+    /// What stands behind the gate before the batch, once this is open.
+    pub(crate) fn behind(&self) -> &[u8]
+        ensures behind { self.now ≢ [] → 1 ∷ result.now ≡ batched self.now }
+        ensures size { length result.now ≡ records_size self.now }
+        ensures fits { AllByRecursion FitsText self.now }
+    {
+        &self.bytes[1..]
+    }
+
+    /// Adds a payload.
+    pub(crate) fn push(&mut self, alloc: Global, payload: &[u8]) -> Result<(), NoMemory>
+        requires { length payload.now < 2 ^ 32 }
+        ensures ok { OnOk result (self.new ≡ self.old ++ payload.now ∷ []) }
+        ensures err { OnErr result (self.new ≡ self.old) }
+    {
+        let gate = self.bytes.len() - 1;
+        let mut piece = Vec::from_slice(alloc, &(payload.len() as u32).to_le_bytes())?;
+        piece.extend_from_slice(payload)?;
+        piece.push(0)?;
+        self.bytes.extend_from_slice(&piece)?;
+        self.bytes[gate] = 1;
+        Ok(())
+    }
+
+    pub(crate) fn clear(&mut self)
+        ensures { self.new ≡ [] }
+    {
+        self.bytes.truncate(1);
+        self.bytes[0] = 0;
+    }
+}

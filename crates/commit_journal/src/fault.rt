@@ -1,0 +1,110 @@
+use slee_disk::{Failed, Side};
+use slee_value::NoMemory;
+use std::alloc::AllocError;
+use thiserror::Error;
+
+/// What is wrong with the bytes of a journal.
+#[derive(Clone, Copy, Debug, PartialEq, Eq)]
+pub enum JournalBad {
+    Header,
+    Length,
+    Sides,
+    Snapshot,
+    Record,
+    Replay,
+}
+
+/// Why a journal isn't opened.
+#[derive(Clone, Copy, Debug, PartialEq, Eq, Error)]
+pub enum JournalFault {
+    #[error("the disk failed")]
+    DiskFault,
+    #[error("the journal is damaged")]
+    BadJournal {
+        side: Side,
+        at: u64,
+        kind: JournalBad,
+    },
+    #[error("the journal was written for another deployment")]
+    OtherDeployment {
+        kept_len: u64,
+        first_difference: u64,
+    },
+    #[error("out of memory")]
+    NoMemory,
+}
+
+/// Why a side isn't begun.
+#[derive(Clone, Copy, Debug, PartialEq, Eq, Error)]
+pub enum BeginFault {
+    #[error("the disk failed")]
+    DiskFault,
+    #[error("the side would be longer than the limit")]
+    Full { length: u64, adding: u64 },
+    #[error("out of memory")]
+    NoMemory,
+}
+
+/// Why a payload isn't taken.
+#[derive(Clone, Copy, Debug, PartialEq, Eq, Error)]
+pub enum AppendFault {
+    #[error("the side would be longer than the limit")]
+    Full { length: u64, adding: u64 },
+    #[error("out of memory")]
+    NoMemory,
+}
+
+impl From<NoMemory> for JournalFault {
+    ghost use Rattle.std.specs.Prelude.{◌≡◌};
+    ghost use Rattle.commit_journal.specs.declared.fault.JournalFault.TheVariants as faults;
+
+    ghost from_gives = { λ _ fault. fault ≡ faults.NoMemory };
+
+    fn from(_: NoMemory) -> Self {
+        JournalFault::NoMemory
+    }
+}
+
+impl From<AllocError> for JournalFault {
+    ghost use Rattle.std.specs.Prelude.{◌≡◌};
+    ghost use Rattle.commit_journal.specs.declared.fault.JournalFault.TheVariants as faults;
+
+    ghost from_gives = { λ _ fault. fault ≡ faults.NoMemory };
+
+    fn from(_: AllocError) -> Self {
+        JournalFault::NoMemory
+    }
+}
+
+impl From<Failed> for JournalFault {
+    ghost use Rattle.std.specs.Prelude.{◌≡◌};
+    ghost use Rattle.commit_journal.specs.declared.fault.JournalFault.TheVariants as faults;
+
+    ghost from_gives = { λ _ fault. fault ≡ faults.DiskFault };
+
+    fn from(_: Failed) -> Self {
+        JournalFault::DiskFault
+    }
+}
+
+impl From<NoMemory> for BeginFault {
+    ghost use Rattle.std.specs.Prelude.{◌≡◌};
+    ghost use Rattle.commit_journal.specs.declared.fault.BeginFault.TheVariants as faults;
+
+    ghost from_gives = { λ _ fault. fault ≡ faults.NoMemory };
+
+    fn from(_: NoMemory) -> Self {
+        BeginFault::NoMemory
+    }
+}
+
+impl From<NoMemory> for AppendFault {
+    ghost use Rattle.std.specs.Prelude.{◌≡◌};
+    ghost use Rattle.commit_journal.specs.declared.fault.AppendFault.TheVariants as faults;
+
+    ghost from_gives = { λ _ fault. fault ≡ faults.NoMemory };
+
+    fn from(_: NoMemory) -> Self {
+        AppendFault::NoMemory
+    }
+}

@@ -1,0 +1,203 @@
+ghost use Rattle.std.specs.Prelude.{◌≡◌, ◌≢◌, ◌<◌, ◌≤◌, ◌+◌, ◌^◌, [], ◌∷◌, ◌++◌, length, IsTrue, OnOk, OnErr, IfOk, IfErr, IsErr, IsOk};
+
+use crate::batch::Batch;
+use crate::start::find;
+use crate::writing::write_batch;
+use crate::{AppendFault, JournalFault, Record, Stage};
+use slee_disk::{Disk, Failed, Side};
+use slee_value::Blob;
+use std::alloc::Global;
+use std::marker::Model;
+
+/// Payloads on two sides of a disk, and a batch of more in memory.
+#[derive(Drop)]
+pub struct Journal<D: Disk> {
+    disk: D,
+    alloc: Global,
+    stage: Stage,
+    // The side that counts, or that will be begun.
+    side: Side,
+    generation: u64,
+    deployment: Blob,
+    snapshot: Blob,
+    records: Vec<Record>,
+    // The place of the last gate.
+    end: u64,
+    batch: Batch,
+    limit: u64,
+}
+
+impl<D: Disk> Model for Journal<D> {
+    ghost use Rattle.commit_journal.specs.Journal.{View, kept_by, IsSound};
+
+    ghost Value = { View D };
+
+    ghost view = { λ a. record {
+        disk = a.disk;
+        stage = a.stage;
+        kept = kept_by a.side a.generation a.deployment a.snapshot (D.disk a.disk);
+        batch = a.batch;
+        records = a.records.items;
+        limit = a.limit
+    } };
+
+    ghost invariant = { λ a. IsSound a.stage (kept_by a.side a.generation a.deployment a.snapshot (D.disk a.disk)) a.end a.batch a.limit (D.disk a.disk) };
+}
+
+impl<D: Disk> Journal<D> {
+    ghost use Rattle.slee_disk.specs.Causes.{Rose};
+    ghost use Rattle.slee_disk.specs.Sides.{Sides, on};
+    ghost use Rattle.slee_disk.specs.Disk.{LeavesOnly, Looks, is_clean};
+    ghost use Rattle.commit_journal.specs.declared.stage.Stage.TheVariants.{Ready, Stopped};
+    ghost use Rattle.commit_journal.specs.Spelling.{records_size, size};
+    ghost use Rattle.commit_journal.specs.Reading.{first_gate, recovered};
+    ghost use Rattle.commit_journal.specs.Kept.{with_more, Stands, StandsOrMore};
+    ghost use Rattle.commit_journal.specs.Views.{IsCause, located};
+    ghost use Rattle.commit_journal.specs.Journal.{payloads_on, IsOpenedAs, IsSameSide, Refuses};
+
+    /// Reads the two sides of a disk, and writes nothing.
+    pub fn open(
+        alloc: Global,
+        disk: D,
+        deployment: &[u8],
+        limit: u64,
+    ) -> Result<Journal<D>, (JournalFault, D)>
+        requires { limit ≤ 268435456 }
+        ensures opened { IsTrue (D.disk disk).told → IfOk result (λ j. IsOpenedAs deployment.now (recovered deployment.now (D.disk disk).seen) j) }
+        ensures running { IfOk result (λ j. j.stage ≢ Stopped) }
+        ensures empty { IfOk result (λ j. j.batch ≡ []) }
+        ensures limit { IfOk result (λ j. j.limit ≡ limit) }
+        ensures named { IfOk result (λ j. j.kept.head.deployment ≡ deployment.now) }
+        ensures records { IsTrue (D.disk disk).told → IfOk result (λ j. j.records ≡ located (first_gate j.kept.head) j.kept.payloads) }
+        ensures seen { IsTrue (D.disk disk).told → IfOk result (λ j. Stands j.stage j.kept (D.disk disk).seen) }
+        ensures cause { IsTrue (D.disk disk).told → IfErr result (λ e. IsCause e.0 (recovered deployment.now (D.disk disk).seen)) }
+
+        // It changes nothing, and the disk has failed in it where it says so.
+        ensures looks { IfOk result (λ j. Looks (D.disk disk) (D.disk j.disk) ⊥) }
+        ensures looks_err { IfErr result (λ e. Looks (D.disk disk) (D.disk e.1) (e.0 ≡ JournalFault.DiskFault)) }
+        ensures any_moment { IsTrue (is_clean (D.disk disk)) → IfOk result (λ j. LeavesOnly (D.disk disk) (D.disk j.disk) (λ image. image ≡ (D.disk disk).seen)) }
+        ensures any_moment_err { IsTrue (is_clean (D.disk disk)) → IfErr result (λ e. LeavesOnly (D.disk disk) (D.disk e.1) (λ image. image ≡ (D.disk disk).seen)) }
+        ensures rest { IsTrue (is_clean (D.disk disk)) → IfOk result (λ j. IsTrue (is_clean (D.disk j.disk))) }
+        ensures rest_err { IsTrue (is_clean (D.disk disk)) → IfErr result (λ e. IsTrue (is_clean (D.disk e.1))) }
+    {
+        let mut disk = disk;
+        let Ok(batch) = Batch::new(alloc) else {
+            return Err((JournalFault::NoMemory, disk));
+        };
+        match find(alloc, &mut disk, deployment) {
+            Err(fault) => Err((fault, disk)),
+            Ok(found) => Ok(Journal {
+                disk,
+                alloc,
+                stage: found.stage,
+                side: found.side,
+                generation: found.generation,
+                deployment: found.deployment,
+                snapshot: found.snapshot,
+                records: found.records,
+                end: found.end,
+                batch,
+                limit,
+            }),
+        }
+    }
+
+    /// The records that were found at opening.
+    pub fn records(&self) -> &[Record]
+        ensures { result.now ≡ self.now.records }
+    {
+        &self.records
+    }
+
+    /// What the records follow on: a snapshot of the state before them, or nothing for the initial state.
+    pub fn snapshot(&self) -> &[u8]
+        ensures { result.now ≡ self.now.kept.head.snapshot }
+    {
+        self.snapshot.as_slice()
+    }
+
+    /// The side that counts.
+    pub fn side(&self) -> Side
+        ensures side { result ≡ self.now.kept.side }
+        ensures payloads { payloads_on (on self.now.kept.side (D.disk self.now.disk).seen) ≡ self.now.kept.payloads }
+    {
+        self.side
+    }
+
+    /// How many bytes the batch has.
+    pub fn batch(&self) -> u64
+        ensures { result ≡ records_size self.now.batch }
+    {
+        self.batch.size()
+    }
+
+    /// Adds a payload to the batch.
+    pub fn append(&mut self, payload: &[u8]) -> Result<(), AppendFault>
+        requires ready { self.old.stage ≡ Ready }
+        requires short { length payload.now ≤ 65536 }
+        ensures ok { OnOk result (self.new ≡ record self.old { batch = self.old.batch ++ payload.now ∷ [] }) }
+        ensures err { OnErr result (self.new ≡ self.old) }
+        ensures refused { IfErr result (λ fault. Refuses (D.disk self.old.disk).told
+            (size self.old.kept.head (self.old.kept.payloads ++ self.old.batch)) (5 + length payload.now) self.old.limit fault) }
+        ensures fits { IsTrue (D.disk self.old.disk).told → OnOk result
+            (size self.old.kept.head (self.old.kept.payloads ++ self.old.batch) + (5 + length payload.now) ≤ self.old.limit) }
+    {
+        let length = self.end + 1 + self.batch.size();
+        let adding = 5 + payload.len() as u64;
+        if length + adding > self.limit {
+            return Err(AppendFault::Full { length, adding });
+        }
+        self.batch.push(self.alloc, payload)?;
+        Ok(())
+    }
+
+    /// Writes the batch. At `Ok` it is acknowledged.
+    pub fn flush(&mut self) -> Result<(), Failed>
+        requires { self.old.stage ≢ Stopped }
+        ensures ok { IsTrue (D.disk self.old.disk).told → OnOk result
+            (self.new ≡ record self.old { disk = self.new.disk; kept = with_more self.old.kept self.old.batch; batch = [] }) }
+        ensures stage { OnOk result (self.new.stage ≡ self.old.stage) }
+        ensures empty { OnOk result (self.new.batch ≡ []) }
+        ensures seen { IsTrue (D.disk self.old.disk).told → OnOk result (Stands self.new.stage self.new.kept (D.disk self.new.disk).seen) }
+        ensures acknowledged { IsTrue (is_clean (D.disk self.old.disk)) → OnOk result
+            ((image : Sides) → (D.disk self.new.disk).images image → Stands self.new.stage self.new.kept image) }
+        ensures rest { IsTrue (is_clean (D.disk self.old.disk)) → OnOk result (IsTrue (is_clean (D.disk self.new.disk))) }
+
+        // A crash at any moment of the call leaves what was acknowledged, with the batch or without.
+        ensures any_moment { IsTrue (is_clean (D.disk self.old.disk)) → LeavesOnly (D.disk self.old.disk) (D.disk self.new.disk)
+            (StandsOrMore self.old.stage self.old.kept self.old.batch) }
+
+        ensures stopped { OnErr result (self.new.stage ≡ Stopped) }
+        ensures unwritten { OnErr result (self.new.batch ≡ self.old.batch) }
+        ensures cause { IsErr result → Rose (D.disk self.old.disk).faults (D.disk self.new.disk).faults }
+        ensures still { IsSameSide self.old self.new }
+        ensures told { (D.disk self.new.disk).told ≡ (D.disk self.old.disk).told }
+        ensures rising { (D.disk self.old.disk).faults ≤ (D.disk self.new.disk).faults }
+
+        // An empty batch asks nothing of the disk.
+        ensures idle { self.old.batch ≡ [] → (self.new ≡ self.old) }
+        ensures idle_ok { self.old.batch ≡ [] → IsOk result }
+    {
+        if self.batch.is_empty() {
+            return Ok(());
+        }
+        match write_batch(&mut self.disk, self.side, self.end, &self.batch) {
+            Ok(()) => {
+                self.end += self.batch.size();
+                self.batch.clear();
+                Ok(())
+            }
+            Err(failed) => {
+                self.stage = Stage::Stopped;
+                Err(failed)
+            }
+        }
+    }
+
+    /// The disk, whatever has come of the journal.
+    pub fn into_disk(self) -> D
+        ensures { result ≡ self.disk }
+    {
+        self.disk
+    }
+}

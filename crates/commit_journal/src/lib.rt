@@ -1,0 +1,19 @@
+//! A journal on two sides of a disk, whose batches are whole or absent after any crash.
+#![tactic(auto)]
+
+mod batch;
+mod blank;
+mod fault;
+mod gate;
+mod journal;
+mod reading;
+mod record;
+mod recovery;
+mod stage;
+mod start;
+mod writing;
+
+pub use fault::{AppendFault, BeginFault, JournalBad, JournalFault};
+pub use journal::Journal;
+pub use record::Record;
+pub use stage::Stage;

@@ -1,0 +1,50 @@
+// A batch on its way to the disk.
+ghost use Rattle.std.specs.Prelude.{◌≡◌, ◌≢◌, ◌<◌, ◌≤◌, ◌+◌, ◌^◌, [], IsTrue, OnOk, IsErr};
+ghost use Rattle.slee_disk.specs.Causes.{Rose};
+ghost use Rattle.slee_disk.specs.Disk.{LeavesOnly, is_clean};
+ghost use Rattle.commit_journal.specs.Gate.{EndsShut};
+ghost use Rattle.commit_journal.specs.Spelling.{records_size};
+ghost use Rattle.commit_journal.specs.Reading.{Kept};
+ghost use Rattle.commit_journal.specs.Kept.{StandsIn, StandsFound, Keeps, with_more, KeepsOrMore};
+
+use crate::batch::Batch;
+use crate::gate::open_gate;
+use slee_disk::{Disk, Failed, Side};
+
+/// Writes a batch behind the closed gate that ends a side.
+pub(crate) fn write_batch<D: Disk>(
+    disk: &mut D,
+    side: Side,
+    at: u64,
+    batch: &Batch,
+) -> Result<(), Failed>
+    requires some { batch.now ≢ [] }
+    requires room { at + 1 < 2 ^ 64 }
+    requires shut { IsTrue (D.disk disk.old).told → EndsShut side at (D.disk disk.old).seen }
+    ensures acknowledged { (kept : Kept) → kept.side ≡ side → IsTrue (D.disk disk.old).told → StandsIn kept at [] (D.disk disk.old).seen
+        → OnOk result (StandsIn (with_more kept batch.now) (at + records_size batch.now) [] (D.disk disk.new).seen) }
+    ensures any_moment { (kept : Kept) → kept.side ≡ side → IsTrue (is_clean (D.disk disk.old)) → StandsIn kept at [] (D.disk disk.old).seen
+        → LeavesOnly (D.disk disk.old) (D.disk disk.new) (KeepsOrMore kept batch.now) }
+    ensures rest { IsTrue (is_clean (D.disk disk.old)) → OnOk result (IsTrue (is_clean (D.disk disk.new))) }
+    ensures told { (D.disk disk.new).told ≡ (D.disk disk.old).told }
+    ensures rising { (D.disk disk.old).faults ≤ (D.disk disk.new).faults }
+    ensures cause { IsErr result → Rose (D.disk disk.old).faults (D.disk disk.new).faults }
+{
+    open_gate(disk, side, at, batch.behind())
+}
+
+/// Cuts what stands behind the last gate.
+pub(crate) fn cut_behind<D: Disk>(disk: &mut D, side: Side, at: u64) -> Result<(), Failed>
+    requires { at + 1 < 2 ^ 64 }
+    ensures ready { (kept : Kept) → kept.side ≡ side → IsTrue (D.disk disk.old).told → StandsFound kept at (D.disk disk.old).seen
+        → OnOk result (StandsIn kept at [] (D.disk disk.new).seen) }
+    ensures any_moment { (kept : Kept) → kept.side ≡ side → IsTrue (is_clean (D.disk disk.old)) → StandsFound kept at (D.disk disk.old).seen
+        → LeavesOnly (D.disk disk.old) (D.disk disk.new) (Keeps kept) }
+    ensures rest { IsTrue (is_clean (D.disk disk.old)) → OnOk result (IsTrue (is_clean (D.disk disk.new))) }
+    ensures told { (D.disk disk.new).told ≡ (D.disk disk.old).told }
+    ensures rising { (D.disk disk.old).faults ≤ (D.disk disk.new).faults }
+    ensures cause { IsErr result → Rose (D.disk disk.old).faults (D.disk disk.new).faults }
+{
+    disk.cut(side, at + 1)?;
+    disk.sync(side)
+}
