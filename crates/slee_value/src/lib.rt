@@ -3,22 +3,34 @@
 
 mod blob;
 mod component;
+mod convergence;
 mod escaping;
+mod fault;
 mod ids;
 mod keep;
 mod kind;
 mod memory;
 mod name;
+mod names;
+mod payload;
+mod reading;
 mod text;
 mod value;
+mod writing;
 
 pub use blob::Blob;
 pub use component::ComponentId;
+pub use convergence::ConvName;
 pub use escaping::escape;
+pub use fault::{PartFault, ValueBad, ValueFault};
 pub use ids::{ActivityId, EntityId, EventId, TimerId};
 pub use keep::Keep;
 pub use kind::Kind;
 pub use memory::NoMemory;
 pub use name::{NAME_LIMIT, Name};
+pub use names::Names;
+pub use payload::Payload;
+pub use reading::{read_flag, read_part, read_text, read_u32, read_u64};
 pub use text::Text;
 pub use value::Value;
+pub use writing::{write_text, write_value};

@@ -1,0 +1,110 @@
+-- The bytes of effects. Numbers have their low byte first, and a list begins with its count.
+use Rattle.std.specs.Prelude.{◌≡◌, ℕ, ◌<◌, ◌^◌, ℤ, Bool, List, [], ◌∷◌, ◌++◌, length, Option, Some, None, FitsSigned, IsTrue, ⊤}
+use Rattle.std.specs.Int.{w8, w64, cast_unsigned}
+use Rattle.std.specs.List.{flat_map, AllByRecursion}
+use Rattle.slee_value.specs.declared.value.Value.{Value}
+use Rattle.slee_value.specs.declared.keep.Keep.{Keep}
+use Rattle.slee_value.specs.declared.keep.Keep.TheVariants.{All, Last, NoneMissed}
+use Rattle.slee_value.specs.Order.{rises, names_of}
+use Rattle.slee_value.specs.Bytes.{spelled_u32, spelled_u64, spelled_i64, spelled_text, spelled_flag, spelling_of_value, FitsText, Fits, IsShort}
+use Rattle.slee_effect.specs.declared.reference.Ref.{Ref}
+use Rattle.slee_effect.specs.declared.reference.Ref.TheVariants.{Known, Fresh}
+use Rattle.slee_effect.specs.declared.value.Val.{Val}
+use Rattle.slee_effect.specs.declared.value.Val.TheVariants.{Plain, NewActivity, NewTimer}
+use Rattle.slee_effect.specs.declared.effect.Effect.{Effect}
+use Rattle.slee_effect.specs.declared.effect.Effect.TheVariants.{SetField, SetAttr, Create, Remove, SetPriority, Attach, Detach, SetMask, Fire, NewNull, EndNull, SetTimer, CancelTimer, Bind, Unbind, Emit, Usage}
+
+-- a byte with a sign
+abbrev pub spelled_i8 : ℤ → List ℕ
+spelled_i8 z = cast_unsigned w8 z ∷ []
+
+-- an option is 0, or 1 and what it holds
+abbrev pub spelled_option : Option (List ℕ) → List ℕ
+spelled_option None = 0 ∷ []
+spelled_option (Some text) = 1 ∷ spelled_text text
+
+abbrev pub spelled_keep : Keep → List ℕ
+spelled_keep All = 0 ∷ []
+spelled_keep Last = 1 ∷ []
+spelled_keep NoneMissed = 2 ∷ []
+
+abbrev pub spelled_ref : Ref → List ℕ
+spelled_ref (Known number) = 0 ∷ spelled_u64 number
+spelled_ref (Fresh place) = 1 ∷ spelled_u32 place
+
+abbrev pub spelled_val : Val → List ℕ
+spelled_val (Plain value) = 0 ∷ spelling_of_value value
+spelled_val (NewActivity place) = 1 ∷ spelled_u32 place
+spelled_val (NewTimer place) = 2 ∷ spelled_u32 place
+
+-- a field of an event, and all of them
+abbrev pub spelled_field : List ℕ × Val → List ℕ
+spelled_field field = spelled_text field.0 ++ spelled_val field.1
+
+abbrev pub spelled_fields : List (List ℕ × Val) → List ℕ
+spelled_fields fields = spelled_u32 (length fields) ++ flat_map spelled_field fields
+
+-- the bytes of an effect: a byte for which one it is, and then its parts in order
+abbrev pub spelled_effect : Effect → List ℕ
+spelled_effect (SetField entity name value) = 1 ∷ (spelled_ref entity ++ (spelled_text name ++ spelled_val value))
+spelled_effect (SetAttr activity key value) = 2 ∷ (spelled_ref activity ++ (spelled_text key ++ spelled_val value))
+spelled_effect (Create parent relation priority) = 3 ∷ (spelled_ref parent ++ (spelled_text relation ++ spelled_i8 priority))
+spelled_effect (Remove entity) = 4 ∷ spelled_ref entity
+spelled_effect (SetPriority entity priority) = 5 ∷ (spelled_ref entity ++ spelled_i8 priority)
+spelled_effect (Attach entity activity) = 6 ∷ (spelled_ref entity ++ spelled_ref activity)
+spelled_effect (Detach entity activity) = 7 ∷ (spelled_ref entity ++ spelled_ref activity)
+spelled_effect (SetMask entity activity event on) = 8 ∷ (spelled_ref entity ++ (spelled_ref activity ++ (spelled_text event ++ spelled_flag on)))
+spelled_effect (Fire activity event service fields) = 9 ∷ (spelled_ref activity ++ (spelled_text event ++ (spelled_option service ++ spelled_fields fields)))
+spelled_effect NewNull = 10 ∷ []
+spelled_effect (EndNull activity) = 11 ∷ spelled_ref activity
+spelled_effect (SetTimer activity start period times keep) = 12 ∷ (spelled_ref activity ++ (spelled_u64 start ++ (spelled_u64 period ++ (spelled_u64 times ++ spelled_keep keep))))
+spelled_effect (CancelTimer timer) = 13 ∷ spelled_ref timer
+spelled_effect (Bind name activity) = 14 ∷ (spelled_text name ++ spelled_ref activity)
+spelled_effect (Unbind name) = 15 ∷ spelled_text name
+spelled_effect (Emit entity text) = 16 ∷ (spelled_ref entity ++ spelled_text text)
+spelled_effect (Usage entity name amount) = 17 ∷ (spelled_ref entity ++ (spelled_text name ++ spelled_i64 amount))
+
+-- the bytes of a list of effects
+abbrev pub spelling_of_effects : List Effect → List ℕ
+spelling_of_effects effects = spelled_u32 (length effects) ++ flat_map spelled_effect effects
+
+-- Of effects in memory only this is wanted: the length of each text and list is a number of 32 bits.
+abbrev pub IsShortText : List ℕ → Type 0
+IsShortText text = length text < 2 ^ 32
+
+abbrev pub IsShortOption : Option (List ℕ) → Type 0
+IsShortOption None = ⊤
+IsShortOption (Some text) = IsShortText text
+
+abbrev pub IsShortVal : Val → Type 0
+IsShortVal (Plain value) = IsShort value
+IsShortVal (NewActivity place) = ⊤
+IsShortVal (NewTimer place) = ⊤
+
+abbrev pub IsShortField : List ℕ × Val → Type 0
+IsShortField field = IsShortText field.0 × IsShortVal field.1
+
+abbrev pub AreShortFields : List (List ℕ × Val) → Type 0
+AreShortFields fields = (length fields < 2 ^ 32) × AllByRecursion IsShortField fields
+
+abbrev pub IsShortEffect : Effect → Type 0
+IsShortEffect (SetField entity name value) = IsShortText name × IsShortVal value
+IsShortEffect (SetAttr activity key value) = IsShortText key × IsShortVal value
+IsShortEffect (Create parent relation priority) = IsShortText relation
+IsShortEffect (Remove entity) = ⊤
+IsShortEffect (SetPriority entity priority) = ⊤
+IsShortEffect (Attach entity activity) = ⊤
+IsShortEffect (Detach entity activity) = ⊤
+IsShortEffect (SetMask entity activity event on) = IsShortText event
+IsShortEffect (Fire activity event service fields) = IsShortText event × IsShortOption service × AreShortFields fields
+IsShortEffect NewNull = ⊤
+IsShortEffect (EndNull activity) = ⊤
+IsShortEffect (SetTimer activity start period times keep) = ⊤
+IsShortEffect (CancelTimer timer) = ⊤
+IsShortEffect (Bind name activity) = IsShortText name
+IsShortEffect (Unbind name) = IsShortText name
+IsShortEffect (Emit entity text) = IsShortText text
+IsShortEffect (Usage entity name amount) = IsShortText name
+
+abbrev pub AreShort : List Effect → Type 0
+AreShort effects = (length effects < 2 ^ 32) × AllByRecursion IsShortEffect effects

@@ -1,0 +1,225 @@
+ghost use Rattle.std.specs.Prelude.{◌≡◌, ◌++◌, ◌∷◌, OnOk, OnErr, IfOk};
+ghost use Rattle.slee_value.specs.Bytes.{spelled_text, spelled_flag, spelled_u32, spelled_u64};
+ghost use Rattle.slee_effect.specs.Bytes.{spelled_i8, spelled_option, spelled_keep, spelled_ref, spelled_val, spelled_fields, spelled_effect, spelling_of_effects, IsShortText, IsShortOption, IsShortVal, AreShortFields, IsShortEffect, AreShort};
+
+use crate::{Effect, Ref, Val};
+use slee_value::{Keep, NoMemory, Text, write_text, write_value};
+use std::alloc::Global;
+
+/// Adds the bytes of the list of effects at the end.
+pub fn write_effects(effects: &[Effect], into: &mut Vec<u8>) -> Result<(), NoMemory>
+    requires { AreShort effects.now }
+    ensures ok { OnOk result (into.new.items ≡ into.old.items ++ spelling_of_effects effects.now) }
+    ensures err { OnErr result (into.new.items ≡ into.old.items) }
+{
+    let alloc = *into.allocator();
+    let bytes = bytes_of(alloc, effects)?;
+    into.extend_from_slice(&bytes)?;
+    Ok(())
+}
+
+fn bytes_of(alloc: Global, effects: &[Effect]) -> Result<Vec<u8>, NoMemory>
+    requires { AreShort effects.now }
+    ensures { IfOk result (λ v. v.items ≡ spelling_of_effects effects.now) }
+{
+    let mut bytes = Vec::new(alloc);
+    bytes.extend_from_slice(&(effects.len() as u32).to_le_bytes())?;
+    for effect in effects {
+        put_effect(effect, &mut bytes)?;
+    }
+    Ok(bytes)
+}
+
+fn put_effect(effect: &Effect, into: &mut Vec<u8>) -> Result<(), NoMemory>
+    requires { IsShortEffect effect.now }
+    ensures { OnOk result (into.new.items ≡ into.old.items ++ spelled_effect effect.now) }
+{
+    match effect {
+        Effect::SetField { entity, name, value } => put_setting(1, *entity, name, value, into),
+        Effect::SetAttr { activity, key, value } => put_setting(2, *activity, key, value, into),
+        Effect::Create { parent, relation, priority } => {
+            put_named(3, *parent, relation, into)?;
+            put_i8(*priority, into)
+        }
+        Effect::Remove { entity } => put_one(4, *entity, into),
+        Effect::SetPriority { entity, priority } => {
+            put_one(5, *entity, into)?;
+            put_i8(*priority, into)
+        }
+        Effect::Attach { entity, activity } => put_two(6, *entity, *activity, into),
+        Effect::Detach { entity, activity } => put_two(7, *entity, *activity, into),
+        Effect::SetMask { entity, activity, event, on } => {
+            put_two(8, *entity, *activity, into)?;
+            write_text(event, into)?;
+            put_flag(*on, into)
+        }
+        Effect::Fire { activity, event, service, fields } => {
+            put_named(9, *activity, event, into)?;
+            put_option(service, into)?;
+            put_fields(fields.as_slice(), into)
+        }
+        Effect::NewNull => Ok(into.push(10)?),
+        Effect::EndNull { activity } => put_one(11, *activity, into),
+        Effect::SetTimer { activity, start, period, times, keep } => {
+            put_one(12, *activity, into)?;
+            put_moments(*start, *period, *times, into)?;
+            put_keep(*keep, into)
+        }
+        Effect::CancelTimer { timer } => put_one(13, *timer, into),
+        Effect::Bind { name, activity } => {
+            into.push(14)?;
+            write_text(name, into)?;
+            put_ref(*activity, into)
+        }
+        Effect::Unbind { name } => {
+            into.push(15)?;
+            write_text(name, into)
+        }
+        Effect::Emit { entity, text } => put_named(16, *entity, text, into),
+        Effect::Usage { entity, name, amount } => {
+            put_counted(17, *entity, name, amount.cast_unsigned(), into)
+        }
+    }
+}
+
+fn put_one(tag: u8, one: Ref, into: &mut Vec<u8>) -> Result<(), NoMemory>
+    ensures { OnOk result (into.new.items ≡ into.old.items ++ (tag ∷ spelled_ref one)) }
+{
+    into.push(tag)?;
+    put_ref(one, into)
+}
+
+fn put_two(tag: u8, one: Ref, other: Ref, into: &mut Vec<u8>) -> Result<(), NoMemory>
+    ensures { OnOk result (into.new.items ≡ into.old.items ++ (tag ∷ (spelled_ref one ++ spelled_ref other))) }
+{
+    put_one(tag, one, into)?;
+    put_ref(other, into)
+}
+
+fn put_named(tag: u8, one: Ref, name: &Text, into: &mut Vec<u8>) -> Result<(), NoMemory>
+    requires { IsShortText name.now }
+    ensures { OnOk result (into.new.items ≡ into.old.items ++ (tag ∷ (spelled_ref one ++ spelled_text name.now))) }
+{
+    put_one(tag, one, into)?;
+    write_text(name, into)
+}
+
+fn put_setting(tag: u8, one: Ref, name: &Text, value: &Val, into: &mut Vec<u8>) -> Result<(), NoMemory>
+    requires name { IsShortText name.now }
+    requires value { IsShortVal value.now }
+    ensures { OnOk result (into.new.items ≡ into.old.items ++ (tag ∷ (spelled_ref one ++ (spelled_text name.now ++ spelled_val value.now)))) }
+{
+    put_named(tag, one, name, into)?;
+    put_val(value, into)
+}
+
+fn put_counted(tag: u8, one: Ref, name: &Text, number: u64, into: &mut Vec<u8>) -> Result<(), NoMemory>
+    requires { IsShortText name.now }
+    ensures { OnOk result (into.new.items ≡ into.old.items ++ (tag ∷ (spelled_ref one ++ (spelled_text name.now ++ spelled_u64 number)))) }
+{
+    put_named(tag, one, name, into)?;
+    put_u64(number, into)
+}
+
+fn put_ref(one: Ref, into: &mut Vec<u8>) -> Result<(), NoMemory>
+    ensures { OnOk result (into.new.items ≡ into.old.items ++ spelled_ref one) }
+{
+    match one {
+        Ref::Known(number) => {
+            into.push(0)?;
+            put_u64(number, into)
+        }
+        Ref::Fresh(place) => {
+            into.push(1)?;
+            put_u32(place, into)
+        }
+    }
+}
+
+fn put_val(value: &Val, into: &mut Vec<u8>) -> Result<(), NoMemory>
+    requires { IsShortVal value.now }
+    ensures { OnOk result (into.new.items ≡ into.old.items ++ spelled_val value.now) }
+{
+    match value {
+        Val::Plain(value) => {
+            into.push(0)?;
+            write_value(value, into)
+        }
+        Val::NewActivity(place) => {
+            into.push(1)?;
+            put_u32(*place, into)
+        }
+        Val::NewTimer(place) => {
+            into.push(2)?;
+            put_u32(*place, into)
+        }
+    }
+}
+
+fn put_option(text: &Option<Text>, into: &mut Vec<u8>) -> Result<(), NoMemory>
+    requires { IsShortOption text.now }
+    ensures { OnOk result (into.new.items ≡ into.old.items ++ spelled_option text.now) }
+{
+    match text {
+        None => Ok(into.push(0)?),
+        Some(text) => {
+            into.push(1)?;
+            write_text(text, into)
+        }
+    }
+}
+
+fn put_fields(fields: &[(Text, Val)], into: &mut Vec<u8>) -> Result<(), NoMemory>
+    requires { AreShortFields fields.now }
+    ensures { OnOk result (into.new.items ≡ into.old.items ++ spelled_fields fields.now) }
+{
+    put_u32(fields.len() as u32, into)?;
+    for (name, value) in fields {
+        write_text(name, into)?;
+        put_val(value, into)?;
+    }
+    Ok(())
+}
+
+fn put_u32(number: u32, into: &mut Vec<u8>) -> Result<(), NoMemory>
+    ensures { OnOk result (into.new.items ≡ into.old.items ++ spelled_u32 number) }
+{
+    Ok(into.extend_from_slice(&number.to_le_bytes())?)
+}
+
+fn put_u64(number: u64, into: &mut Vec<u8>) -> Result<(), NoMemory>
+    ensures { OnOk result (into.new.items ≡ into.old.items ++ spelled_u64 number) }
+{
+    Ok(into.extend_from_slice(&number.to_le_bytes())?)
+}
+
+fn put_moments(start: u64, period: u64, times: u64, into: &mut Vec<u8>) -> Result<(), NoMemory>
+    ensures { OnOk result (into.new.items ≡ into.old.items ++ (spelled_u64 start ++ (spelled_u64 period ++ spelled_u64 times))) }
+{
+    put_u64(start, into)?;
+    put_u64(period, into)?;
+    put_u64(times, into)
+}
+
+fn put_i8(number: i8, into: &mut Vec<u8>) -> Result<(), NoMemory>
+    ensures { OnOk result (into.new.items ≡ into.old.items ++ spelled_i8 number) }
+{
+    Ok(into.push(number.cast_unsigned())?)
+}
+
+fn put_flag(flag: bool, into: &mut Vec<u8>) -> Result<(), NoMemory>
+    ensures { OnOk result (into.new.items ≡ into.old.items ++ spelled_flag flag) }
+{
+    Ok(into.push(u8::from(flag))?)
+}
+
+fn put_keep(keep: Keep, into: &mut Vec<u8>) -> Result<(), NoMemory>
+    ensures { OnOk result (into.new.items ≡ into.old.items ++ spelled_keep keep) }
+{
+    let byte = match keep {
+        Keep::All => 0,
+        Keep::Last => 1,
+        Keep::NoneMissed => 2,
+    };
+    Ok(into.push(byte)?)
+}

@@ -1,0 +1,155 @@
+ghost use Rattle.std.specs.Prelude.{◌≡◌, ℕ, ◌+◌, ◌<◌, ◌≤◌, List, length, take, drop, OnOk, IfSome};
+ghost use Rattle.std.specs.Int.{w32, w64};
+ghost use Rattle.std.specs.Str.Lossy.{utf8_valid_len, utf8_error_len};
+ghost use Rattle.slee_value.specs.Reading.{Gives, Fails, number_at, flag_at, text_at, text_fault, fault_behind, unless_fault, good_len, char_len, value_at};
+
+use crate::{ActivityId, PartFault, Text, TimerId, Value, ValueBad};
+use std::alloc::Global;
+use std::str;
+
+/// The number of 32 bits at the front, and the bytes behind it.
+pub fn read_u32(bytes: &[u8]) -> Result<(u32, &[u8]), PartFault>
+    ensures { Gives (λ x. (x.0, x.1.now)) result (number_at w32 bytes.now) }
+{
+    if bytes.len() < 4 {
+        return Err(PartFault::Bad { left: 0, kind: ValueBad::Short });
+    }
+    let (front, rest) = bytes.split_at(4);
+    let number = u32::from_le_bytes([front[0], front[1], front[2], front[3]]);
+    Ok((number, rest))
+}
+
+/// The number of 64 bits at the front, and the bytes behind it.
+pub fn read_u64(bytes: &[u8]) -> Result<(u64, &[u8]), PartFault>
+    ensures { Gives (λ x. (x.0, x.1.now)) result (number_at w64 bytes.now) }
+{
+    if bytes.len() < 8 {
+        return Err(PartFault::Bad { left: 0, kind: ValueBad::Short });
+    }
+    let (front, rest) = bytes.split_at(8);
+    let number = u64::from_le_bytes([
+        front[0], front[1], front[2], front[3], front[4], front[5], front[6], front[7],
+    ]);
+    Ok((number, rest))
+}
+
+/// The flag at the front, and the bytes behind it.
+pub fn read_flag(bytes: &[u8]) -> Result<(bool, &[u8]), PartFault>
+    ensures { Gives (λ x. (x.0, x.1.now)) result (flag_at bytes.now) }
+{
+    match bytes {
+        [] => Err(PartFault::Bad { left: 0, kind: ValueBad::Short }),
+        [0, rest @ ..] => Ok((false, rest)),
+        [1, rest @ ..] => Ok((true, rest)),
+        [_, ..] => Err(PartFault::Bad { left: bytes.len(), kind: ValueBad::Flag }),
+    }
+}
+
+/// The text at the front, its length first, and the bytes behind it.
+#[tactic(auto, unfolding(crate::specs::Reading::text_at))]
+pub fn read_text(alloc: Global, bytes: &[u8]) -> Result<(Text, &[u8]), PartFault>
+    ensures { Gives (λ x. (x.0, x.1.now)) result (text_at bytes.now) }
+{
+    let (len, rest) = read_u32(bytes)?;
+    let len = len as usize;
+    let text = text_of(alloc, len, rest)?;
+    Ok((text, &rest[len..]))
+}
+
+fn text_of(alloc: Global, len: usize, bytes: &[u8]) -> Result<Text, PartFault>
+    ensures text { Gives (λ x. x) result (unless_fault (text_fault len bytes.now) (take len bytes.now)) }
+    ensures bound { OnOk result (len ≤ length bytes.now) }
+{
+    let front = front_of(bytes, len);
+    match str::from_utf8(front) {
+        Err(error) => {
+            let good = good_len_of(len, front, error.valid_up_to(), error.error_len());
+            Err(fault_at(good, bytes.len()))
+        }
+        Ok(text) => {
+            if bytes.len() < len {
+                Err(PartFault::Bad { left: 0, kind: ValueBad::Short })
+            } else {
+                Ok(Text::from_str(alloc, text)?)
+            }
+        }
+    }
+}
+
+fn front_of(bytes: &[u8], len: usize) -> &[u8]
+    ensures { result.now ≡ take len bytes.now }
+{
+    if bytes.len() < len { bytes } else { &bytes[..len] }
+}
+
+fn fault_at(good: usize, len: usize) -> PartFault
+    requires { good ≤ len }
+    ensures { Fails {Y = List ℕ} result (Err (fault_behind good len)) }
+{
+    if good == len {
+        PartFault::Bad { left: 0, kind: ValueBad::Short }
+    } else {
+        PartFault::Bad { left: len - good, kind: ValueBad::Utf8 }
+    }
+}
+
+fn good_len_of(len: usize, front: &[u8], whole: usize, invalid: Option<usize>) -> usize
+    requires whole { whole ≡ utf8_valid_len front.now }
+    requires within { whole < length front.now }
+    requires invalid { invalid ≡ utf8_error_len (drop whole front.now) }
+    requires bound { IfSome invalid (λ bad. whole + bad ≤ length front.now) }
+    ensures value { result ≡ good_len len front.now }
+    ensures bound { result ≤ length front.now }
+{
+    let needs = char_len_of(front[whole]);
+    if needs == 0 || len < whole + needs {
+        return whole;
+    }
+    match invalid {
+        None => front.len(),
+        Some(bad) => whole + bad,
+    }
+}
+
+fn char_len_of(first: u8) -> usize
+    ensures value { result ≡ char_len first }
+    ensures few { result ≤ 4 }
+{
+    match first {
+        0..=0x7F => 1,
+        0xC2..=0xDF => 2,
+        0xE0..=0xEF => 3,
+        0xF0..=0xF4 => 4,
+        _ => 0,
+    }
+}
+
+/// The value at the front, and the bytes behind it.
+pub fn read_part(alloc: Global, bytes: &[u8]) -> Result<(Value, &[u8]), PartFault>
+    ensures { Gives (λ x. (x.0, x.1.now)) result (value_at bytes.now) }
+{
+    match bytes {
+        [] => Err(PartFault::Bad { left: 0, kind: ValueBad::Short }),
+        [0, rest @ ..] => {
+            let (number, rest) = read_u64(rest)?;
+            Ok((Value::Int(number.cast_signed()), rest))
+        }
+        [1, rest @ ..] => {
+            let (text, rest) = read_text(alloc, rest)?;
+            Ok((Value::Text(text), rest))
+        }
+        [2, rest @ ..] => {
+            let (flag, rest) = read_flag(rest)?;
+            Ok((Value::Bool(flag), rest))
+        }
+        [3, rest @ ..] => {
+            let (number, rest) = read_u64(rest)?;
+            Ok((Value::Activity(ActivityId(number)), rest))
+        }
+        [4, rest @ ..] => {
+            let (number, rest) = read_u64(rest)?;
+            Ok((Value::Timer(TimerId(number)), rest))
+        }
+        [_, ..] => Err(PartFault::Bad { left: bytes.len(), kind: ValueBad::Tag }),
+    }
+}
