@@ -1,0 +1,38 @@
+-- Closing a step: roots whose attachment count is 0 go with their trees, in rising number. The built-in deployment has no service that stops and no null activity, so nothing else is closed.
+use Rattle.std.specs.Prelude.{ℕ, ◌==◌, if◌then◌else◌, List, [], ◌∷◌, ◌++◌, map, length}
+use Rattle.router_model.specs.State.{Parts}
+use Rattle.router_model.specs.Changes.{removed}
+use Rattle.router_model.specs.Trees.{attachment_count, tree, roots}
+use Rattle.router_rules.specs.Lines.{removed_line}
+
+-- the attachment count of an entity, all its descendants counted
+abbrev pub count_of : Parts → ℕ → ℕ
+count_of s e = attachment_count (length s.entities) s.entities s.links e
+
+-- an entity and its descendants, in the order in which they go
+abbrev pub tree_of : Parts → ℕ → List ℕ
+tree_of s e = tree (length s.entities) s.entities e
+
+abbrev pub removed_all : List ℕ → Parts → Parts
+removed_all [] s = s
+removed_all (e ∷ es) s = removed_all es (removed s e)
+
+abbrev pub close_root : ℕ → Parts → Parts
+close_root e s = if count_of s e == 0 then removed_all (tree_of s e) s else s
+
+abbrev pub lines_of_root : ℕ → Parts → List (List ℕ)
+lines_of_root e s = if count_of s e == 0 then map removed_line (tree_of s e) else []
+
+abbrev pub close_roots : List ℕ → Parts → Parts
+close_roots [] s = s
+close_roots (e ∷ es) s = close_roots es (close_root e s)
+
+abbrev pub lines_of_roots : List ℕ → Parts → List (List ℕ)
+lines_of_roots [] s = []
+lines_of_roots (e ∷ es) s = lines_of_root e s ++ lines_of_roots es (close_root e s)
+
+abbrev pub closing : Parts → Parts
+closing s = close_roots (roots s.entities) s
+
+abbrev pub lines_of_closing : Parts → List (List ℕ)
+lines_of_closing s = lines_of_roots (roots s.entities) s

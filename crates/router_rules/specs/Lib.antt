@@ -1,0 +1,9 @@
+pub mod BuiltIn
+pub mod Lines
+pub mod Taking
+pub mod Selection
+pub mod Delivery
+pub mod Closing
+pub mod Step
+pub mod History
+pub mod Show

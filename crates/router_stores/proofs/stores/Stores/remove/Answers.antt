@@ -1,0 +1,9 @@
+-- the change keeps the order
+use Rattle.router_model.specs.declared.change.Change.TheVariants as changes
+use Rattle.router_model.proofs.OrderedLemmas.{ordered_after}
+use Rattle.router_stores.specs.Held.{held_parts}
+use Rattle.router_stores.proofs.stores.Stores.remove.Goals as goal
+
+pub invariant_of-self : goal.invariant_of-self
+invariant_of-self c =
+    rw (c.cut_entity.ensures.items, c.cut_root_name.ensures.items, c.cut_links_of.ensures.items) (ordered_after (changes.Remove c.args.entity) (held_parts c.self.inside) (tt) c.self.invariant)

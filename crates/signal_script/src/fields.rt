@@ -1,0 +1,55 @@
+ghost use Rattle.std.specs.Prelude.{◌≡◌, ◌++◌, ◌∷◌, [], IfOk, OnOk, OnErr};
+
+use slee_value::{Name, NoMemory, Text};
+use std::alloc::Global;
+use std::marker::Model;
+
+/// The field words of a line, in its order.
+#[derive(Debug, Drop)]
+pub struct Fields {
+    fields: Vec<(Name, Text)>,
+}
+
+impl Model for Fields {
+    ghost use Rattle.std.specs.Prelude.{List, ℕ};
+
+    ghost Value = { List (List ℕ × List ℕ) };
+
+    ghost view = { λ s. s.fields.items };
+}
+
+impl Fields {
+    /// No fields.
+    pub fn new(alloc: Global) -> Self
+        ensures { result ≡ [] }
+    {
+        Fields {
+            fields: Vec::new(alloc),
+        }
+    }
+
+    pub fn as_slice(&self) -> &[(Name, Text)]
+        ensures { result.now ≡ self.now }
+    {
+        &self.fields
+    }
+
+    /// Adds a field at the end.
+    pub fn push(&mut self, name: Name, value: Text) -> Result<(), NoMemory>
+        ensures ok { OnOk result (self.new ≡ self.old ++ (name, value) ∷ []) }
+        ensures err { OnErr result (self.new ≡ self.old) }
+    {
+        self.fields.push((name, value))?;
+        Ok(())
+    }
+
+    pub fn copy(&self, alloc: Global) -> Result<Self, NoMemory>
+        ensures { IfOk result (λ fields. fields ≡ self.now) }
+    {
+        let mut made = Fields::new(alloc);
+        for (name, value) in &self.fields {
+            made.push(name.copy(alloc)?, value.copy(alloc)?)?;
+        }
+        Ok(made)
+    }
+}
