@@ -1,8 +1,11 @@
 -- Closing a step: roots whose attachment count is 0 go with their trees, in rising number. The built-in deployment has no service that stops and no null activity, so nothing else is closed.
-use Rattle.std.specs.Prelude.{ℕ, ◌==◌, if◌then◌else◌, List, [], ◌∷◌, ◌++◌, map, length}
+use Rattle.std.specs.Prelude.{ℕ, ◌<◌, ◌==◌, if◌then◌else◌, List, [], ◌∷◌, ◌++◌, map, filter, length}
+use Rattle.std.specs.List.{AllByRecursion}
 use Rattle.router_model.specs.State.{Parts}
 use Rattle.router_model.specs.Changes.{removed}
-use Rattle.router_model.specs.Trees.{attachment_count, tree, roots}
+use Rattle.router_model.specs.Trees.{attachment_count, tree, roots, links_of, number_of}
+use Rattle.router_model.specs.declared.rows.Entity.{Entity}
+use Rattle.router_model.specs.declared.rows.Link.{Link}
 use Rattle.router_rules.specs.Lines.{removed_line}
 
 -- the attachment count of an entity, all its descendants counted
@@ -36,3 +39,11 @@ closing s = close_roots (roots s.entities) s
 
 abbrev pub lines_of_closing : Parts → List (List ℕ)
 lines_of_closing s = lines_of_roots (roots s.entities) s
+
+-- each root has an attachment in its tree, so that closing leaves it
+abbrev pub AreRootsHeld : Parts → Type 0
+AreRootsHeld s = AllByRecursion (λ e. 0 < count_of s e) (roots s.entities)
+
+-- the numbers of the entities that have no attachment of their own
+abbrev pub loose : List Link → List Entity → List ℕ
+loose links rows = map number_of (filter (λ row. links_of links row.number.0 == 0) rows)

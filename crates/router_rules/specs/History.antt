@@ -27,6 +27,11 @@ abbrev pub AreEnabled : Parts → List Choice → Type 0
 AreEnabled s [] = Unit {0}
 AreEnabled s (c ∷ cs) = IsTrue (is_enabled s c) × AreEnabled (after s c) cs
 
+-- each signal is one that a line can give
+abbrev pub AreChoices : List Choice → Type 0
+AreChoices [] = Unit {0}
+AreChoices (c ∷ cs) = IsTrue (is_choice c) × AreChoices cs
+
 -- each signal is one that a line can give, each choice is enabled where it stands, and each entry has the lines of its step
 abbrev pub Legal : Parts → List Entry → Type 0
 Legal s [] = Unit {0}

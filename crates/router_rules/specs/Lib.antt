@@ -7,3 +7,5 @@ pub mod Closing
 pub mod Step
 pub mod History
 pub mod Show
+pub mod Well
+pub mod Payload

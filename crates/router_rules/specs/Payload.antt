@@ -1,21 +1,67 @@
--- What the journal keeps of a step.
-use Rattle.std.specs.Prelude.{ℕ, List, [], ◌∷◌, ◌++◌, length, map}
+-- What the journal keeps of a step, and the choice that is read back from it.
+use Rattle.std.specs.Prelude.{ℕ, ◌<◌, ◌^◌, ◌==◌, ◌&&◌, nat_le, if◌then◌else◌, List, [], ◌∷◌, ◌++◌, length, take, drop, map, Some, None, Option, option_map, ⊤}
 use Rattle.std.specs.Option.{option_map_or}
-use Rattle.std.specs.Int.{w32, w64, to_le_bytes}
-use Rattle.slee_value.specs.declared.value.Value.TheVariants as values
+use Rattle.std.specs.Int.{w32, w64, from_le_bytes}
+use Rattle.slee_value.specs.Bytes.{spelled_u64, spelled_text}
+use Rattle.slee_effect.specs.Bytes.{spelling_of_effects}
 use Rattle.slee_effect.specs.declared.effect.Effect.{Effect}
 use Rattle.slee_effect.specs.declared.effect.Effect.TheVariants as effects
 use Rattle.slee_effect.specs.declared.reference.Ref.TheVariants as references
 use Rattle.trace_history.specs.declared.choice.Choice.{Choice}
 use Rattle.trace_history.specs.declared.choice.Choice.TheVariants as choices
-use Rattle.signal_script.specs.Signals.{spelled}
+use Rattle.signal_script.specs.Signals.{spelled, signal_of}
+use Rattle.slee_value.specs.declared.ids.ActivityId.{ActivityId}
 use Rattle.router_model.specs.State.{Parts}
 use Rattle.router_model.specs.Activities.{front}
 use Rattle.router_model.specs.declared.rows.Entity.{Entity}
 use Rattle.router_model.specs.declared.rows.Event.{Event}
 use Rattle.router_rules.specs.BuiltIn.{emitted}
 use Rattle.router_rules.specs.Selection.{first}
+use Rattle.router_rules.specs.Step.{after}
 
 -- what the handler of an event emits, as effects of the entity that receives it
 abbrev pub effects_of : Event → Entity → List Effect
 effects_of v row = map (λ text. effects.Emit (references.Known row.number.0) text) (emitted row.block v.name v.fields)
+
+-- the effects of the delivery that is next on an activity
+abbrev pub effects_due : Parts → ℕ → List Effect
+effects_due s a = option_map_or (λ v. option_map_or (λ row. effects_of v row) (first s a v) []) (front s.events a) []
+
+-- The payload of a step: 1 and the line; 2 and the activity of an initial selection; 3, the activity of a delivery,
+-- its outcome, which is 0 for fine, and its effects; 4 and the activity whose front event is finished.
+abbrev pub payload : Parts → Choice → List ℕ
+payload s (choices.Input signal) = 1 ∷ spelled_text (spelled signal)
+payload s (choices.Initial a) = 2 ∷ spelled_u64 a.0
+payload s (choices.Deliver a) = 3 ∷ (spelled_u64 a.0 ++ (0 ∷ spelling_of_effects (effects_due s a.0)))
+payload s (choices.Finish a) = 4 ∷ spelled_u64 a.0
+
+-- the payloads of steps, one after another
+abbrev pub payloads : Parts → List Choice → List (List ℕ)
+payloads s [] = []
+payloads s (c ∷ cs) = payload s c ∷ payloads (after s c) cs
+
+-- the line of a text, if it is one, and nothing stands behind it
+abbrev pub input_in : List ℕ → Option Choice
+input_in bytes =
+    if nat_le 4 (length bytes) && (from_le_bytes w32 (take 4 bytes) == length (drop 4 bytes))
+    then option_map choices.Input (signal_of (drop 4 bytes)) else None
+
+abbrev pub activity_in : List ℕ → ActivityId
+activity_in bytes = record { 0 = from_le_bytes w64 (take 8 bytes) }
+
+-- The choice of a payload, if it begins as one does. What stands behind the activity of a delivery isn't read here.
+abbrev pub choice_in : List ℕ → Option Choice
+choice_in [] = None
+choice_in (kind ∷ rest) =
+    if kind == 1 then input_in rest
+    else (if kind == 2 then (if length rest == 8 then Some (choices.Initial (activity_in rest)) else None)
+    else (if kind == 3 then (if nat_le 8 (length rest) then Some (choices.Deliver (activity_in rest)) else None)
+    else (if kind == 4 then (if length rest == 8 then Some (choices.Finish (activity_in rest)) else None)
+    else None)))
+
+-- the number of a choice's activity is one of 64 bits
+abbrev pub HasNumber : Choice → Type 0
+HasNumber (choices.Input signal) = ⊤
+HasNumber (choices.Initial a) = a.0 < 2 ^ 64
+HasNumber (choices.Deliver a) = a.0 < 2 ^ 64
+HasNumber (choices.Finish a) = a.0 < 2 ^ 64

@@ -1,6 +1,6 @@
 -- The lines of a text, and the words of a line.
 use Rattle.std.specs.Prelude.{ℕ, Bool, not, ◌&&◌, ◌||◌, ◌==◌, nat_lt, nat_le, if◌then◌else◌, List, [], ◌∷◌, length}
-use Rattle.std.specs.List.{onto_first, list_all}
+use Rattle.std.specs.List.{onto_first, slice_split, list_all}
 use Rattle.std.specs.Str.{is_utf8}
 
 -- each ends with a newline, the last perhaps without
@@ -10,8 +10,7 @@ lines_of (b ∷ bs) = if b == 10 then [] ∷ lines_of bs else onto_first b (line
 
 -- the words, parted by one space each
 abbrev pub words_of : List ℕ → List (List ℕ)
-words_of [] = [] ∷ []
-words_of (b ∷ bs) = if b == 32 then [] ∷ words_of bs else onto_first b (words_of bs)
+words_of line = slice_split (λ b. b == 32) line
 
 -- a byte below 0x20, or 0x7F
 abbrev pub is_control : ℕ → Bool

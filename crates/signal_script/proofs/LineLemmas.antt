@@ -1,0 +1,60 @@
+-- The first line of a text, the words of a line, and signals so far.
+use Rattle.std.proofs.Common.{◌≡◌, ℕ, ◌+◌, ◌-◌, ◌<◌, zero, suc, List, [], ◌∷◌, ◌++◌, length, get_or, take, drop, refl, sym, ◌∙◌, ap, arith, eq-eqb, ne_eqb, add-one, Some, None, Option, option_map, option_and_then, append_assoc}
+use Rattle.std.proofs.Common.{true, false}
+use Rattle.std.proofs.lemmas.List.{take_rest}
+use Rattle.std.proofs.lemmas.Bool.{false_from_ne_true}
+use Rattle.std.proofs.lemmas.Str.{IsUtf8-from_is_utf8, is_utf8-from_IsUtf8}
+use Rattle.std.specs.List.{onto_first}
+use Rattle.std.specs.Str.{IsUtf8, is_utf8}
+use Rattle.signal_script.specs.Lines.{lines_of}
+use Rattle.signal_script.specs.Signals.{signal_of, signals_of_lines}
+use Rattle.signal_script.specs.declared.signal.Signal.{Signal}
+
+-- the first line ends at the first newline
+pub first_line_at : (bs : List ℕ) (i : ℕ) → i < length bs → ((k : ℕ) → k < i → get_or bs k 0 ≡ 10 → ⊥) → get_or bs i 0 ≡ 10
+    → lines_of bs ≡ take i bs ∷ lines_of (drop (suc i) bs)
+first_line_at [] i within before here = absurd (omega arith)
+first_line_at (b ∷ bs) zero within before here = rw (eq-eqb b 10 here)
+first_line_at (b ∷ bs) (suc i) within before here =
+    rw (ne_eqb b 10 (before 0 (omega arith)))
+    (ap (onto_first b) (first_line_at bs i (omega arith) (λ k lt. before (suc k) (omega arith)) here))
+
+-- the same, as the code cuts it
+pub first_line_cut : (bs : List ℕ) (i : ℕ) → i < length bs → ((k : ℕ) → k < i → get_or bs k 0 ≡ 10 → ⊥) → get_or bs i 0 ≡ 10
+    → lines_of bs ≡ take i bs ∷ lines_of (take (length bs - (i + 1)) (drop (i + 1) bs))
+first_line_cut bs i within before here = rw (take_rest bs (i + 1), add-one) (first_line_at bs i within before here)
+
+-- where there is no newline, the bytes are one line
+pub only_line : (b : ℕ) (bs : List ℕ) → ((k : ℕ) → k < length (b ∷ bs) → get_or (b ∷ bs) k 0 ≡ 10 → ⊥) → lines_of (b ∷ bs) ≡ (b ∷ bs) ∷ []
+only_line b [] before = rw (ne_eqb b 10 (before 0 (omega arith)))
+only_line b (c ∷ bs) before =
+    rw (ne_eqb b 10 (before 0 (omega arith)))
+    (ap (onto_first b) (only_line c bs (λ k lt. before (suc k) (omega arith))))
+
+pub only_line_of : (bs : List ℕ) → 0 < length bs → ((k : ℕ) → k < length bs → get_or bs k 0 ≡ 10 → ⊥) → lines_of bs ≡ bs ∷ []
+only_line_of [] some before = absurd (omega arith)
+only_line_of (b ∷ bs) some before = only_line b bs before
+
+-- these signals, and then those of the lines
+abbrev pub with_front : List Signal → Option (List Signal) → Option (List Signal)
+with_front front more = option_map (λ list. front ++ list) more
+
+-- a line more was read
+pub with_front-next : (front : List Signal) (line : List ℕ) (lines : List (List ℕ)) (signal : Signal) → signal_of line ≡ Some signal
+    → with_front front (signals_of_lines (line ∷ lines)) ≡ with_front (front ++ signal ∷ []) (signals_of_lines lines)
+with_front-next front line lines signal is = rw is (joined (signals_of_lines lines))
+  where
+    joined : (more : Option (List Signal)) → with_front front (option_map (λ list. signal ∷ list) more) ≡ with_front (front ++ signal ∷ []) more
+    joined None = refl
+    joined (Some list) = ap Some (sym (append_assoc front (signal ∷ []) list))
+
+-- a line that says nothing
+pub with_front-none : (front : List Signal) (line : List ℕ) (lines : List (List ℕ)) → signal_of line ≡ None
+    → with_front front (signals_of_lines (line ∷ lines)) ≡ None
+with_front-none front line lines is = rw is
+
+pub utf8_test : (bs : List ℕ) → IsUtf8 bs → is_utf8 bs ≡ true
+utf8_test bs is = is_utf8-from_IsUtf8 bs is
+
+pub utf8_refused : (bs : List ℕ) → (IsUtf8 bs → ⊥) → is_utf8 bs ≡ false
+utf8_refused bs is_not = false_from_ne_true (is_utf8 bs) (λ test. is_not (IsUtf8-from_is_utf8 bs test))

@@ -1,0 +1,19 @@
+//! A signal has one spelling.
+ghost use Rattle.std.specs.Prelude.{◌≡◌, ℕ, List, true, Some};
+ghost use Rattle.signal_script.specs.declared.signal.Signal.{Signal};
+ghost use Rattle.signal_script.specs.Signals.{signal_of, spelled, is_signal};
+
+/// A printed signal is read as itself.
+#[tactic(auto, using(crate::proofs::LawLemmas::printed_read))]
+pub fn printed_is_read()
+    ensures { (signal : Signal) → is_signal signal ≡ true → signal_of (spelled signal) ≡ Some signal }
+{
+}
+
+/// A line that is read is the spelling of its signal, and the signal is one that a line can give.
+#[tactic(auto, using(crate::proofs::LawLemmas::read_spelled, crate::proofs::LawLemmas::read_valid))]
+pub fn read_is_spelled()
+    ensures spelled { (line : List ℕ) (signal : Signal) → signal_of line ≡ Some signal → spelled signal ≡ line }
+    ensures valid { (line : List ℕ) (signal : Signal) → signal_of line ≡ Some signal → is_signal signal ≡ true }
+{
+}
