@@ -10,6 +10,7 @@ use Rattle.slee_disk.proofs.Moments.{Reached, reached_start, reached_call, reach
 use Rattle.commit_journal.specs.Spelling.{Head}
 use Rattle.commit_journal.specs.Reading.{header_at, header_or_not, Front, Blank, front}
 use Rattle.commit_journal.specs.Gate.{EndsShut, IsShutOrOpen}
+use Rattle.commit_journal.specs.Rewriting.{IsRewritten}
 use Rattle.commit_journal.specs.Blank.{IsBlankOn, IsOneShut, BlankBeside, IsBlankOrOpen, IsBlankOrSame}
 
 -- ---- blank sides
@@ -166,3 +167,11 @@ module _ (side : Side) (old : DiskState) where
         let same : from.0 ≡ old.seen = only from.0 (looks.images from.0 from.1) in
         let torn : Torn 0 1 (on side old.seen) (on side image) = subst (λ (s : Sides). Torn 0 1 (on side s) (on side image)) same from.2.here in
         record { here = torn_first (on side old.seen) (on side image) (sym (first_same (on side old.seen) n first look) ∙ open_gate) torn; elsewhere = from.2.there ∙ ap (on (other side)) same })
+
+-- ---- a side is written anew
+
+pub closed_rewritten : (side : Side) (bytes : List ℕ) (old image : Sides) → IsBlankOrSame side old image → IsRewritten side bytes old image
+closed_rewritten side bytes old image is = record { here = ⊎_elim (λ blank. inr (inl blank)) (λ same. inl same) is.here; elsewhere = is.elsewhere }
+
+pub written_rewritten : (side : Side) (bytes : List ℕ) (old mid image : Sides) → on (other side) mid ≡ on (other side) old → IsBlankOrOpen side bytes (on (other side) mid) image → IsRewritten side bytes old image
+written_rewritten side bytes old mid image beside is = record { here = ⊎_elim (λ blank. inr (inl blank)) (λ opened. inr (inr opened)) is.here; elsewhere = is.elsewhere ∙ beside }

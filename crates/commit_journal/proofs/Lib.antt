@@ -11,3 +11,6 @@ pub mod Batches
 pub mod Writes
 pub mod Sound
 pub mod Opens
+pub mod Newer
+pub mod Rewrites
+pub mod Begins

@@ -62,15 +62,16 @@ module _ (f : Found) (deployment : List ℕ) (old new : DiskState) (failed : Typ
   told_old : IsTrue new.told → IsTrue old.told
   told_old told = subst IsTrue looks.passes.told told
 
-  pub opened_sound : (batch : List (List ℕ)) (limit : ℕ) → batch ≡ [] → limit ≤ 268435456 → f.end < 2 ^ 63 + 23 → IsFresh f.stage → (f.stage ≡ stages.Found → FitsText f.deployment) → (f.stage ≡ stages.Blank → (f.snapshot ≡ []) × (f.records.items ≡ []))
+  pub opened_sound : (batch : List (List ℕ)) (limit : ℕ) → batch ≡ [] → limit ≤ 268435456 → f.end < 2 ^ 63 + 23 → IsFresh f.stage → (f.stage ≡ stages.Found → FitsText f.deployment) → length f.deployment + 64 < 2 ^ 63 → (f.stage ≡ stages.Blank → (f.snapshot ≡ []) × (f.records.items ≡ []))
       → IsSound f.stage kept f.end batch limit new
-  opened_sound batch limit none limited small fresh short first = record {
+  opened_sound batch limit none limited small fresh short sized first = record {
     ready = λ stage told. absurd (fresh_not_ready f.stage fresh stage);
     found = λ stage told. subst (λ (s : Sides). StandsFound kept f.end s) (sym looks.seen) (subst (λ (k : Kept). StandsFound k f.end old.seen) (kept_is (told_old told)) (stands (told_old told) stage));
     blank = λ stage told. subst AreBlank (sym looks.seen) (blank (told_old told) stage);
     idle = λ _. none;
     first = λ stage. (first stage).0;
     short = λ not_blank. short (fresh_found f.stage fresh not_blank);
+    sized = sized;
     room = omega (arith, ap records_size none, small);
     limited = limited;
   }

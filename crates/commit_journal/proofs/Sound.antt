@@ -123,6 +123,7 @@ module _ (stage : Stage) (kept : Kept) (end : ℕ) (batch : List (List ℕ)) (li
     idle = λ _. none;
     first = λ is_blank. absurd (cc (sym is_ready ∙ is_blank));
     short = sound.short;
+    sized = sound.sized;
     room = omega (arith, ap records_size none, sound.room, size);
     limited = sound.limited;
   }
@@ -146,6 +147,7 @@ sound_more stage kept end batch limit disk sound is_ready payload new is room =
       idle = elim_ready;
       first = sound.first;
       short = sound.short;
+      sized = sound.sized;
       room = omega (arith, size, room, sound.limited);
       limited = sound.limited;
     }

@@ -56,6 +56,7 @@ pub record IsSound (stage : Stage) (kept : Kept) (end : ℕ) (batch : List (List
   pub idle : (stage ≡ Found) ⊎ (stage ≡ stages.Blank) → batch ≡ []
   pub first : stage ≡ stages.Blank → kept.head.snapshot ≡ []
   pub short : stage ≢ stages.Blank → FitsText kept.head.deployment
+  pub sized : length kept.head.deployment + 64 < 2 ^ 63
   -- places and sizes are numbers of 64 bits
   pub room : end + records_size batch < 2 ^ 64 - 2 ^ 20
   pub limited : limit ≤ 268435456

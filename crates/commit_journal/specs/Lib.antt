@@ -6,3 +6,4 @@ pub mod Gate
 pub mod Blank
 pub mod Batch
 pub mod Journal
+pub mod Rewriting

@@ -5,12 +5,13 @@ ghost use Rattle.slee_disk.specs.Sides.{on, other};
 ghost use Rattle.slee_disk.specs.Disk.{LeavesOnly, is_clean};
 ghost use Rattle.commit_journal.specs.Gate.{EndsShut, IsOpened};
 ghost use Rattle.commit_journal.specs.Blank.{IsBlankOn, BlankBeside, IsOneShut, IsBlankOrOpen, IsBlankOrSame};
+ghost use Rattle.commit_journal.specs.Rewriting.{IsRewritten};
 
 use crate::gate::open_gate;
 use slee_disk::{Disk, Failed, Side};
 
 /// Closes the first gate of a side where it stands open, so that the side is blank.
-pub(crate) fn close_side<D: Disk>(disk: &mut D, side: Side) -> Result<(), Failed>
+fn close_side<D: Disk>(disk: &mut D, side: Side) -> Result<(), Failed>
     ensures blank { IsTrue (D.disk disk.old).told → OnOk result (BlankBeside side (on (other side) (D.disk disk.old).seen) (D.disk disk.new).seen) }
     ensures any_moment { IsTrue (is_clean (D.disk disk.old)) → LeavesOnly (D.disk disk.old) (D.disk disk.new) (IsBlankOrSame side (D.disk disk.old).seen) }
     ensures rest { IsTrue (is_clean (D.disk disk.old)) → OnOk result (IsTrue (is_clean (D.disk disk.new))) }
@@ -75,4 +76,17 @@ pub(crate) fn write_side<D: Disk>(disk: &mut D, side: Side, bytes: &[u8]) -> Res
 {
     shut_blank(disk, side)?;
     open_gate(disk, side, 0, bytes)
+}
+
+/// Writes a side anew, whatever stands on it.
+pub(crate) fn rewrite_side<D: Disk>(disk: &mut D, side: Side, bytes: &[u8]) -> Result<(), Failed>
+    ensures opened { IsTrue (D.disk disk.old).told → OnOk result (IsOpened side [] bytes.now (on (other side) (D.disk disk.old).seen) (D.disk disk.new).seen) }
+    ensures any_moment { IsTrue (is_clean (D.disk disk.old)) → LeavesOnly (D.disk disk.old) (D.disk disk.new) (IsRewritten side bytes.now (D.disk disk.old).seen) }
+    ensures rest { IsTrue (is_clean (D.disk disk.old)) → OnOk result (IsTrue (is_clean (D.disk disk.new))) }
+    ensures told { (D.disk disk.new).told ≡ (D.disk disk.old).told }
+    ensures rising { (D.disk disk.old).faults ≤ (D.disk disk.new).faults }
+    ensures cause { IsErr result → Rose (D.disk disk.old).faults (D.disk disk.new).faults }
+{
+    close_side(disk, side)?;
+    write_side(disk, side, bytes)
 }

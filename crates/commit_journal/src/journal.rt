@@ -1,9 +1,11 @@
-ghost use Rattle.std.specs.Prelude.{◌≡◌, ◌≢◌, ◌<◌, ◌≤◌, ◌+◌, ◌^◌, [], ◌∷◌, ◌++◌, length, IsTrue, OnOk, OnErr, IfOk, IfErr, IsErr, IsOk};
+ghost use Rattle.std.specs.Prelude.{◌≡◌, ◌≢◌, ◌<◌, ◌≤◌, ◌+◌, ◌^◌, [], ◌∷◌, ◌++◌, length, IsTrue, OnOk, OnErr, IfOk, IfErr, IsErr, IsErrOf, IsOk};
 
 use crate::batch::Batch;
+use crate::blank::write_side;
+use crate::heading::header_bytes;
 use crate::start::find;
-use crate::writing::write_batch;
-use crate::{AppendFault, JournalFault, Record, Stage};
+use crate::writing::{cut_behind, write_batch};
+use crate::{AppendFault, BeginFault, JournalFault, Record, Stage};
 use slee_disk::{Disk, Failed, Side};
 use slee_value::Blob;
 use std::alloc::Global;
@@ -51,9 +53,9 @@ impl<D: Disk> Journal<D> {
     ghost use Rattle.commit_journal.specs.declared.stage.Stage.TheVariants.{Ready, Stopped};
     ghost use Rattle.commit_journal.specs.Spelling.{records_size, size};
     ghost use Rattle.commit_journal.specs.Reading.{first_gate, recovered};
-    ghost use Rattle.commit_journal.specs.Kept.{with_more, Stands, StandsOrMore};
+    ghost use Rattle.commit_journal.specs.Kept.{with_more, Keeps, Stands, StandsOrMore, StandsOrBegun};
     ghost use Rattle.commit_journal.specs.Views.{IsCause, located};
-    ghost use Rattle.commit_journal.specs.Journal.{payloads_on, IsOpenedAs, IsSameSide, Refuses};
+    ghost use Rattle.commit_journal.specs.Journal.{payloads_on, IsOpenedAs, IsSameSide, Refuses, size_begun, IsTooLarge, IsLeft};
 
     /// Reads the two sides of a disk, and writes nothing.
     pub fn open(
@@ -129,6 +131,63 @@ impl<D: Disk> Journal<D> {
         ensures { result ≡ records_size self.now.batch }
     {
         self.batch.size()
+    }
+
+    /// Makes it ready for payloads: writes the header of a blank journal, or cuts what stands behind the last gate.
+    pub fn begin(&mut self) -> Result<(), BeginFault>
+        requires { self.old.stage ≢ Stopped }
+        ensures ok { IsTrue (D.disk self.old.disk).told → OnOk result (self.new ≡ record self.old { disk = self.new.disk; stage = Ready }) }
+        ensures ready { OnOk result (self.new.stage ≡ Ready) }
+        ensures still { IsSameSide self.old self.new }
+        ensures batch { self.new.batch ≡ self.old.batch }
+        ensures seen { IsTrue (D.disk self.old.disk).told → OnOk result (Keeps self.new.kept (D.disk self.new.disk).seen) }
+        ensures acknowledged { IsTrue (is_clean (D.disk self.old.disk)) → OnOk result
+            ((image : Sides) → (D.disk self.new.disk).images image → Keeps self.new.kept image) }
+        ensures rest { IsTrue (is_clean (D.disk self.old.disk)) → OnOk result (IsTrue (is_clean (D.disk self.new.disk))) }
+
+        // A crash at any moment of the call leaves what stood, or the side that is begun.
+        ensures any_moment { IsTrue (is_clean (D.disk self.old.disk)) → LeavesOnly (D.disk self.old.disk) (D.disk self.new.disk)
+            (StandsOrBegun self.old.stage self.old.kept) }
+
+        ensures refused { IfErr result (λ fault. IsTooLarge (size_begun self.old.stage self.old.kept.head) self.old.limit fault) }
+        ensures fits { OnOk result (size_begun self.old.stage self.old.kept.head ≤ self.old.limit) }
+        ensures left { IfErr result (λ fault. IsLeft self.old self.new fault) }
+        ensures cause { IsErrOf result BeginFault.DiskFault → Rose (D.disk self.old.disk).faults (D.disk self.new.disk).faults }
+        ensures told { (D.disk self.new.disk).told ≡ (D.disk self.old.disk).told }
+        ensures rising { (D.disk self.old.disk).faults ≤ (D.disk self.new.disk).faults }
+    {
+        let Stage::Blank = self.stage else {
+            return match cut_behind(&mut self.disk, self.side, self.end) {
+                Ok(()) => {
+                    self.stage = Stage::Ready;
+                    Ok(())
+                }
+                Err(Failed) => {
+                    self.stage = Stage::Stopped;
+                    Err(BeginFault::DiskFault)
+                }
+            };
+        };
+        let deployment = self.deployment.as_slice();
+        let size = 24 + deployment.len() as u64;
+        if size > self.limit {
+            return Err(BeginFault::Full {
+                length: 0,
+                adding: size,
+            });
+        }
+        let bytes = header_bytes(self.alloc, self.generation, deployment, &[])?;
+        match write_side(&mut self.disk, self.side, &bytes) {
+            Ok(()) => {
+                self.end = bytes.len() as u64;
+                self.stage = Stage::Ready;
+                Ok(())
+            }
+            Err(Failed) => {
+                self.stage = Stage::Stopped;
+                Err(BeginFault::DiskFault)
+            }
+        }
     }
 
     /// Adds a payload to the batch.

@@ -5,6 +5,7 @@ mod batch;
 mod blank;
 mod fault;
 mod gate;
+mod heading;
 mod journal;
 mod reading;
 mod record;

@@ -13,6 +13,9 @@ use slee_disk::Side;
 use slee_value::Blob;
 use std::alloc::Global;
 
+// No memory holds the side that would begin with a longer deployment.
+const LONGEST_DEPLOYMENT: usize = isize::MAX as usize - 64;
+
 /// What a side keeps, to a container with this deployment.
 fn keep(
     alloc: Global,
@@ -75,6 +78,7 @@ pub(crate) fn recover(
     ensures named { IfOk result (λ f. f.deployment ≡ deployment.now) }
     ensures fresh { IfOk result (λ f. IsFresh f.stage) }
     ensures short { IfOk result (λ f. f.stage ≡ Stage.Found → FitsText f.deployment) }
+    ensures sized { IfOk result (λ f. length f.deployment + 64 < 2 ^ 63) }
     ensures blank { IfOk result (λ f. f.stage ≡ Stage.Blank → AreBlank (record { a = a.now; b = b.now })) }
     ensures first { IfOk result (λ f. f.stage ≡ Stage.Blank → (f.snapshot ≡ []) × (f.records.items ≡ [])) }
     ensures cause { IfErr result (λ e. IsCause e (recovered deployment.now (record { a = a.now; b = b.now }))) }
@@ -85,6 +89,9 @@ pub(crate) fn recover(
         Err((side, kind)) => Err(JournalFault::BadJournal { side, at: 0, kind }),
         Ok(Some((side, heading, gates))) => keep(alloc, side, heading, gates, deployment),
         Ok(None) => {
+            if deployment.len() > LONGEST_DEPLOYMENT {
+                return Err(JournalFault::NoMemory);
+            }
             let kept = Blob::from_slice(alloc, deployment)?;
             Ok(Found {
                 stage: Stage::Blank,

@@ -42,6 +42,7 @@ pub(crate) fn find<D: Disk>(
     ensures named { IfOk result (λ f. f.deployment ≡ deployment.now) }
     ensures fresh { IfOk result (λ f. IsFresh f.stage) }
     ensures short { IfOk result (λ f. f.stage ≡ Stage.Found → FitsText f.deployment) }
+    ensures sized { IfOk result (λ f. length f.deployment + 64 < 2 ^ 63) }
     ensures blank { IsTrue (D.disk disk.old).told → IfOk result (λ f. f.stage ≡ Stage.Blank → AreBlank (D.disk disk.old).seen) }
     ensures first { IfOk result (λ f. f.stage ≡ Stage.Blank → (f.snapshot ≡ []) × (f.records.items ≡ [])) }
     ensures cause { IsTrue (D.disk disk.old).told → IfErr result (λ e. IsCause e (recovered deployment.now (D.disk disk.old).seen)) }

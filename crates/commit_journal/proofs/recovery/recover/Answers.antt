@@ -59,3 +59,10 @@ returns-in_ok-kept-in-Ok-None-clause-blank c stage = both_blank _ _ (rw c.in-Ok-
 
 pub returns-in-Ok-Some-clause-fresh : goal.returns-in-Ok-Some-clause-fresh
 returns-in-Ok-Some-clause-fresh c = if_ok c.keep.result _ _ c.keep.ensures.kept (λ f is. subst IsFresh (sym is.0) tt)
+
+pub returns-in-Ok-Some-clause-sized : goal.returns-in-Ok-Some-clause-sized
+returns-in-Ok-Some-clause-sized c =
+    let chose = rw c.in-Ok-Some.field-0-is at c.in-Ok-Some.ensures in
+    let fits = bytes_on c.in-Ok-Some.side c.args.a.now c.args.b.now (λ i. omega (arith, c.type_inv.a i)) (λ i. omega (arith, c.type_inv.b i)) in
+    let head = head_fits (record { a = c.args.a.now; b = c.args.b.now }) c.in-Ok-Some.side (head_view c.in-Ok-Some.heading) c.in-Ok-Some.gates.now fits chose.1 in
+    if_ok c.keep.result _ _ c.keep.ensures.named (λ f is. subst (λ (l : List ℕ). length l + 64 < 2 ^ 63) (sym is.1) (let deployment = head.deployment in omega (arith, deployment)))

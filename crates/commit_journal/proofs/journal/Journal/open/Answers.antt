@@ -5,7 +5,7 @@ use Rattle.commit_journal.proofs.journal.Journal.open.Goals as goal
 pub invariant_of-result : goal.invariant_of-result
 invariant_of-result g c =
     let found = c.in-Ok-find.ensures in
-    opened_sound c.in-Ok-find.found c.args.deployment.now (g.D.Disk.disk c.args.disk) (g.D.Disk.disk c.find.new.disk) _ found.looks found.found found.stands found.blank c.in-Ok.batch c.args.limit c.in-Ok.ensures c.requires found.small found.fresh found.short found.first
+    opened_sound c.in-Ok-find.found c.args.deployment.now (g.D.Disk.disk c.args.disk) (g.D.Disk.disk c.find.new.disk) _ found.looks found.found found.stands found.blank c.in-Ok.batch c.args.limit c.in-Ok.ensures c.requires found.small found.fresh found.short found.sized found.first
 
 pub returns-in-Ok-find-clause-opened : goal.returns-in-Ok-find-clause-opened
 returns-in-Ok-find-clause-opened g c =

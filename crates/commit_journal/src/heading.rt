@@ -1,0 +1,36 @@
+// The header of a side that is written anew.
+ghost use Rattle.std.specs.Prelude.{◌≡◌, [], ◌∷◌, ◌++◌, IfOk, OnOk};
+ghost use Rattle.commit_journal.specs.Spelling.{FitsText, text as text_of, header};
+
+use crate::reading::MAGIC;
+use slee_value::NoMemory;
+use std::alloc::Global;
+
+/// Adds a text: its length and its bytes.
+fn push_text(bytes: &mut Vec<u8>, text: &[u8]) -> Result<(), NoMemory>
+    requires { FitsText text.now }
+    ensures { OnOk result (bytes.new.items ≡ bytes.old.items ++ text_of text.now) }
+{
+    bytes.extend_from_slice(&(text.len() as u32).to_le_bytes())?;
+    bytes.extend_from_slice(text)?;
+    Ok(())
+}
+
+/// All that stands behind the first gate of a side without records.
+pub(crate) fn header_bytes(
+    alloc: Global,
+    generation: u64,
+    deployment: &[u8],
+    snapshot: &[u8],
+) -> Result<Vec<u8>, NoMemory>
+    requires deployment { FitsText deployment.now }
+    requires snapshot { FitsText snapshot.now }
+    ensures { IfOk result (λ v. v.items ≡ header (record { generation = generation; deployment = deployment.now; snapshot = snapshot.now }) ++ 0 ∷ []) }
+{
+    let mut bytes = Vec::from_slice(alloc, &MAGIC)?;
+    bytes.extend_from_slice(&generation.to_le_bytes())?;
+    push_text(&mut bytes, deployment)?;
+    push_text(&mut bytes, snapshot)?;
+    bytes.push(0)?;
+    Ok(bytes)
+}
