@@ -96,48 +96,48 @@ pub closes : (rows : List Entity) (s : Parts) → AllByRecursion IsBuiltInRoot s
     → AllByRecursion (λ row. is_entity s.entities row.number.0 ≡ true) rows → close_roots (map number_of rows) s ≡ removed_all (loose s.links rows) s
 closes [] s are them rise there = refl
 closes (row ∷ rows) s are them rise there =
-  let some : 0 < length s.entities = some_rows s.entities row.number.0 there.0 in
-  let count : count_of s row.number.0 ≡ links_of s.links row.number.0 = own_count (length s.entities) s.entities s.links row.number.0 are them.0.number some in
-  let top : tree_of s row.number.0 ≡ row.number.0 ∷ [] = own_tree (length s.entities) s.entities row.number.0 are them.0.number some in
-  elim (cases_Bool (links_of s.links row.number.0 == 0)) [
-  | inl none ↦
-    let is : (count_of s row.number.0 == 0) ≡ true = rw count none in
-    let same : without_links_of s.links row.number.0 ≡ s.links = same_links s.links row.number.0 (eqb-true (links_of s.links row.number.0) 0 none) in
-    let rest : close_roots (map number_of rows) (removed s row.number.0) ≡ removed_all (loose (without_links_of s.links row.number.0) rows) (removed s row.number.0)
-        = closes rows (removed s row.number.0) (all_filter IsBuiltInRoot (λ r. not (r.number.0 == row.number.0)) s.entities are) them.1 rise.1 (still_all s.entities rows row.number.0 rise.0 there.1) in
-    let gone : close_root row.number.0 s ≡ removed s row.number.0 = rw (is, top) in
-    rw none (ap (λ (t : Parts). close_roots (map number_of rows) t) gone ∙ rest ∙ ap (λ (links : List Link). removed_all (loose links rows) (removed s row.number.0)) same)
-  | inr more ↦
-    let is : (count_of s row.number.0 == 0) ≡ false = rw count more in
-    let stays : close_root row.number.0 s ≡ s = rw is in
-    rw more (ap (λ (t : Parts). close_roots (map number_of rows) t) stays ∙ closes rows s are them.1 rise.1 there.1)
-  ]
+    let some : 0 < length s.entities = some_rows s.entities row.number.0 there.0 in
+    let count : count_of s row.number.0 ≡ links_of s.links row.number.0 = own_count (length s.entities) s.entities s.links row.number.0 are them.0.number some in
+    let top : tree_of s row.number.0 ≡ row.number.0 ∷ [] = own_tree (length s.entities) s.entities row.number.0 are them.0.number some in
+    elim (cases_Bool (links_of s.links row.number.0 == 0)) [
+      | inl none ↦
+          let is : (count_of s row.number.0 == 0) ≡ true = rw count none in
+          let same : without_links_of s.links row.number.0 ≡ s.links = same_links s.links row.number.0 (eqb-true (links_of s.links row.number.0) 0 none) in
+          let rest : close_roots (map number_of rows) (removed s row.number.0) ≡ removed_all (loose (without_links_of s.links row.number.0) rows) (removed s row.number.0)
+          = closes rows (removed s row.number.0) (all_filter IsBuiltInRoot (λ r. not (r.number.0 == row.number.0)) s.entities are) them.1 rise.1 (still_all s.entities rows row.number.0 rise.0 there.1) in
+          let gone : close_root row.number.0 s ≡ removed s row.number.0 = rw (is, top) in
+          rw none (ap (λ (t : Parts). close_roots (map number_of rows) t) gone ∙ rest ∙ ap (λ (links : List Link). removed_all (loose links rows) (removed s row.number.0)) same)
+      | inr more ↦
+          let is : (count_of s row.number.0 == 0) ≡ false = rw count more in
+          let stays : close_root row.number.0 s ≡ s = rw is in
+          rw more (ap (λ (t : Parts). close_roots (map number_of rows) t) stays ∙ closes rows s are them.1 rise.1 there.1)
+    ]
 
 pub closes_lines : (rows : List Entity) (s : Parts) → AllByRecursion IsBuiltInRoot s.entities → AllByRecursion IsBuiltInRoot rows → Rises number_of rows
     → AllByRecursion (λ row. is_entity s.entities row.number.0 ≡ true) rows → lines_of_roots (map number_of rows) s ≡ map removed_line (loose s.links rows)
 closes_lines [] s are them rise there = refl
 closes_lines (row ∷ rows) s are them rise there =
-  let some : 0 < length s.entities = some_rows s.entities row.number.0 there.0 in
-  let count : count_of s row.number.0 ≡ links_of s.links row.number.0 = own_count (length s.entities) s.entities s.links row.number.0 are them.0.number some in
-  let top : tree_of s row.number.0 ≡ row.number.0 ∷ [] = own_tree (length s.entities) s.entities row.number.0 are them.0.number some in
-  elim (cases_Bool (links_of s.links row.number.0 == 0)) [
-  | inl none ↦
-    let is : (count_of s row.number.0 == 0) ≡ true = rw count none in
-    let same : without_links_of s.links row.number.0 ≡ s.links = same_links s.links row.number.0 (eqb-true (links_of s.links row.number.0) 0 none) in
-    let rest : lines_of_roots (map number_of rows) (removed s row.number.0) ≡ map removed_line (loose (without_links_of s.links row.number.0) rows)
-        = closes_lines rows (removed s row.number.0) (all_filter IsBuiltInRoot (λ r. not (r.number.0 == row.number.0)) s.entities are) them.1 rise.1 (still_all s.entities rows row.number.0 rise.0 there.1) in
-    let gone : close_root row.number.0 s ≡ removed s row.number.0 = rw (is, top) in
-    let says : lines_of_root row.number.0 s ≡ removed_line row.number.0 ∷ [] = rw (is, top) in
-    rw none (ap (λ (ls : List (List ℕ)). ls ++ lines_of_roots (map number_of rows) (close_root row.number.0 s)) says
-      ∙ ap (λ (t : Parts). removed_line row.number.0 ∷ lines_of_roots (map number_of rows) t) gone
-      ∙ ap (λ (ls : List (List ℕ)). removed_line row.number.0 ∷ ls) (rest ∙ ap (λ (links : List Link). map removed_line (loose links rows)) same))
-  | inr more ↦
-    let is : (count_of s row.number.0 == 0) ≡ false = rw count more in
-    let stays : close_root row.number.0 s ≡ s = rw is in
-    let says : lines_of_root row.number.0 s ≡ [] = rw is in
-    rw more (ap (λ (ls : List (List ℕ)). ls ++ lines_of_roots (map number_of rows) (close_root row.number.0 s)) says
-      ∙ ap (λ (t : Parts). lines_of_roots (map number_of rows) t) stays ∙ closes_lines rows s are them.1 rise.1 there.1)
-  ]
+    let some : 0 < length s.entities = some_rows s.entities row.number.0 there.0 in
+    let count : count_of s row.number.0 ≡ links_of s.links row.number.0 = own_count (length s.entities) s.entities s.links row.number.0 are them.0.number some in
+    let top : tree_of s row.number.0 ≡ row.number.0 ∷ [] = own_tree (length s.entities) s.entities row.number.0 are them.0.number some in
+    elim (cases_Bool (links_of s.links row.number.0 == 0)) [
+      | inl none ↦
+          let is : (count_of s row.number.0 == 0) ≡ true = rw count none in
+          let same : without_links_of s.links row.number.0 ≡ s.links = same_links s.links row.number.0 (eqb-true (links_of s.links row.number.0) 0 none) in
+          let rest : lines_of_roots (map number_of rows) (removed s row.number.0) ≡ map removed_line (loose (without_links_of s.links row.number.0) rows)
+          = closes_lines rows (removed s row.number.0) (all_filter IsBuiltInRoot (λ r. not (r.number.0 == row.number.0)) s.entities are) them.1 rise.1 (still_all s.entities rows row.number.0 rise.0 there.1) in
+          let gone : close_root row.number.0 s ≡ removed s row.number.0 = rw (is, top) in
+          let says : lines_of_root row.number.0 s ≡ removed_line row.number.0 ∷ [] = rw (is, top) in
+          rw none (ap (λ (ls : List (List ℕ)). ls ++ lines_of_roots (map number_of rows) (close_root row.number.0 s)) says
+          ∙ ap (λ (t : Parts). removed_line row.number.0 ∷ lines_of_roots (map number_of rows) t) gone
+          ∙ ap (λ (ls : List (List ℕ)). removed_line row.number.0 ∷ ls) (rest ∙ ap (λ (links : List Link). map removed_line (loose links rows)) same))
+      | inr more ↦
+          let is : (count_of s row.number.0 == 0) ≡ false = rw count more in
+          let stays : close_root row.number.0 s ≡ s = rw is in
+          let says : lines_of_root row.number.0 s ≡ [] = rw is in
+          rw more (ap (λ (ls : List (List ℕ)). ls ++ lines_of_roots (map number_of rows) (close_root row.number.0 s)) says
+          ∙ ap (λ (t : Parts). lines_of_roots (map number_of rows) t) stays ∙ closes_lines rows s are them.1 rise.1 there.1)
+    ]
 
 -- an entity has an attachment, or is among those that are yet to be looked at
 abbrev IsHeldOr : List Link → List Entity → Entity → Type 0
@@ -150,12 +150,12 @@ left_rows links fewer row later [] same all = tt
 left_rows links fewer row later (x ∷ some) same all = elim (cases_Bool (x.number.0 == row.number.0)) [
   | inl gone ↦ rw gone (left_rows links fewer row later some same all.1)
   | inr stays ↦
-    let away : (row.number.0 == x.number.0) ≡ false = grind (arith, nat_tests, stays) in
-    let here : IsHeldOr fewer later x = elim all.0 [
-      | inl held ↦ inl (subst (λ (ls : List Link). IsHeld ls x) (sym same) held)
-      | inr there ↦ inr (rw away at there)
+      let away : (row.number.0 == x.number.0) ≡ false = grind (arith, nat_tests, stays) in
+      let here : IsHeldOr fewer later x = elim all.0 [
+        | inl held ↦ inl (subst (λ (ls : List Link). IsHeld ls x) (sym same) held)
+        | inr there ↦ inr (rw away at there)
       ] in
-    rw stays (here, left_rows links fewer row later some same all.1)
+      rw stays (here, left_rows links fewer row later some same all.1)
 ]
 
 held_rows : (links : List Link) (row : Entity) (later some : List Entity) → IsHeld links row
@@ -167,24 +167,25 @@ held_rows links row later some holds all = all_from_all (IsHeldOr links (row ∷
     one x (inr there) = elim (or_cases (row.number.0 == x.number.0) (is_entity later x.number.0) there) [
       | inl mine ↦ inl (subst (λ (e : ℕ). 0 < links_of links e) (eqb-true row.number.0 x.number.0 mine) holds)
       | inr behind ↦ inr behind
-      ]
+    ]
 
 pub closes_held : (rows : List Entity) (s : Parts) → AllByRecursion (IsHeldOr s.links rows) s.entities → AreHeld (removed_all (loose s.links rows) s)
 closes_held [] s all = all_from_all (IsHeldOr s.links []) (IsHeld s.links) (λ x is. elim is [ inl held ↦ held | inr none ↦ absurd (cc) ]) s.entities all
 closes_held (row ∷ rows) s all = elim (cases_Bool (links_of s.links row.number.0 == 0)) [
   | inl none ↦
-    let same : without_links_of s.links row.number.0 ≡ s.links = same_links s.links row.number.0 (eqb-true (links_of s.links row.number.0) 0 none) in
-    let rest : AreHeld (removed_all (loose (without_links_of s.links row.number.0) rows) (removed s row.number.0))
-        = closes_held rows (removed s row.number.0) (left_rows s.links (without_links_of s.links row.number.0) row rows s.entities same all) in
-    rw none (subst (λ (links : List Link). AreHeld (removed_all (loose links rows) (removed s row.number.0))) same rest)
+      let same : without_links_of s.links row.number.0 ≡ s.links = same_links s.links row.number.0 (eqb-true (links_of s.links row.number.0) 0 none) in
+      let rest : AreHeld (removed_all (loose (without_links_of s.links row.number.0) rows) (removed s row.number.0))
+      = closes_held rows (removed s row.number.0) (left_rows s.links (without_links_of s.links row.number.0) row rows s.entities same all) in
+      rw none (subst (λ (links : List Link). AreHeld (removed_all (loose links rows) (removed s row.number.0))) same rest)
   | inr more ↦
-    let holds : IsHeld s.links row = omega (arith, eqb-false (links_of s.links row.number.0) 0 more) in
-    rw more (closes_held rows s (held_rows s.links row rows s.entities holds all))
-  ]
+      let holds : IsHeld s.links row = omega (arith, eqb-false (links_of s.links row.number.0) 0 more) in
+      rw more (closes_held rows s (held_rows s.links row rows s.entities holds all))
+]
 
 -- each row is among the rows
 pub all_there : (rows : List Entity) → AllByRecursion (λ row. is_entity rows row.number.0 ≡ true) rows
 all_there [] = tt
-all_there (row ∷ rows) =
-    (let here : (row.number.0 == row.number.0) ≡ true = eq-eqb row.number.0 row.number.0 refl in rw here,
-     all_from_all (λ x. is_entity rows x.number.0 ≡ true) (λ x. is_entity (row ∷ rows) x.number.0 ≡ true) (λ x there. grind (arith, there)) rows (all_there rows))
+all_there (row ∷ rows) = (
+  let here : (row.number.0 == row.number.0) ≡ true = eq-eqb row.number.0 row.number.0 refl in rw here,
+  all_from_all (λ x. is_entity rows x.number.0 ≡ true) (λ x. is_entity (row ∷ rows) x.number.0 ≡ true) (λ x there. grind (arith, there)) rows (all_there rows),
+)

@@ -27,16 +27,16 @@ activity_read a rest fits = ap (λ (n : ℕ). record { 0 = n }) (from_le_bytes-t
 
 input_read : (line : List ℕ) (signal : Signal) → length line ≤ 4096 → signal_of line ≡ Some signal → input_in (spelled_text line) ≡ Some (choices.Input signal)
 input_read line signal short reads =
-  let long : nat_le 4 (length (spelled_text line)) ≡ true = le-leb 4 (length (spelled_text line)) (omega arith) in
-  let number : from_le_bytes w32 (take 4 (spelled_text line)) ≡ length line = from_le_bytes-to_le_bytes_4 (length line) (omega (arith, short)) in
-  let same : (from_le_bytes w32 (take 4 (spelled_text line)) == length line) ≡ true = eq-eqb _ (length line) number in
-  rw (long, same, reads)
+    let long : nat_le 4 (length (spelled_text line)) ≡ true = le-leb 4 (length (spelled_text line)) (omega arith) in
+    let number : from_le_bytes w32 (take 4 (spelled_text line)) ≡ length line = from_le_bytes-to_le_bytes_4 (length line) (omega (arith, short)) in
+    let same : (from_le_bytes w32 (take 4 (spelled_text line)) == length line) ≡ true = eq-eqb _ (length line) number in
+    rw (long, same, reads)
 
 pub payload_read : (s : Parts) (c : Choice) → is_choice c ≡ true → HasNumber c → choice_in (payload s c) ≡ Some c
 payload_read s (choices.Input signal) is fits = input_read (spelled signal) signal (short_line signal is) (printed_read signal is)
 payload_read s (choices.Initial a) is fits = ap (λ (b : ActivityId). Some (choices.Initial b)) (activity_read a.0 [] fits)
 payload_read s (choices.Deliver a) is fits =
-  let tail = 0 ∷ spelling_of_effects (effects_due s a.0) in
-  let long : nat_le 8 (length (spelled_u64 a.0 ++ tail)) ≡ true = le-leb 8 (length (spelled_u64 a.0 ++ tail)) (omega arith) in
-  rw long (ap (λ (b : ActivityId). Some (choices.Deliver b)) (activity_read a.0 tail fits))
+    let tail = 0 ∷ spelling_of_effects (effects_due s a.0) in
+    let long : nat_le 8 (length (spelled_u64 a.0 ++ tail)) ≡ true = le-leb 8 (length (spelled_u64 a.0 ++ tail)) (omega arith) in
+    rw long (ap (λ (b : ActivityId). Some (choices.Deliver b)) (activity_read a.0 tail fits))
 payload_read s (choices.Finish a) is fits = ap (λ (b : ActivityId). Some (choices.Finish b)) (activity_read a.0 [] fits)

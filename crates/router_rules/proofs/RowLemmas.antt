@@ -54,10 +54,10 @@ pub found_activity : (p : Activity → Bool) (rows : List Activity) (row : Activ
 found_activity p [] row is = cc
 found_activity p (x ∷ xs) row is = elim (cases_Bool (p x)) [
   | inl passes ↦
-    let here : Some x ≡ Some row = rw passes at is in
-    let same : x ≡ row = cc in
-    let mine : (x.number.0 == row.number.0) ≡ true = eq-eqb x.number.0 row.number.0 (ap activity_number same) in
-    rw mine
+      let here : Some x ≡ Some row = rw passes at is in
+      let same : x ≡ row = cc in
+      let mine : (x.number.0 == row.number.0) ≡ true = eq-eqb x.number.0 row.number.0 (ap activity_number same) in
+      rw mine
   | inr fails ↦ rw (found_activity p xs row (rw fails at is)) (grind arith)
 ]
 
@@ -65,10 +65,10 @@ pub found_entity : (p : Entity → Bool) (rows : List Entity) (row : Entity) →
 found_entity p [] row is = cc
 found_entity p (x ∷ xs) row is = elim (cases_Bool (p x)) [
   | inl passes ↦
-    let here : Some x ≡ Some row = rw passes at is in
-    let same : x ≡ row = cc in
-    let mine : (x.number.0 == row.number.0) ≡ true = eq-eqb x.number.0 row.number.0 (ap number_of same) in
-    rw mine
+      let here : Some x ≡ Some row = rw passes at is in
+      let same : x ≡ row = cc in
+      let mine : (x.number.0 == row.number.0) ≡ true = eq-eqb x.number.0 row.number.0 (ap number_of same) in
+      rw mine
   | inr fails ↦ rw (found_entity p xs row (rw fails at is)) (grind arith)
 ]
 
@@ -78,15 +78,16 @@ pub only_found : (p : Activity → Bool) (rows : List Activity) (row : Activity)
 only_found p [] row is rise = tt
 only_found p (x ∷ xs) row is rise = elim (cases_Bool (p x)) [
   | inl passes ↦
-    let here : Some x ≡ Some row = rw passes at is in
-    let same : x ≡ row = cc in
-    (λ _. same,
-     all_from_all (λ r. activity_number x < activity_number r) (λ r. (r.number.0 == row.number.0) ≡ true → r ≡ row)
-        (λ r above mine. absurd (omega (arith, above, eqb-true r.number.0 row.number.0 mine, ap activity_number same))) xs rise.0)
+      let here : Some x ≡ Some row = rw passes at is in
+      let same : x ≡ row = cc in (
+        λ _. same,
+        all_from_all (λ r. activity_number x < activity_number r) (λ r. (r.number.0 == row.number.0) ≡ true → r ≡ row)
+            (λ r above mine. absurd (omega (arith, above, eqb-true r.number.0 row.number.0 mine, ap activity_number same))) xs rise.0,
+      )
   | inr fails ↦
-    let later : find p xs ≡ Some row = rw fails at is in
-    let above : activity_number x < activity_number row = found_all (λ r. activity_number x < activity_number r) p xs row later rise.0 in
-    (λ mine. absurd (omega (arith, above, eqb-true x.number.0 row.number.0 mine)), only_found p xs row later rise.1)
+      let later : find p xs ≡ Some row = rw fails at is in
+      let above : activity_number x < activity_number row = found_all (λ r. activity_number x < activity_number r) p xs row later rise.0 in
+      (λ mine. absurd (omega (arith, above, eqb-true x.number.0 row.number.0 mine)), only_found p xs row later rise.1)
 ]
 
 -- an activity that is there has a number below the next one
@@ -155,9 +156,9 @@ other_queue [] a n differ = refl
 other_queue (q ∷ qs) a n differ = elim (cases_Bool (q.activity.0 == a)) [
   | inl mine ↦ let away : (q.activity.0 == n) ≡ false = grind (arith, nat_tests, mine, differ) in rw (mine, away)
   | inr other ↦ elim (cases_Bool (q.activity.0 == n)) [
-      | inl here ↦ rw (other, here) (ap (λ more. q ∷ more) (other_queue qs a n differ))
-      | inr away ↦ rw (other, away) (other_queue qs a n differ)
-      ]
+    | inl here ↦ rw (other, here) (ap (λ more. q ∷ more) (other_queue qs a n differ))
+    | inr away ↦ rw (other, away) (other_queue qs a n differ)
+  ]
 ]
 
 pub still_waiting : (events : List Queued) (a n : ℕ) → (n == a) ≡ false → is_waiting (without_front events a) n ≡ is_waiting events n

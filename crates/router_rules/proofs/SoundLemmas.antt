@@ -68,8 +68,14 @@ removed_sound s e w = record {
   entities = all_filter IsBuiltInRoot (λ row. not (row.number.0 == e)) s.entities w.entities;
   names = left_names s.root_names s.entities e w.names;
   links = left_links s.entities s.activities s.links e w.links;
-  activities = w.activities; events = w.events; rising = w.rising; below = w.below; from = w.from; endings = w.endings;
-  services_done = w.services_done; delivered = w.delivered;
+  activities = w.activities;
+  events = w.events;
+  rising = w.rising;
+  below = w.below;
+  from = w.from;
+  endings = w.endings;
+  services_done = w.services_done;
+  delivered = w.delivered;
 }
 
 pub removed_all_sound : (es : List ℕ) (s : Parts) → IsSound s → IsSound (removed_all es s)
@@ -94,16 +100,25 @@ pub counted_sound : (s : Parts) → s.inputs + 1 < 2 ^ 64 → IsSound s → IsSo
 counted_sound s fits w = record {
   ordered = ordered_after changes.Taken s tt w.ordered;
   counts = record { clock = w.counts.clock; inputs = fits; entities = w.counts.entities; activities = w.counts.activities; timers = w.counts.timers; events = w.counts.events };
-  services = w.services; entities = w.entities; names = w.names; links = w.links;
-  activities = w.activities; events = w.events; rising = w.rising; below = w.below; from = w.from; endings = w.endings;
-  services_done = w.services_done; delivered = w.delivered;
+  services = w.services;
+  entities = w.entities;
+  names = w.names;
+  links = w.links;
+  activities = w.activities;
+  events = w.events;
+  rising = w.rising;
+  below = w.below;
+  from = w.from;
+  endings = w.endings;
+  services_done = w.services_done;
+  delivered = w.delivered;
 }
 
 -- no event waits on an activity that is yet to come
 none_waits : (activities : List Activity) (events : List Queued) (n : ℕ) → AreBelow activity_number activities n → AllByRecursion (IsBuiltInEvent activities) events → queue events n ≡ []
 none_waits activities events n below all =
     queue_absent events n (all_from_all (IsBuiltInEvent activities) (λ q. (q.activity.0 == n) ≡ false)
-        (λ q is. let less : q.activity.0 < n = there_below activities q.activity.0 n is.waits below in ne_eqb q.activity.0 n (λ same. omega (arith, less, same))) events all)
+    (λ q is. let less : q.activity.0 < n = there_below activities q.activity.0 n is.waits below in ne_eqb q.activity.0 n (λ same. omega (arith, less, same))) events all)
 
 links_more : (entities : List Entity) (old new : List Activity) (links : List Link) → ((n : ℕ) → is_activity old n ≡ true → is_activity new n ≡ true)
     → AllByRecursion (IsLinkOf entities old) links → AllByRecursion (IsLinkOf entities new) links
@@ -119,13 +134,18 @@ pub started_sound : (s : Parts) (name : List ℕ) → is_name name ≡ true → 
 started_sound s name named absent fits w = record {
   ordered = ordered_after (changes.Start (kinds.External name)) s absent w.ordered;
   counts = record { clock = w.counts.clock; inputs = w.counts.inputs; entities = w.counts.entities; activities = fits; timers = w.counts.timers; events = w.counts.events };
-  services = w.services; entities = w.entities; names = w.names;
+  services = w.services;
+  entities = w.entities;
+  names = w.names;
   links = links_more s.entities s.activities (s.activities ++ new ∷ []) s.links more w.links;
   activities = all_pushed IsBuiltInActivity s.activities new w.activities (record { number = w.ordered.activities_from; kind = named });
   events = events_more s.activities (s.activities ++ new ∷ []) s.events more w.events;
-  rising = w.rising; below = w.below; from = w.from;
+  rising = w.rising;
+  below = w.below;
+  from = w.from;
   endings = all_pushed (EndsLast s.events) s.activities new w.endings (ap has_no_end (none_waits s.activities s.events s.next_activity w.ordered.activities_below w.events));
-  services_done = w.services_done; delivered = w.delivered;
+  services_done = w.services_done;
+  delivered = w.delivered;
 }
   where
     new : Activity
@@ -140,20 +160,20 @@ service_marks_more : (events : List Queued) (q : Queued) (services : List Servic
     → AllByRecursion (IsServiceMark (events ++ q ∷ []) services) marks
 service_marks_more events q services marks all =
     all_from_all (IsServiceMark events services) (IsServiceMark (events ++ q ∷ []) services)
-        (λ m is. record { activity = any_more (λ x. x.activity.0 == m.activity.0) events q is.activity; service = is.service }) marks all
+    (λ m is. record { activity = any_more (λ x. x.activity.0 == m.activity.0) events q is.activity; service = is.service }) marks all
 
 entity_marks_more : (events : List Queued) (q : Queued) (next : ℕ) (marks : List EntityMark) → AllByRecursion (IsEntityMark events next) marks
     → AllByRecursion (IsEntityMark (events ++ q ∷ []) next) marks
 entity_marks_more events q next marks all =
     all_from_all (IsEntityMark events next) (IsEntityMark (events ++ q ∷ []) next)
-        (λ m is. record { activity = any_more (λ x. x.activity.0 == m.activity.0) events q is.activity; entity = is.entity }) marks all
+    (λ m is. record { activity = any_more (λ x. x.activity.0 == m.activity.0) events q is.activity; entity = is.entity }) marks all
 
 -- the event that is queued next
-abbrev next_queued : Parts → ℕ → List ℕ → List (List ℕ × Value) → Queued
+abbrev pub next_queued : Parts → ℕ → List ℕ → List (List ℕ × Value) → Queued
 next_queued s a event fields = record { activity = record { 0 = a }; event = record { id = record { 0 = s.next_event }; name = event; fields = fields; target = None } }
 
 -- The event waits on an activity that is there, and these rows of the same numbers are right with it.
-queued_with : (s : Parts) (rows : List Activity) (a : ℕ) (event : List ℕ) (fields : List (List ℕ × Value)) → IsSound s
+pub queued_with : (s : Parts) (rows : List Activity) (a : ℕ) (event : List ℕ) (fields : List (List ℕ × Value)) → IsSound s
     → IsOrdered (queued (record s { activities = rows }) a event fields)
     → ((n : ℕ) → is_activity rows n ≡ is_activity s.activities n) → AllByRecursion IsBuiltInActivity rows
     → AllByRecursion (EndsLast (s.events ++ next_queued s a event fields ∷ [])) rows
@@ -162,14 +182,16 @@ queued_with : (s : Parts) (rows : List Activity) (a : ℕ) (event : List ℕ) (f
 queued_with s rows a event fields w ordered same built ends there given fits = record {
   ordered = ordered;
   counts = record { clock = w.counts.clock; inputs = w.counts.inputs; entities = w.counts.entities; activities = w.counts.activities; timers = w.counts.timers; events = fits };
-  services = w.services; entities = w.entities; names = w.names;
+  services = w.services;
+  entities = w.entities;
+  names = w.names;
   links = links_more s.entities s.activities rows s.links more w.links;
   activities = built;
   events = all_pushed (IsBuiltInEvent rows) s.events (next_queued s a event fields) (events_more s.activities rows s.events more w.events)
-    (record { number = w.from; target = refl; fields = given; waits = more a there });
+      (record { number = w.from; target = refl; fields = given; waits = more a there });
   rising = order_pushed (λ x y. event_number x < event_number y) s.events (next_queued s a event fields) w.rising w.below;
   below = all_pushed (λ q. event_number q < s.next_event + 1) s.events (next_queued s a event fields)
-    (all_from_all (λ q. event_number q < s.next_event) (λ q. event_number q < s.next_event + 1) (λ q less. omega (arith, less)) s.events w.below) (omega arith);
+      (all_from_all (λ q. event_number q < s.next_event) (λ q. event_number q < s.next_event + 1) (λ q less. omega (arith, less)) s.events w.below) (omega arith);
   from = omega arith;
   endings = ends;
   services_done = service_marks_more s.events (next_queued s a event fields) s.services s.services_done w.services_done;
@@ -191,24 +213,24 @@ own_queue events q n own =
     queue_append events q n ∙ rw mine
 
 -- the activity of the event isn't Ending, and the event is no end
-abbrev IsOpen : ℕ → Activity → Type 0
+abbrev pub IsOpen : ℕ → Activity → Type 0
 IsOpen a row = (row.number.0 == a) ≡ true → row.ending ≡ false
 
-fired_row : (events : List Queued) (q : Queued) (row : Activity) → is_end q ≡ false → EndsLast events row × IsOpen q.activity.0 row → EndsLast (events ++ q ∷ []) row
+pub fired_row : (events : List Queued) (q : Queued) (row : Activity) → is_end q ≡ false → EndsLast events row × IsOpen q.activity.0 row → EndsLast (events ++ q ∷ []) row
 fired_row events q row other is = elim (cases_Bool (row.number.0 == q.activity.0)) [
   | inl mine ↦
-    let active : row.ending ≡ false = is.1 mine in
-    let none : has_no_end (queue events row.number.0) ≡ true = rw active at is.0 in
-    rw (active, own_queue events q row.number.0 mine) (no_end_more (queue events row.number.0) q none other)
+      let active : row.ending ≡ false = is.1 mine in
+      let none : has_no_end (queue events row.number.0) ≡ true = rw active at is.0 in
+      rw (active, own_queue events q row.number.0 mine) (no_end_more (queue events row.number.0) q none other)
   | inr away ↦ rw (away_queue events q row.number.0 away) is.0
 ]
 
-ended_row : (events : List Queued) (q : Queued) (row : Activity) → is_end q ≡ true → EndsLast events row × IsOpen q.activity.0 row
+pub ended_row : (events : List Queued) (q : Queued) (row : Activity) → is_end q ≡ true → EndsLast events row × IsOpen q.activity.0 row
     → EndsLast (events ++ q ∷ []) (ends q.activity.0 row)
 ended_row events q row end is = elim (cases_Bool (row.number.0 == q.activity.0)) [
   | inl mine ↦
-    let active : row.ending ≡ false = is.1 mine in
-    let none : has_no_end (queue events row.number.0) ≡ true = rw active at is.0 in
-    rw (mine, own_queue events q row.number.0 mine) (end_last (queue events row.number.0) q none end)
+      let active : row.ending ≡ false = is.1 mine in
+      let none : has_no_end (queue events row.number.0) ≡ true = rw active at is.0 in
+      rw (mine, own_queue events q row.number.0 mine) (end_last (queue events row.number.0) q none end)
   | inr away ↦ rw (away, away_queue events q row.number.0 away) is.0
 ]

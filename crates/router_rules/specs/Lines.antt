@@ -5,7 +5,6 @@ use Rattle.slee_value.specs.Escape.{escaped}
 abbrev pub input_heading : List ℕ → List ℕ
 input_heading line = codes "input " ++ line
 
-
 abbrev pub initial_heading : ℕ → ℕ → List ℕ → ℕ → List ℕ → List ℕ
 initial_heading a v service e how =
     codes "initial a" ++ (decimal a ++ (codes " v" ++ (decimal v ++ (codes " " ++ (service ++ (codes " e" ++ (decimal e ++ (codes " " ++ how))))))))

@@ -23,8 +23,8 @@ abbrev pub unfit_event : List ℕ → Option (List ℕ) → List (List ℕ × Li
 unfit_event event service words =
     if is_event event
     then (if is_none service
-          then (if is_some (fields_given words) then None else Some (codes "bad-fields"))
-          else Some (codes "unknown-service"))
+    then (if is_some (fields_given words) then None else Some (codes "bad-fields"))
+    else Some (codes "unknown-service"))
     else Some (codes "unknown-event")
 
 -- the first of two reasons

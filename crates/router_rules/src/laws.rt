@@ -1,0 +1,48 @@
+//! Laws of steps and of what the journal keeps of them. Each is proved of the definitions alone.
+ghost use Rattle.std.specs.Prelude.{◌≡◌, IsTrue, List, [], Some};
+ghost use Rattle.router_model.specs.State.{Parts, initial};
+ghost use Rattle.trace_history.specs.declared.choice.Choice.{Choice};
+ghost use Rattle.trace_history.specs.declared.entry.Entry.{Entry};
+ghost use Rattle.router_rules.specs.Closing.{closing, lines_of_closing, AreRootsHeld};
+ghost use Rattle.router_rules.specs.History.{replay, Legal};
+ghost use Rattle.router_rules.specs.Payload.{payload, choice_in, HasNumber};
+ghost use Rattle.router_rules.specs.Step.{after, is_choice, is_enabled};
+ghost use Rattle.router_rules.specs.Well.{IsWell};
+
+/// The state at the start is well formed.
+#[tactic(auto, using(crate::proofs::StepLemmas::initial_well))]
+pub fn initial_is_well_formed()
+    ensures { IsWell initial }
+{}
+
+/// A step that may be made keeps the state well formed.
+#[tactic(auto, using(crate::proofs::StepLemmas::after_well))]
+pub fn steps_keep_the_state_well_formed()
+    ensures { (s : Parts) (c : Choice) → IsTrue (is_choice c) → IsTrue (is_enabled s c) → IsWell s → IsWell (after s c) }
+{}
+
+/// A legal history keeps the state well formed.
+#[tactic(auto, using(crate::proofs::StepLemmas::replay_well))]
+pub fn histories_keep_the_state_well_formed()
+    ensures { (s : Parts) (h : List Entry) → Legal s h → IsWell s → IsWell (replay s h) }
+{}
+
+/// Closing changes nothing, and gives no line, where the tree of each root has an attachment.
+#[tactic(auto, using(crate::proofs::ClosingLemmas::closing_held, crate::proofs::ClosingLemmas::closing_silent))]
+pub fn closing_leaves_what_is_held()
+    ensures state { (s : Parts) → AreRootsHeld s → closing s ≡ s }
+    ensures lines { (s : Parts) → AreRootsHeld s → lines_of_closing s ≡ [] }
+{}
+
+/// Closing a well-formed state, as each step leaves one, changes nothing.
+#[tactic(auto, using(crate::proofs::StepLemmas::well_closed, crate::proofs::StepLemmas::well_silent))]
+pub fn closing_again_changes_nothing()
+    ensures state { (s : Parts) → IsWell s → closing s ≡ s }
+    ensures lines { (s : Parts) → IsWell s → lines_of_closing s ≡ [] }
+{}
+
+/// The choice of a payload is the one that it was made of.
+#[tactic(auto, using(crate::proofs::PayloadLemmas::payload_read))]
+pub fn payloads_are_read()
+    ensures { (s : Parts) (c : Choice) → IsTrue (is_choice c) → HasNumber c → choice_in (payload s c) ≡ Some c }
+{}
