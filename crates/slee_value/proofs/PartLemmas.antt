@@ -31,11 +31,13 @@ pub record IsWide (w : Width) (limit : ℕ) : Type 0 where
   pub len : (n : ℕ) → length (to_le_bytes w n) ≡ byte_len w
   pub back : (bytes : List ℕ) → length bytes ≡ byte_len w → AreBytes bytes → to_le_bytes w (from_le_bytes w bytes) ≡ bytes
   pub again : (n : ℕ) → n < limit → from_le_bytes w (to_le_bytes w n) ≡ n
+  pub bytes : (n : ℕ) → AreBytes (to_le_bytes w n)
   pub below : (bytes : List ℕ) → AreBytes bytes → from_le_bytes w bytes < limit
 
 pub wide32 : IsWide w32 (2 ^ 32)
 wide32 = record {
   len = λ n. refl;
+  bytes = λ n. (omega arith, (omega arith, (omega arith, (omega arith, tt))));
   back = λ bytes len h. le_bytes_4 bytes _ len (λ i. byte_at bytes i h) refl;
   again = λ n lt. from_le_bytes-to_le_bytes_4 n lt;
   below = λ bytes h. omega (arith, byte_at bytes 0 h, byte_at bytes 1 h, byte_at bytes 2 h, byte_at bytes 3 h);
@@ -44,6 +46,7 @@ wide32 = record {
 pub wide64 : IsWide w64 (2 ^ 64)
 wide64 = record {
   len = λ n. refl;
+  bytes = λ n. (omega arith, (omega arith, (omega arith, (omega arith, (omega arith, (omega arith, (omega arith, (omega arith, tt))))))));
   back = λ bytes len h. le_bytes_8 bytes _ len (λ i. byte_at bytes i h) refl;
   again = λ n lt. from_le_bytes-to_le_bytes_8 n lt;
   below = λ bytes h. omega (arith, byte_at bytes 0 h, byte_at bytes 1 h, byte_at bytes 2 h, byte_at bytes 3 h, byte_at bytes 4 h, byte_at bytes 5 h, byte_at bytes 6 h, byte_at bytes 7 h);
@@ -79,7 +82,7 @@ module _ (w : Width) (limit : ℕ) (wide : IsWide w limit) where
       let pad : List ℕ = replicate (byte_len w - length bytes) 0 in
       let all : AreBytes (bytes ++ pad) = bytes_append bytes pad h (zeros_are_bytes (byte_len w - length bytes)) in
       let len : length (bytes ++ pad) ≡ byte_len w = omega (arith, length-append bytes pad, length-replicate {A = ℕ} (byte_len w - length bytes) 0) in
-      (from_le_bytes w (bytes ++ pad), pad, wide.below (bytes ++ pad) all, zeros_are_bytes (byte_len w - length bytes), wide.back (bytes ++ pad) len all)
+      (from_le_bytes w (bytes ++ pad), pad, wide.below (bytes ++ pad) all, wide.back (bytes ++ pad) len all)
 
   number_stuck : (bytes : List ℕ) (f : Fault) → AreBytes bytes → number_at w bytes ≡ Err f → IsStuck (to_le_bytes w) (λ n. n < limit) bytes f.left
   number_stuck bytes f h e =
@@ -95,7 +98,7 @@ module _ (w : Width) (limit : ℕ) (wide : IsWide w limit) where
       }
 
   pub reads_number : Reads (to_le_bytes w) (λ n. n < limit) (number_at w)
-  reads_number = record { takes = number_takes; again = number_again; stuck = number_stuck; some = number_begins [] tt (omega arith) }
+  reads_number = record { takes = number_takes; again = number_again; stuck = number_stuck; some = number_begins [] tt (omega arith); bytes = λ n f. wide.bytes n; loosen = λ n f. f }
 
 pub reads_u32 : Reads spelled_u32 (λ n. n < 2 ^ 32) (number_at w32)
 reads_u32 = reads_number w32 (2 ^ 32) wide32
@@ -125,13 +128,17 @@ flag_again true rest h = refl
 flag_again false rest h = refl
 
 flag_some : Begins spelled_flag (λ flag. ⊤) []
-flag_some = (false, 0 ∷ [], tt, (omega arith, tt), refl)
+flag_some = (false, 0 ∷ [], tt, refl)
 
 flag_stuck : (bytes : List ℕ) (f : Fault) → AreBytes bytes → flag_at bytes ≡ Err f → IsStuck spelled_flag (λ flag. ⊤) bytes f.left
-flag_stuck [] f h e = subst (λ (n : ℕ). IsStuck spelled_flag (λ flag. ⊤) [] n) (ap (λ (d : Fault). d.left) (err_is {A = Bool × List ℕ} _ f e)) (no_bytes spelled_flag (λ flag. ⊤) flag_some)
+flag_stuck [] f h e = subst (λ (n : ℕ). IsStuck spelled_flag (λ flag. ⊤) [] n) (ap (λ (d : Fault). d.left) (err_is {A = Bool × List ℕ} _ f e)) (no_bytes spelled_flag (λ flag. ⊤) (λ flag. ⊤) flag_at flag_some)
 flag_stuck (zero ∷ bytes) f h e = absurd cc
 flag_stuck (suc zero ∷ bytes) f h e = absurd cc
-flag_stuck (suc (suc b) ∷ bytes) f h e = no_case spelled_flag (λ flag. ⊤) flag_at (suc (suc b)) bytes f flag_again flag_some (λ more. (record { left = suc (length more); kind = bad.Flag }, refl)) (ap (λ (d : Fault). d.left) (err_is {A = Bool × List ℕ} _ f e))
+flag_stuck (suc (suc b) ∷ bytes) f h e = no_case spelled_flag (λ flag. ⊤) (λ flag. ⊤) flag_at (suc (suc b)) bytes f flag_again flag_some (λ more. (record { left = suc (length more); kind = bad.Flag }, refl)) (ap (λ (d : Fault). d.left) (err_is {A = Bool × List ℕ} _ f e))
+
+flag_bytes : (x : Bool) → ⊤ → AreBytes (spelled_flag x)
+flag_bytes true h = (omega arith, tt)
+flag_bytes false h = (omega arith, tt)
 
 pub reads_flag : Reads spelled_flag (λ flag. ⊤) flag_at
-reads_flag = record { takes = flag_takes; again = flag_again; stuck = flag_stuck; some = flag_some }
+reads_flag = record { takes = flag_takes; again = flag_again; stuck = flag_stuck; some = flag_some; bytes = flag_bytes; loosen = λ flag f. f }

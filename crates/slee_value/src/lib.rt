@@ -30,7 +30,7 @@ pub use memory::NoMemory;
 pub use name::{NAME_LIMIT, Name};
 pub use names::Names;
 pub use payload::Payload;
-pub use reading::{read_flag, read_part, read_text, read_u32, read_u64};
+pub use reading::{read_flag, read_part, read_text, read_u32, read_u64, read_value};
 pub use text::Text;
 pub use value::Value;
 pub use writing::{write_text, write_value};

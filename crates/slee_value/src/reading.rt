@@ -1,9 +1,12 @@
-ghost use Rattle.std.specs.Prelude.{◌≡◌, ℕ, ◌+◌, ◌<◌, ◌≤◌, List, length, take, drop, OnOk, IfSome};
+ghost use Rattle.std.specs.Prelude.{◌≡◌, ℕ, ◌+◌, ◌<◌, ◌≤◌, List, length, take, drop, OnOk, IfOk, IfErr, IfSome, ◌++◌};
 ghost use Rattle.std.specs.Int.{w32, w64};
 ghost use Rattle.std.specs.Str.Lossy.{utf8_valid_len, utf8_error_len};
+ghost use Rattle.slee_value.specs.declared.value.Value.{Value as ValueModel};
+ghost use Rattle.slee_value.specs.Bytes.{spelling_of_value, Fits};
+ghost use Rattle.slee_value.specs.Values.{IsFront, IsRead, StandsRight, Answers};
 ghost use Rattle.slee_value.specs.Reading.{Gives, Fails, number_at, flag_at, text_at, text_fault, fault_behind, unless_fault, good_len, char_len, value_at};
 
-use crate::{ActivityId, PartFault, Text, TimerId, Value, ValueBad};
+use crate::{ActivityId, PartFault, Text, TimerId, Value, ValueBad, ValueFault};
 use std::alloc::Global;
 use std::str;
 
@@ -121,6 +124,27 @@ fn char_len_of(first: u8) -> usize
         0xE0..=0xEF => 3,
         0xF0..=0xF4 => 4,
         _ => 0,
+    }
+}
+
+/// The one value that the bytes begin with, and how many bytes it takes.
+pub fn read_value(alloc: Global, bytes: &[u8]) -> Result<(Value, usize), ValueFault>
+    // What is read stands there.
+    ensures found { IfOk result (λ x. IsFront bytes.now x.0 x.1) }
+    // What stands there is read, unless memory runs out.
+    ensures only { (v : ValueModel) (rest : List ℕ) → Fits v → bytes.now ≡ spelling_of_value v ++ rest → IsRead v result }
+    // A fault stands at the first byte that can't go on.
+    ensures place { IfErr result (λ e. StandsRight bytes.now e) }
+    // Which value or fault it is.
+    ensures exact { Answers bytes.now result }
+{
+    match read_part(alloc, bytes) {
+        Ok((value, rest)) => Ok((value, bytes.len() - rest.len())),
+        Err(PartFault::NoMemory) => Err(ValueFault::NoMemory),
+        Err(PartFault::Bad { left, kind }) => Err(ValueFault::Bad {
+            at: bytes.len() - left,
+            kind,
+        }),
     }
 }
 
