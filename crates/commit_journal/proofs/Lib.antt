@@ -14,3 +14,5 @@ pub mod Opens
 pub mod Newer
 pub mod Rewrites
 pub mod Begins
+pub mod Renewals
+pub mod LawLemmas

@@ -13,7 +13,8 @@ use Rattle.commit_journal.specs.Kept.{StandsIn, StandsFound}
 use Rattle.commit_journal.specs.Views.{front_on, kept_first}
 use Rattle.commit_journal.proofs.Counting.{chosen}
 use Rattle.commit_journal.proofs.Sizes.{length-spelled}
-use Rattle.commit_journal.proofs.Spelt.{IsBytes, Ends, front_takes, payloads_take}
+use Rattle.commit_journal.specs.Laws.{IsBytes}
+use Rattle.commit_journal.proofs.Spelt.{front_takes, payloads_take}
 
 pub if_ok : {T E : Type 0} (r : Result T E) (P Q : T → Type 0) → IfOk r P → ((x : T) → P x → Q x) → IfOk r Q
 if_ok (Ok x) P Q p so = so x p
@@ -42,7 +43,7 @@ reads_records deployment sides side head gates counts begins = chosen deployment
 ok_some : {A E : Type 0} (x y : A) → ◌≡◌ {A = Result (Option A) E} (Ok (Some x)) (Ok (Some y)) → x ≡ y
 ok_some x y e = cc
 
-records_ok : (deployment : List ℕ) (side : Side) (head : Head) (r : Result (List (List ℕ)) ℕ) (k : Kept) → with_records deployment side head r ≡ Ok (Some k)
+pub records_ok : (deployment : List ℕ) (side : Side) (head : Head) (r : Result (List (List ℕ)) ℕ) (k : Kept) → with_records deployment side head r ≡ Ok (Some k)
     → (ps : List (List ℕ)) × (r ≡ Ok ps) × (record { side = side; head = head; payloads = ps } ≡ k)
 records_ok deployment side head (Err at) k e = absurd cc
 records_ok deployment side head (Ok ps) k e = (ps, refl, same (bytes_eq head.deployment deployment) e)

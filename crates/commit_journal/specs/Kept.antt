@@ -1,6 +1,7 @@
 -- A side that counts, and what two sides stand for.
 use Rattle.std.specs.Prelude.{◌≡◌, ◌≢◌, ◌⊎◌, ℕ, List, [], ◌∷◌, ◌++◌, length, Option, Some, None, Ok}
 use Rattle.std.specs.List.{flat_map, AllByRecursion}
+use Rattle.slee_disk.specs.declared.side.Side.{Side}
 use Rattle.slee_disk.specs.Sides.{Sides, on, other}
 use Rattle.commit_journal.specs.declared.stage.Stage.{Stage}
 use Rattle.commit_journal.specs.declared.stage.Stage.TheVariants as stages
@@ -53,12 +54,31 @@ StandsOrMore stage kept batch sides = Stands stage kept sides ⊎ Stands stage (
 abbrev pub StandsOrBegun : Stage → Kept → Sides → Type 0
 StandsOrBegun stage kept sides = Stands stage kept sides ⊎ Keeps kept sides
 
--- what is kept once a journal is renewed: no payload, on a blank journal's own side, else on the other side with the next generation
+-- the side that is written next: that of a blank journal, else the one that doesn't count
+abbrev pub side_renewed : Stage → Side → Side
+side_renewed stages.Blank side = side
+side_renewed stages.Found side = other side
+side_renewed stages.Ready side = other side
+side_renewed stages.Stopped side = other side
+
+-- and its generation: that of a blank journal, else the next one
+abbrev pub generation_renewed : Stage → ℕ → ℕ
+generation_renewed stages.Blank generation = generation
+generation_renewed stages.Found generation = next generation
+generation_renewed stages.Ready generation = next generation
+generation_renewed stages.Stopped generation = next generation
+
+-- what is kept once a journal is renewed: a snapshot, and no payload
 abbrev pub renewed : Stage → Kept → List ℕ → Kept
-renewed stages.Blank kept snapshot = record { side = kept.side; head = record { generation = kept.head.generation; deployment = kept.head.deployment; snapshot = snapshot }; payloads = [] }
-renewed stages.Found kept snapshot = record { side = other kept.side; head = record { generation = next kept.head.generation; deployment = kept.head.deployment; snapshot = snapshot }; payloads = [] }
-renewed stages.Ready kept snapshot = record { side = other kept.side; head = record { generation = next kept.head.generation; deployment = kept.head.deployment; snapshot = snapshot }; payloads = [] }
-renewed stages.Stopped kept snapshot = record { side = other kept.side; head = record { generation = next kept.head.generation; deployment = kept.head.deployment; snapshot = snapshot }; payloads = [] }
+renewed stage kept snapshot = record {
+  side = side_renewed stage kept.side;
+  head = record { generation = generation_renewed stage kept.head.generation; deployment = kept.head.deployment; snapshot = snapshot };
+  payloads = [];
+}
+
+-- the sides stand for what the journal has come to, or for the renewed side alone
+abbrev pub StandsOrRenewed : Stage → Kept → List ℕ → Sides → Type 0
+StandsOrRenewed stage kept snapshot sides = Stands stage kept sides ⊎ Keeps (renewed stage kept snapshot) sides
 
 -- the bytes of a batch from the gate before it on: open gates between, and a closed one behind
 abbrev pub batched : List (List ℕ) → List ℕ

@@ -7,3 +7,5 @@ pub mod Blank
 pub mod Batch
 pub mod Journal
 pub mod Rewriting
+pub mod Renewal
+pub mod Laws

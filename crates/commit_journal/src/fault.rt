@@ -98,6 +98,17 @@ impl From<NoMemory> for BeginFault {
     }
 }
 
+impl From<Failed> for BeginFault {
+    ghost use Rattle.std.specs.Prelude.{◌≡◌};
+    ghost use Rattle.commit_journal.specs.declared.fault.BeginFault.TheVariants as faults;
+
+    ghost from_gives = { λ _ fault. fault ≡ faults.DiskFault };
+
+    fn from(_: Failed) -> Self {
+        BeginFault::DiskFault
+    }
+}
+
 impl From<NoMemory> for AppendFault {
     ghost use Rattle.std.specs.Prelude.{◌≡◌};
     ghost use Rattle.commit_journal.specs.declared.fault.AppendFault.TheVariants as faults;

@@ -1,8 +1,9 @@
 ghost use Rattle.std.specs.Prelude.{◌≡◌, ◌≢◌, ◌<◌, ◌≤◌, ◌+◌, ◌^◌, [], ◌∷◌, ◌++◌, length, IsTrue, OnOk, OnErr, IfOk, IfErr, IsErr, IsErrOf, IsOk};
 
 use crate::batch::Batch;
-use crate::blank::write_side;
+use crate::blank::{rewrite_side, write_side};
 use crate::heading::header_bytes;
+use crate::reading::{next_of, other_of};
 use crate::start::find;
 use crate::writing::{cut_behind, write_batch};
 use crate::{AppendFault, BeginFault, JournalFault, Record, Stage};
@@ -51,9 +52,10 @@ impl<D: Disk> Journal<D> {
     ghost use Rattle.slee_disk.specs.Sides.{Sides, on};
     ghost use Rattle.slee_disk.specs.Disk.{LeavesOnly, Looks, is_clean};
     ghost use Rattle.commit_journal.specs.declared.stage.Stage.TheVariants.{Ready, Stopped};
-    ghost use Rattle.commit_journal.specs.Spelling.{records_size, size};
+    ghost use Rattle.commit_journal.specs.Spelling.{header, records_size, size};
     ghost use Rattle.commit_journal.specs.Reading.{first_gate, recovered};
-    ghost use Rattle.commit_journal.specs.Kept.{with_more, Keeps, Stands, StandsOrMore, StandsOrBegun};
+    ghost use Rattle.commit_journal.specs.Kept.{with_more, Keeps, Stands, StandsOrMore, StandsOrBegun, side_renewed, generation_renewed, renewed, StandsOrRenewed};
+    ghost use Rattle.commit_journal.specs.Renewal.{StandsMoreOrRenewed, LeavesRenewed};
     ghost use Rattle.commit_journal.specs.Views.{IsCause, located};
     ghost use Rattle.commit_journal.specs.Journal.{payloads_on, IsOpenedAs, IsSameSide, Refuses, size_begun, IsTooLarge, IsLeft};
 
@@ -251,6 +253,102 @@ impl<D: Disk> Journal<D> {
                 Err(failed)
             }
         }
+    }
+
+    /// The side that is written next, and its generation.
+    fn next_side(&self) -> (Side, u64)
+        ensures side { result.0 ≡ side_renewed self.now.stage self.now.kept.side }
+        ensures generation { result.1 ≡ generation_renewed self.now.stage self.now.kept.head.generation }
+    {
+        match self.stage {
+            Stage::Blank => (self.side, self.generation),
+            _ => (other_of(self.side), next_of(self.generation)),
+        }
+    }
+
+    /// Writes the side that is next, of which these are the bytes behind its first gate, and goes on with it.
+    fn switch(&mut self, snapshot: Blob, bytes: &[u8]) -> Result<u64, BeginFault>
+        requires running { self.old.stage ≢ Stopped }
+        requires empty { self.old.batch ≡ [] }
+        requires bytes { bytes.now ≡ header (renewed self.old.stage self.old.kept snapshot).head ++ 0 ∷ [] }
+        requires fits { size (renewed self.old.stage self.old.kept snapshot).head [] ≤ self.old.limit }
+        ensures ok { IsTrue (D.disk self.old.disk).told → OnOk result
+            (self.new ≡ record self.old { disk = self.new.disk; stage = Ready; kept = renewed self.old.stage self.old.kept snapshot }) }
+        ensures head { OnOk result (self.new.kept.head ≡ (renewed self.old.stage self.old.kept snapshot).head) }
+        ensures side { OnOk result (self.new.kept.side ≡ (renewed self.old.stage self.old.kept snapshot).side) }
+        ensures ready { OnOk result (self.new.stage ≡ Ready) }
+        ensures generation { IfOk result (λ n. n ≡ (renewed self.old.stage self.old.kept snapshot).head.generation) }
+        ensures seen { IsTrue (D.disk self.old.disk).told → OnOk result (Keeps self.new.kept (D.disk self.new.disk).seen) }
+        ensures rest { IsTrue (is_clean (D.disk self.old.disk)) → OnOk result (IsTrue (is_clean (D.disk self.new.disk))) }
+        ensures any_moment { IsTrue (is_clean (D.disk self.old.disk)) → LeavesOnly (D.disk self.old.disk) (D.disk self.new.disk)
+            (StandsOrRenewed self.old.stage self.old.kept snapshot) }
+        ensures failed { IfErr result (λ fault. fault ≡ BeginFault.DiskFault) }
+        ensures left { IfErr result (λ fault. IsLeft self.old self.new fault) }
+        ensures others { (self.new.batch ≡ self.old.batch) × (self.new.records ≡ self.old.records) × (self.new.limit ≡ self.old.limit) }
+        ensures cause { IsErr result → Rose (D.disk self.old.disk).faults (D.disk self.new.disk).faults }
+        ensures told { (D.disk self.new.disk).told ≡ (D.disk self.old.disk).told }
+        ensures rising { (D.disk self.old.disk).faults ≤ (D.disk self.new.disk).faults }
+    {
+        let (side, generation) = self.next_side();
+        match rewrite_side(&mut self.disk, side, bytes) {
+            Ok(()) => {
+                self.stage = Stage::Ready;
+                self.side = side;
+                self.generation = generation;
+                self.snapshot = snapshot;
+                self.end = bytes.len() as u64;
+                Ok(generation)
+            }
+            Err(Failed) => {
+                self.stage = Stage::Stopped;
+                Err(BeginFault::DiskFault)
+            }
+        }
+    }
+
+    /// Flushes, goes on with the other side, on which a snapshot stands for the payloads, and answers its generation.
+    pub fn renew(&mut self, snapshot: &[u8]) -> Result<u64, BeginFault>
+        requires { self.old.stage ≢ Stopped }
+        ensures ok { IsTrue (D.disk self.old.disk).told → OnOk result
+            (self.new ≡ record self.old { disk = self.new.disk; stage = Ready; kept = renewed self.old.stage self.old.kept snapshot.now; batch = [] }) }
+        ensures generation { IfOk result (λ n. n ≡ (renewed self.old.stage self.old.kept snapshot.now).head.generation) }
+        ensures head { OnOk result (self.new.kept.head ≡ (renewed self.old.stage self.old.kept snapshot.now).head) }
+        ensures side { OnOk result (self.new.kept.side ≡ (renewed self.old.stage self.old.kept snapshot.now).side) }
+        ensures ready { OnOk result (self.new.stage ≡ Ready) }
+        ensures empty { OnOk result (self.new.batch ≡ []) }
+        ensures others { (self.new.records ≡ self.old.records) × (self.new.limit ≡ self.old.limit) }
+        ensures seen { IsTrue (D.disk self.old.disk).told → OnOk result (Keeps self.new.kept (D.disk self.new.disk).seen) }
+        ensures acknowledged { IsTrue (is_clean (D.disk self.old.disk)) → OnOk result
+            ((image : Sides) → (D.disk self.new.disk).images image → Keeps self.new.kept image) }
+        ensures rest { IsTrue (is_clean (D.disk self.old.disk)) → OnOk result (IsTrue (is_clean (D.disk self.new.disk))) }
+
+        // A crash at any moment of the call leaves what was acknowledged, with the batch or without, or the renewed side;
+        // once the batch is gone, the flush has ended.
+        ensures any_moment { IsTrue (is_clean (D.disk self.old.disk)) → LeavesOnly (D.disk self.old.disk) (D.disk self.new.disk)
+            (StandsMoreOrRenewed self.old.stage self.old.kept self.old.batch snapshot.now) }
+        ensures flushed { IsTrue (is_clean (D.disk self.old.disk)) → self.new.batch ≡ []
+            → LeavesRenewed self.old.stage self.old.kept self.old.batch snapshot.now (D.disk self.old.disk) (D.disk self.new.disk) }
+
+        ensures refused { IfErr result (λ fault. IsTooLarge (size (renewed self.old.stage self.old.kept snapshot.now).head []) self.old.limit fault) }
+        ensures fits { OnOk result (size (renewed self.old.stage self.old.kept snapshot.now).head [] ≤ self.old.limit) }
+        ensures left { IfErr result (λ fault. IsLeft self.old self.new fault) }
+        ensures cause { IsErrOf result BeginFault.DiskFault → Rose (D.disk self.old.disk).faults (D.disk self.new.disk).faults }
+        ensures told { (D.disk self.new.disk).told ≡ (D.disk self.old.disk).told }
+        ensures rising { (D.disk self.old.disk).faults ≤ (D.disk self.new.disk).faults }
+    {
+        let (_, generation) = self.next_side();
+        let deployment = self.deployment.as_slice();
+        let size = 24 + deployment.len() as u64 + snapshot.len() as u64;
+        if size > self.limit {
+            return Err(BeginFault::Full {
+                length: 0,
+                adding: size,
+            });
+        }
+        let bytes = header_bytes(self.alloc, generation, deployment, snapshot)?;
+        let kept = Blob::from_slice(self.alloc, snapshot)?;
+        self.flush()?;
+        self.switch(kept, &bytes)
     }
 
     /// The disk, whatever has come of the journal.

@@ -7,6 +7,7 @@ mod fault;
 mod gate;
 mod heading;
 mod journal;
+pub mod laws;
 mod reading;
 mod record;
 mod recovery;

@@ -1,5 +1,6 @@
 // What the bytes of a side stand for.
 ghost use Rattle.std.specs.Prelude.{◌≡◌, ◌≤◌, ◌<◌, ◌+◌, ◌-◌, ◌^◌, length, map, Some, Ok, IfSome, IfOk, IfErr, IsErrOf};
+ghost use Rattle.slee_disk.specs.Sides.{other};
 ghost use Rattle.commit_journal.specs.Reading.{number_at, text_at, magic_at, header_at, payload_at, payloads_of, front, next, by_generations, first_difference};
 ghost use Rattle.commit_journal.specs.Views.{Reads, head_view, front_view, GivesRecords, AtGate, Chooses, Picks};
 
@@ -172,6 +173,16 @@ pub(crate) fn next_of(generation: u64) -> u64
         0
     } else {
         generation + 1
+    }
+}
+
+/// The side beside this one.
+pub(crate) fn other_of(side: Side) -> Side
+    ensures { result ≡ other side }
+{
+    match side {
+        Side::A => Side::B,
+        Side::B => Side::A,
     }
 }
 
