@@ -1,0 +1,121 @@
+//! The state of the router.
+ghost use Rattle.std.specs.Prelude.{◌≡◌, ◌++◌, ◌^◌, ◌<◌, OnOk, IfOk, IsTrue, length};
+ghost use Rattle.router_model.specs.State.{initial, is_used_up};
+ghost use Rattle.router_model.specs.Changes.{after_changes};
+ghost use Rattle.router_rules.specs.Selection.{next};
+ghost use Rattle.router_rules.specs.History.{least_choice};
+ghost use Rattle.router_rules.specs.Step.{after, is_choice, is_enabled, step_entry};
+ghost use Rattle.router_rules.specs.Well.{IsWell};
+ghost use Rattle.router_stores.specs.Room.{HasRoom, HasNumbers};
+ghost use Rattle.router_core.specs.Plans.{AllFit, IsPlanOf, HasRoomFor};
+
+use crate::{choosing, Plan};
+use router_model::{Change, Event};
+use router_rules::Kindred;
+use router_stores::Stores;
+use slee_value::{ActivityId, NoMemory};
+use std::alloc::Global;
+use std::marker::Model;
+use trace_history::{Choice, Entry};
+
+/// The state of the router, which is always well formed.
+#[derive(Debug, Drop)]
+pub struct State {
+    stores: Stores,
+}
+
+impl Model for State {
+    ghost use Rattle.router_stores.specs.Views.{StoresView};
+    ghost use Rattle.router_rules.specs.Well.{IsWell};
+
+    ghost Value = { StoresView };
+
+    ghost view = { λ s. s.stores };
+
+    ghost invariant = { λ s. IsWell s.stores.parts };
+}
+
+/// Makes these changes, in the room that was made for them.
+fn make_all(stores: &mut Stores, changes: Vec<Change>)
+    requires room { HasRoom (length changes.items) stores.old }
+    requires numbers { HasNumbers (length changes.items) stores.old.parts }
+    requires fits { AllFit changes.items stores.old.parts }
+    ensures parts { stores.new.parts ≡ after_changes changes.items stores.old.parts }
+{
+    'each: for change in changes {
+        stores.change(change);
+    }
+}
+
+impl State {
+    /// The state at the start.
+    #[tactic(auto, using(crate::proofs::StateLemmas::starts_well))]
+    pub fn initial(alloc: Global) -> Result<Self, NoMemory>
+        ensures { IfOk result (λ s. s.parts ≡ initial) }
+    {
+        let stores = Stores::initial(alloc)?;
+        Ok(State { stores })
+    }
+
+    /// Passes on that the state is well formed.
+    pub fn well_formed(&self)
+        ensures { IsWell self.now.parts }
+    {
+        let _stores = &self.stores;
+    }
+
+    /// Whether a count has come too far for another step.
+    pub fn used_up(&self) -> bool
+        ensures { result ≡ is_used_up self.now.parts }
+    {
+        choosing::is_used_up(&self.stores)
+    }
+
+    /// How many lines were taken.
+    pub fn inputs(&self) -> u64
+        ensures { result ≡ self.now.parts.inputs }
+    {
+        self.stores.inputs()
+    }
+
+    /// Which choice is next on the activity.
+    pub fn next(&self, activity: ActivityId) -> Option<Kindred>
+        ensures { result ≡ next self.now.parts activity.0 }
+    {
+        choosing::next(&self.stores, activity)
+    }
+
+    /// The choice that is next on the least activity that has one.
+    pub fn next_choice(&self) -> Option<Choice>
+        ensures { result ≡ least_choice self.now.parts }
+    {
+        choosing::least_choice(&self.stores)
+    }
+
+    /// Whether the choice may be made.
+    pub fn is_enabled(&self, choice: &Choice) -> bool
+        ensures { result ≡ is_enabled self.now.parts choice.now }
+    {
+        choosing::is_enabled(&self.stores, choice)
+    }
+
+    /// Makes the memory for a plan.
+    pub fn reserve(&mut self, plan: &Plan) -> Result<(), NoMemory>
+        ensures kept { self.new.parts ≡ self.old.parts }
+        ensures room { OnOk result (HasRoomFor plan.now self.new) }
+    {
+        self.stores.reserve(plan.changes())
+    }
+
+    /// Does what was planned of this state, in the room that was made for it. It takes no memory.
+    pub fn apply(&mut self, plan: Plan) -> Entry
+        requires made { IsPlanOf self.old.parts plan.choice plan }
+        requires room { HasRoomFor plan self.old }
+        ensures parts { self.new.parts ≡ after self.old.parts plan.choice }
+        ensures entry { result ≡ step_entry self.old.parts plan.choice }
+    {
+        let (choice, changes, lines) = plan.into_parts();
+        make_all(&mut self.stores, changes);
+        Entry { choice, lines }
+    }
+}
