@@ -68,7 +68,7 @@ module _ (first : ℕ) (bytes : List ℕ) (ps : List (List ℕ)) (at : ℕ) (beh
         size = omega (arith, so_far.size, size, size-more ps p);
         place = omega (arith, so_far.place, size-more ps p);
         located_are =
-        ap (λ (l : List Record). l ++ record { at = at; payload = p } ∷ []) so_far.located_are ∙ ap (λ n. located first ps ++ record { at = n; payload = p } ∷ []) so_far.place ∙ sym (located-more first ps p);
+            ap (λ (l : List Record). l ++ record { at = at; payload = p } ∷ []) so_far.located_are ∙ ap (λ n. located first ps ++ record { at = n; payload = p } ∷ []) so_far.place ∙ sym (located-more first ps p);
       }
 
   pub is_short : payload_at behind ≡ None → (further : ℕ) × (payloads_of bytes ≡ Err further) × (at ≡ first + further)

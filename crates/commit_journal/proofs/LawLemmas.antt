@@ -77,8 +77,8 @@ short_stands (suc steps) (gate ∷ bytes) at are e =
                   payloads = found.0.0 ∷ others.payloads;
                   behind = others.behind;
                   parts =
-                  ap (λ n. n ∷ bytes) is_open ∙ ap (λ (l : List ℕ). 1 ∷ l) (t.0 ∙ ap (λ (l : List ℕ). text found.0.0 ++ l) others.parts ∙ sym (append_assoc (text found.0.0) (flat_map recorded others.payloads) (1 ∷ others.behind)))
-                  ∙ ap (λ (l : List ℕ). l ++ 1 ∷ others.behind) (sym (flat_map-cons recorded found.0.0 others.payloads));
+                      ap (λ n. n ∷ bytes) is_open ∙ ap (λ (l : List ℕ). 1 ∷ l) (t.0 ∙ ap (λ (l : List ℕ). text found.0.0 ++ l) others.parts ∙ sym (append_assoc (text found.0.0) (flat_map recorded others.payloads) (1 ∷ others.behind)))
+                      ∙ ap (λ (l : List ℕ). l ++ 1 ∷ others.behind) (sym (flat_map-cons recorded found.0.0 others.payloads));
                   place = omega (arith, m.2, others.place);
                   short = others.short;
                 }
@@ -118,6 +118,7 @@ sides_spelled deployment kept sides are read =
     let f = front_header deployment c.0 kept (front (on c.0 sides)) c.2 in
     let made = records_ok deployment c.0 f.0 (payloads_of f.1) kept f.3 in
     let head : f.0 ≡ kept.head = ap (λ (k : Kept). k.head) made.2 in
-    let end : length (spelled kept.head kept.payloads) ≡ first_gate f.0 + records_size kept.payloads = omega (arith, length-spelled kept.head kept.payloads, ap first_gate head) in
-    (ap (λ (h : Head). h.deployment) (sym head) ∙ records_named deployment c.0 f.0 (payloads_of f.1) kept f.3,
-    stands_in deployment sides c.0 f.0 f.1 kept (length (spelled kept.head kept.payloads)) (are c.0) c.1 (on_front c.0 sides ∙ f.2) f.3 end)
+    let end : length (spelled kept.head kept.payloads) ≡ first_gate f.0 + records_size kept.payloads = omega (arith, length-spelled kept.head kept.payloads, ap first_gate head) in (
+      ap (λ (h : Head). h.deployment) (sym head) ∙ records_named deployment c.0 f.0 (payloads_of f.1) kept f.3,
+      stands_in deployment sides c.0 f.0 f.1 kept (length (spelled kept.head kept.payloads)) (are c.0) c.1 (on_front c.0 sides ∙ f.2) f.3 end,
+    )

@@ -20,7 +20,6 @@ use Rattle.commit_journal.proofs.Counting.{counts_still, keeps}
 pub spelled_more : (head : Head) (ps batch : List (List ℕ)) → spelled head (ps ++ batch) ≡ spelled head ps ++ flat_map recorded batch
 spelled_more head ps batch = ap (λ (l : List ℕ). 1 ∷ (header head ++ l)) (flat_map-append recorded ps batch) ∙ ap (λ (l : List ℕ). 1 ∷ l) (sym (append_assoc (header head) (flat_map recorded ps) (flat_map recorded batch)))
 
-
 module _ (kept : Kept) (at : ℕ) (tail : List ℕ) (sides : Sides) (stands : StandsIn kept at tail sides) where
   abbrev whole : List ℕ
   whole = spelled kept.head kept.payloads

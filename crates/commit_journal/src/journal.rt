@@ -36,12 +36,12 @@ impl<D: Disk> Model for Journal<D> {
     ghost Value = { View D };
 
     ghost view = { λ a. record {
-        disk = a.disk;
-        stage = a.stage;
-        kept = kept_by a.side a.generation a.deployment a.snapshot (D.disk a.disk);
-        batch = a.batch;
-        records = a.records.items;
-        limit = a.limit
+      disk = a.disk;
+      stage = a.stage;
+      kept = kept_by a.side a.generation a.deployment a.snapshot (D.disk a.disk);
+      batch = a.batch;
+      records = a.records.items;
+      limit = a.limit;
     } };
 
     ghost invariant = { λ a. IsSound a.stage (kept_by a.side a.generation a.deployment a.snapshot (D.disk a.disk)) a.end a.batch a.limit (D.disk a.disk) };

@@ -6,8 +6,7 @@ pub fn what_is_spelled_is_read()
     ensures headers { HeadersAreRead }
     ensures records { RecordsAreRead }
     ensures sides { SidesAreRead }
-{
-}
+{}
 
 /// What is read was spelled so, and where a record is short, the records before it were.
 pub fn what_is_read_was_spelled()
@@ -15,5 +14,4 @@ pub fn what_is_read_was_spelled()
     ensures records { RecordsWereSpelled }
     ensures short { ShortRecordsStand }
     ensures sides { SidesWereSpelled }
-{
-}
+{}

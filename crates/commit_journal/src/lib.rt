@@ -19,3 +19,6 @@ pub use fault::{AppendFault, BeginFault, JournalBad, JournalFault};
 pub use journal::Journal;
 pub use record::Record;
 pub use stage::Stage;
+
+#[cfg(test)]
+mod tests;

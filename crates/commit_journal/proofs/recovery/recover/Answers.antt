@@ -51,8 +51,11 @@ returns-in-Ok-Some-clause-first c = if_ok c.keep.result _ _ c.keep.ensures.kept 
 pub returns-in_ok-kept-in-Ok-None-clause-found : goal.returns-in_ok-kept-in-Ok-None-clause-found
 returns-in_ok-kept-in-Ok-None-clause-found c =
     let chose = rw c.in-Ok-None.field-0-is at c.in-Ok-None.ensures in
-    inr (refl, reads_nothing c.args.deployment.now (record { a = c.args.a.now; b = c.args.b.now }) chose,
-    same_first c.in_ok-kept-in-Ok-None.kept c.args.deployment.now c.new.result (map payload_of c.new-in-Ok-None.result.items) c.in_ok-kept-in-Ok-None.ensures c.new.ensures (ap (map payload_of) c.new-in-Ok-None.ensures.items))
+    inr (
+      refl,
+      reads_nothing c.args.deployment.now (record { a = c.args.a.now; b = c.args.b.now }) chose,
+      same_first c.in_ok-kept-in-Ok-None.kept c.args.deployment.now c.new.result (map payload_of c.new-in-Ok-None.result.items) c.in_ok-kept-in-Ok-None.ensures c.new.ensures (ap (map payload_of) c.new-in-Ok-None.ensures.items),
+    )
 
 pub returns-in_ok-kept-in-Ok-None-clause-blank : goal.returns-in_ok-kept-in-Ok-None-clause-blank
 returns-in_ok-kept-in-Ok-None-clause-blank c stage = both_blank _ _ (rw c.in-Ok-None.field-0-is at c.in-Ok-None.ensures)

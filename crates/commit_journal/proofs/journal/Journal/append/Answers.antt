@@ -8,9 +8,13 @@ use Rattle.commit_journal.proofs.journal.Journal.append.Goals as goal
 pub returns-then-length-adding-clause-refused : goal.returns-then-length-adding-clause-refused
 returns-then-length-adding-clause-refused g c =
     let stage = ap (λ v. v.stage) c.self.view_is ∙ c.requires.ready in
-    rw (← c.self.view_is) ((λ told.
-    let sized = size_with _ _ _ c.self.inside.batch (c.self.invariant.ready stage told) in
-    omega (arith, sized)), refl, omega arith)
+    rw (← c.self.view_is) (
+      (λ told.
+          let sized = size_with _ _ _ c.self.inside.batch (c.self.invariant.ready stage told) in
+          omega (arith, sized)),
+      refl,
+      omega arith,
+    )
 
 pub returns-in_err-push-clause-refused : goal.returns-in_err-push-clause-refused
 returns-in_err-push-clause-refused g c =
