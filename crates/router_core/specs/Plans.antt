@@ -1,5 +1,12 @@
 -- What a plan is: the changes of a step, its lines and its payload, and when these are those of a choice in a state.
-use Rattle.std.specs.Prelude.{◌≡◌, ℕ, List, [], ◌∷◌, length, IsTrue, map, ⊤}
+use Rattle.std.specs.Prelude.{◌≡◌, ℕ, List, [], ◌∷◌, ◌==◌, length, map, filter, if◌then◌else◌, IsTrue, None, ⊤}
+use Rattle.std.specs.Str.{bytes_eq}
+use Rattle.slee_value.specs.declared.ids.ActivityId.{ActivityId}
+use Rattle.router_model.specs.Activities.{links_on}
+use Rattle.router_model.specs.Trees.{links_of}
+use Rattle.router_rules.specs.BuiltIn.{activity_end}
+use Rattle.slee_value.specs.declared.value.Value.{Value}
+use Rattle.router_model.specs.declared.rows.Event.{Event}
 use Rattle.router_model.specs.State.{Parts}
 use Rattle.router_model.specs.Changes.{after_change, after_changes}
 use Rattle.router_model.specs.Ordered.{FitsChange}
@@ -21,6 +28,22 @@ pub record PlanView : Type 0 where
   pub changes : List Change
   pub lines : List (List ℕ)
   pub payload : List ℕ
+
+-- the event that is fired next
+abbrev pub event_next : Parts → List ℕ → List (List ℕ × Value) → Event
+event_next s name fields = record { id = record { 0 = s.next_event }; name = name; fields = fields; target = None }
+
+-- what a finish changes, before closing
+abbrev pub finish_changes : ActivityId → Event → List Change
+finish_changes a v = if bytes_eq v.name activity_end then changes.Pop a ∷ changes.DropContext a ∷ [] else changes.Pop a ∷ []
+
+-- the entity is gone
+abbrev pub removal : ℕ → Change
+removal e = changes.Remove (record { 0 = e })
+
+-- the entities whose only attachment is to this activity
+abbrev pub bound_to : Parts → ℕ → List ℕ
+bound_to s a = map (λ l. l.entity.0) (filter (λ l. links_of s.links l.entity.0 == 1) (links_on s.links a))
 
 -- each change keeps the order of the lists where it stands
 abbrev pub AllFit : List Change → Parts → Type 0

@@ -10,14 +10,12 @@ ghost use Rattle.router_rules.specs.declared.kindred.Kindred.TheVariants as kind
 ghost use Rattle.router_rules.specs.History.{choice_at, least_choice};
 ghost use Rattle.router_rules.specs.Well.{IsWell};
 
+use crate::built_in::{PREPAID, handles, is_initial};
 use router_model::{Entity, Event, ServiceState};
 use router_rules::Kindred;
 use router_stores::Stores;
 use slee_value::{ActivityId, EntityId};
 use trace_history::Choice;
-
-/// The number of the one service.
-const PREPAID: u32 = 0;
 
 /// The choice of this kind on an activity.
 pub fn choice_on(activity: ActivityId, kindred: Kindred) -> Choice
@@ -68,20 +66,6 @@ fn fits_target(target: Option<u32>, service: u32) -> bool
         None => true,
         Some(target) => target == service,
     }
-}
-
-/// Whether the block call declares the event initial.
-fn is_initial(event: &str) -> bool
-    ensures { result ≡ is_initial 0 event.now }
-{
-    event == "invite"
-}
-
-/// Whether the block call handles the event.
-fn handles(event: &str) -> bool
-    ensures { result ≡ handles 0 event.now }
-{
-    event == "invite" || event == "activity-end"
 }
 
 fn is_due(stores: &Stores, activity: ActivityId, event: &Event, service: u32) -> bool

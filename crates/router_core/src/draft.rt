@@ -1,4 +1,4 @@
-ghost use Rattle.std.specs.Prelude.{◌≡◌, ◌++◌, ◌∷◌, [], OnOk};
+ghost use Rattle.std.specs.Prelude.{◌≡◌, ◌++◌, ◌∷◌, [], OnOk, IfOk};
 
 use router_model::Change;
 use slee_value::{NoMemory, Text};
@@ -31,6 +31,16 @@ impl Draft {
             changes: Vec::new(alloc),
             lines: Lines::new(alloc),
         }
+    }
+
+    /// Nothing but the heading is planned yet.
+    pub fn begun(alloc: Global, heading: Text) -> Result<Self, NoMemory>
+        ensures changes { IfOk result (λ d. d.changes ≡ []) }
+        ensures lines { IfOk result (λ d. d.lines ≡ heading ∷ []) }
+    {
+        let mut draft = Draft::new(alloc);
+        draft.tell(heading)?;
+        Ok(draft)
     }
 
     /// A change more.

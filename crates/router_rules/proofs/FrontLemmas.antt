@@ -75,7 +75,7 @@ marked_entity s a e waits there w = record {
 
 -- attachments
 
-entity_below : (rows : List Entity) (e n : ℕ) → is_entity rows e ≡ true → AreBelow number_of rows n → e < n
+pub entity_below : (rows : List Entity) (e n : ℕ) → is_entity rows e ≡ true → AreBelow number_of rows n → e < n
 entity_below [] e n there below = cc
 entity_below (row ∷ rows) e n there below = elim (or_cases (row.number.0 == e) (is_entity rows e) there) [
   | inl mine ↦ omega (arith, below.0, eqb-true row.number.0 e mine)
@@ -152,7 +152,7 @@ waits_there s a v is w =
     let found = front_all (IsBuiltInEvent s.activities) s.events a v is w.events in
     subst (λ (n : ℕ). is_activity s.activities n ≡ true) found.2 found.3.waits
 
-at_there : (rows : List Entity) (service e : ℕ) → is_root_of rows service e ≡ true → is_entity rows e ≡ true
+pub at_there : (rows : List Entity) (service e : ℕ) → is_root_of rows service e ≡ true → is_entity rows e ≡ true
 at_there rows service e is = by (entity_at rows e) refl
   where
     by : (found : Option Entity) → entity_at rows e ≡ found → is_entity rows e ≡ true

@@ -1,0 +1,185 @@
+//! A line is taken: the first refusal that stands, or what the line says.
+ghost use Rattle.std.specs.Prelude.{◌≡◌, ◌∷◌, [], IsTrue, IfOk, None, Some, option_copied, is_some};
+ghost use Rattle.signal_script.specs.Signals.{spelled, is_signal};
+ghost use Rattle.slee_value.specs.declared.value.Value.{Value as TypedValue};
+ghost use Rattle.router_model.specs.Activities.{external};
+ghost use Rattle.router_model.specs.State.{Parts};
+ghost use Rattle.router_model.specs.declared.change.Change.TheVariants as changes;
+ghost use Rattle.router_model.specs.declared.rows.AcKind.TheVariants as kinds;
+ghost use Rattle.router_rules.specs.BuiltIn.{activity_end, fields_given};
+ghost use Rattle.router_rules.specs.Lines.{input_heading, refused_line, started_line, ending_line, queued_line};
+ghost use Rattle.router_rules.specs.Taking.{unfit, unfit_event, refusal, number_named, fields_of};
+ghost use Rattle.trace_history.specs.declared.choice.Choice.TheVariants as choices;
+ghost use Rattle.router_core.specs.Plans.{IsDraftOf, event_next};
+
+use crate::{built_in, draft::Draft, telling};
+use router_model::{AcKind, Activity, Change, Event};
+use router_stores::Stores;
+use signal_script::Signal;
+use slee_value::{ActivityId, Name, NoMemory, Payload, Text};
+use std::alloc::Global;
+
+/// Why nothing can be done with an activity.
+fn unfit(found: Option<&Activity>) -> Option<&'static str>
+    ensures { option_copied result ≡ unfit (option_copied found.entry) }
+{
+    match found {
+        None => Some("unknown-activity"),
+        Some(row) => {
+            if row.ending {
+                Some("ending")
+            } else {
+                None
+            }
+        }
+    }
+}
+
+/// Why an event can't be fired.
+fn unfit_event(event: &str, service: &Option<Name>, words: &[(Name, Text)]) -> Option<&'static str>
+    ensures { option_copied result ≡ unfit_event event.now service.now words.now }
+{
+    if !built_in::is_event(event) {
+        return Some("unknown-event");
+    }
+    if service.is_some() {
+        return Some("unknown-service");
+    }
+    if !built_in::are_given(words) {
+        return Some("bad-fields");
+    }
+    None
+}
+
+/// Why the line is refused, if it is.
+fn refusal(stores: &Stores, signal: &Signal) -> Option<&'static str>
+    ensures { option_copied result ≡ refusal stores.now.parts signal.now }
+{
+    match signal {
+        Signal::Start { name } => {
+            if stores.external(name).is_some() {
+                return Some("exists");
+            }
+            None
+        }
+        Signal::End { name } => unfit(stores.external(name)),
+        Signal::Fire {
+            name,
+            event,
+            service,
+            fields,
+        } => match unfit(stores.external(name)) {
+            Some(why) => Some(why),
+            None => unfit_event(event.as_str(), service, fields.as_slice()),
+        },
+    }
+}
+
+/// The number of the external activity of this name.
+fn number_named(stores: &Stores, name: &Name) -> ActivityId
+    ensures { result.0 ≡ number_named stores.now.parts name.now }
+{
+    match stores.external(name) {
+        Some(row) => row.number,
+        None => ActivityId(0),
+    }
+}
+
+fn refused(alloc: Global, heading: Text, why: &str) -> Result<Draft, NoMemory>
+    ensures changes { IfOk result (λ d. d.changes ≡ changes.Taken ∷ []) }
+    ensures lines { IfOk result (λ d. d.lines ≡ heading ∷ refused_line why.now ∷ []) }
+{
+    let mut draft = Draft::begun(alloc, heading)?;
+    draft.change(Change::Taken)?;
+    draft.tell(telling::refused(alloc, why)?)?;
+    Ok(draft)
+}
+
+fn started(alloc: Global, stores: &Stores, heading: Text, name: &Name) -> Result<Draft, NoMemory>
+    ensures changes { IfOk result (λ d. d.changes ≡ changes.Taken ∷ changes.Start (kinds.External name.now) ∷ []) }
+    ensures lines { IfOk result (λ d. d.lines ≡ heading ∷ started_line stores.now.parts.next_activity name.now ∷ []) }
+{
+    let mut draft = Draft::begun(alloc, heading)?;
+    draft.change(Change::Taken)?;
+    let kind = AcKind::External(name.copy(alloc)?);
+    draft.change(Change::Start { kind })?;
+    draft.tell(telling::started(alloc, stores.next_activity(), name)?)?;
+    Ok(draft)
+}
+
+/// The event that is fired next.
+fn next_event(stores: &Stores, name: Text, fields: Payload) -> Event
+    ensures { result ≡ event_next stores.now.parts name fields }
+{
+    Event {
+        id: stores.next_event(),
+        name,
+        fields,
+        target: None,
+    }
+}
+
+fn ended(alloc: Global, stores: &Stores, heading: Text, activity: ActivityId) -> Result<Draft, NoMemory>
+    ensures changes { IfOk result (λ d. d.changes ≡ changes.Taken ∷ changes.End activity ∷ changes.Push activity (event_next stores.now.parts activity_end []) ∷ changes.NextEvent ∷ []) }
+    ensures lines { IfOk result (λ d. d.lines ≡ heading ∷ ending_line activity.0 ∷ queued_line stores.now.parts.next_event activity_end activity.0 ∷ []) }
+{
+    let mut draft = Draft::begun(alloc, heading)?;
+    draft.change(Change::Taken)?;
+    draft.change(Change::End { activity })?;
+    let name = Text::from_str(alloc, "activity-end")?;
+    let event = next_event(stores, name, Payload::new(alloc));
+    draft.change(Change::Push { activity, event })?;
+    draft.change(Change::NextEvent)?;
+    draft.tell(telling::ending(alloc, activity)?)?;
+    draft.tell(telling::queued(alloc, stores.next_event(), "activity-end", activity)?)?;
+    Ok(draft)
+}
+
+fn fired(alloc: Global, stores: &Stores, heading: Text, activity: ActivityId, event: &Text, fields: Payload) -> Result<Draft, NoMemory>
+    ensures changes { IfOk result (λ d. d.changes ≡ changes.Taken ∷ changes.Push activity (event_next stores.now.parts event.now fields) ∷ changes.NextEvent ∷ []) }
+    ensures lines { IfOk result (λ d. d.lines ≡ heading ∷ queued_line stores.now.parts.next_event event.now activity.0 ∷ []) }
+{
+    let mut draft = Draft::begun(alloc, heading)?;
+    draft.change(Change::Taken)?;
+    let name = event.copy(alloc)?;
+    let event = next_event(stores, name, fields);
+    draft.tell(telling::queued(alloc, stores.next_event(), event.name.as_str(), activity)?)?;
+    draft.change(Change::Push { activity, event })?;
+    draft.change(Change::NextEvent)?;
+    Ok(draft)
+}
+
+/// What a line does that isn't refused.
+#[tactic(auto, using(crate::proofs::TakingLemmas::start_drafted, crate::proofs::TakingLemmas::end_drafted, crate::proofs::TakingLemmas::fire_drafted, crate::proofs::TakingLemmas::given_where_it_stands))]
+fn obeyed(alloc: Global, stores: &Stores, heading: Text, signal: &Signal) -> Result<Draft, NoMemory>
+    requires heading { heading ≡ input_heading (spelled signal.now) }
+    requires stands { refusal stores.now.parts signal.now ≡ None }
+    ensures { IfOk result (λ d. IsDraftOf stores.now.parts (choices.Input signal.now) d) }
+{
+    match signal {
+        Signal::Start { name } => started(alloc, stores, heading, name),
+        Signal::End { name } => ended(alloc, stores, heading, number_named(stores, name)),
+        Signal::Fire {
+            name,
+            event,
+            service: _,
+            fields,
+        } => {
+            let given = built_in::given_fields(alloc, fields.as_slice())?;
+            fired(alloc, stores, heading, number_named(stores, name), event, given)
+        }
+    }
+}
+
+/// What taking a line does.
+#[tactic(auto, using(crate::proofs::TakingLemmas::refused_drafted))]
+pub fn draft(alloc: Global, stores: &Stores, signal: &Signal) -> Result<Draft, NoMemory>
+    requires { IsTrue (is_signal signal.now) }
+    ensures { IfOk result (λ d. IsDraftOf stores.now.parts (choices.Input signal.now) d) }
+{
+    let heading = telling::input(alloc, signal)?;
+    match refusal(stores, signal) {
+        Some(why) => refused(alloc, heading, why),
+        None => obeyed(alloc, stores, heading, signal),
+    }
+}
