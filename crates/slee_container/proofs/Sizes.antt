@@ -1,5 +1,5 @@
 -- The payload of a step isn't long.
-use Rattle.std.proofs.Common.{◌≡◌, ℕ, ◌+◌, ◌<◌, ◌≤◌, nat_le, Bool, true, false, ◌&&◌, List, [], ◌∷◌, ◌++◌, length, codes, refl, sym, ap, arith, inl, inr, Option, Some, None, IsTrue, length-append, map}
+use Rattle.std.proofs.Common.{◌≡◌, ℕ, ◌+◌, ◌<◌, ◌≤◌, nat_le, Bool, true, false, ◌&&◌, List, [], ◌∷◌, ◌++◌, length, codes, refl, sym, ap, arith, inl, inr, Option, Some, None, IsTrue, length-append, append-nil, map}
 use Rattle.std.specs.Option.{option_map_or}
 use Rattle.std.specs.Str.{bytes_eq}
 use Rattle.std.proofs.lemmas.Bool.{cases_Bool, and_parts, leb-true}
@@ -38,7 +38,7 @@ short_address (field ∷ []) is =
 short_address (field ∷ other ∷ fields) is = absurd cc
 
 one_size : (n : ℕ) (text : List ℕ) → length (spelling_of_effects (effects.Emit (references.Known n) text ∷ [])) ≡ 18 + length text
-one_size n text = omega arith
+one_size n text = omega (arith, ap length (append-nil text))
 
 effects_size : (v : Event) (row : Entity) → has_fields v.name v.fields ≡ true → length (spelling_of_effects (effects_of v row)) ≤ 5000
 effects_size v row is = elim (cases_Bool (bytes_eq v.name invite)) [
