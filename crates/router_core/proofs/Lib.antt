@@ -5,3 +5,5 @@ pub mod BuiltInLemmas
 pub mod TakingLemmas
 pub mod FrontLemmas
 pub mod DraftingLemmas
+pub mod ClosingLemmas
+pub mod KeepingLemmas

@@ -1,5 +1,5 @@
 -- A list of changes that is made one by one, and the state at the start.
-use Rattle.std.proofs.Common.{◌≡◌, ℕ, suc, ◌+◌, ◌^◌, ◌<◌, ◌≤◌, true, List, [], ◌∷◌, length, refl, sym, ◌∙◌, ap, subst, add-one, arith}
+use Rattle.std.proofs.Common.{◌≡◌, ℕ, suc, ◌+◌, ◌^◌, ◌<◌, ◌≤◌, true, Option, Some, None, IfSome, List, [], ◌∷◌, length, refl, sym, ◌∙◌, ap, subst, add-one, arith}
 use Rattle.router_model.specs.State.{Parts, initial}
 use Rattle.router_model.specs.Changes.{after_change, after_changes}
 use Rattle.router_model.specs.declared.change.Change.{Change}
@@ -7,7 +7,9 @@ use Rattle.router_stores.specs.Views.{StoresView}
 use Rattle.router_stores.specs.Room.{HasRoom, HasNumbers}
 use Rattle.router_stores.proofs.RoomLemmas.{numbers_after}
 use Rattle.trace_history.specs.declared.choice.Choice.{Choice}
-use Rattle.router_rules.specs.Step.{is_enabled}
+use Rattle.router_rules.specs.Step.{is_enabled, is_choice, is_next}
+use Rattle.router_rules.specs.History.{least_choice}
+use Rattle.router_rules.proofs.HistoryLemmas.{least_offered}
 use Rattle.router_rules.specs.Well.{IsWell}
 use Rattle.router_rules.proofs.StepLemmas.{initial_well, enabled_fresh, IsFresh, after_well}
 use Rattle.router_core.specs.Plans.{AllFit, PlanView, IsPlanOf}
@@ -45,3 +47,13 @@ pub planned_well : (s u t : Parts) (c : Choice) (plan : PlanView) (ds : List Cha
 planned_well s u t c plan ds is w made same after_is =
     let here : IsPlanOf s c plan = subst (λ (p : Parts). IsPlanOf p c plan) (sym is) made in
     subst IsWell (sym (after_is ∙ ap (λ (xs : List Change). after_changes xs s) same ∙ here.state)) (after_well s c here.valid here.enabled w)
+
+-- the choice of the least activity
+
+pub least_valid : (s : Parts) (found : Option Choice) → found ≡ least_choice s → IfSome found (λ c. is_choice c ≡ true)
+least_valid s None is = tt
+least_valid s (Some c) is = (least_offered s c (sym is)).valid
+
+pub least_next : (s : Parts) (found : Option Choice) → found ≡ least_choice s → IfSome found (λ c. is_next s c ≡ true)
+least_next s None is = tt
+least_next s (Some c) is = (least_offered s c (sym is)).next

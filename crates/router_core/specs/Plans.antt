@@ -1,8 +1,10 @@
 -- What a plan is: the changes of a step, its lines and its payload, and when these are those of a choice in a state.
-use Rattle.std.specs.Prelude.{◌≡◌, ℕ, List, [], ◌∷◌, ◌==◌, length, map, filter, if◌then◌else◌, IsTrue, None, ⊤}
+use Rattle.std.specs.Prelude.{◌≡◌, ℕ, List, [], ◌∷◌, ◌==◌, length, map, filter, if◌then◌else◌, IsTrue, None, Some, Option, ⊤}
+use Rattle.std.specs.Option.{option_map_or}
+use Rattle.trace_history.specs.declared.choice.Choice.TheVariants as choices
 use Rattle.std.specs.Str.{bytes_eq}
 use Rattle.slee_value.specs.declared.ids.ActivityId.{ActivityId}
-use Rattle.router_model.specs.Activities.{links_on}
+use Rattle.router_model.specs.Activities.{links_on, front}
 use Rattle.router_model.specs.Trees.{links_of}
 use Rattle.router_rules.specs.BuiltIn.{activity_end}
 use Rattle.slee_value.specs.declared.value.Value.{Value}
@@ -41,9 +43,24 @@ finish_changes a v = if bytes_eq v.name activity_end then changes.Pop a ∷ chan
 abbrev pub removal : ℕ → Change
 removal e = changes.Remove (record { 0 = e })
 
+-- the entity, if it has but one attachment
+abbrev pub alone : Parts → ℕ → List ℕ
+alone s e = if links_of s.links e == 1 then e ∷ [] else []
+
 -- the entities whose only attachment is to this activity
 abbrev pub bound_to : Parts → ℕ → List ℕ
 bound_to s a = map (λ l. l.entity.0) (filter (λ l. links_of s.links l.entity.0 == 1) (links_on s.links a))
+
+-- the activity that an event of it ends
+abbrev pub ends_with : ActivityId → Event → Option ActivityId
+ends_with a v = if bytes_eq v.name activity_end then Some a else None
+
+-- the activity that is gone after a choice
+abbrev pub activity_ended : Parts → Choice → Option ActivityId
+activity_ended s (choices.Input signal) = None
+activity_ended s (choices.Initial a) = None
+activity_ended s (choices.Deliver a) = None
+activity_ended s (choices.Finish a) = option_map_or (λ v. ends_with a v) (front s.events a.0) None
 
 -- each change keeps the order of the lists where it stands
 abbrev pub AllFit : List Change → Parts → Type 0

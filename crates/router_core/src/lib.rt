@@ -3,14 +3,18 @@
 
 mod built_in;
 mod choosing;
+mod closing;
 mod draft;
 mod drafting;
 mod fronts;
+mod keeping;
 mod plan;
+mod reading;
 mod state;
 mod taking;
 mod telling;
 
 pub use choosing::choice_on;
 pub use plan::Plan;
+pub use reading::choice_in;
 pub use state::State;

@@ -1,7 +1,6 @@
 ghost use Rattle.std.specs.Prelude.{◌≡◌, ◌<◌, ◌^◌, length};
 
 use router_model::Change;
-use slee_value::Blob;
 use std::marker::Model;
 use trace_history::{Choice, Lines};
 
@@ -11,7 +10,7 @@ pub struct Plan {
     choice: Choice,
     changes: Vec<Change>,
     lines: Lines,
-    payload: Blob,
+    payload: Vec<u8>,
 }
 
 impl Model for Plan {
@@ -19,15 +18,15 @@ impl Model for Plan {
 
     ghost Value = { PlanView };
 
-    ghost view = { λ p. record { choice = p.choice; changes = p.changes.items; lines = p.lines; payload = p.payload } };
+    ghost view = { λ p. record { choice = p.choice; changes = p.changes.items; lines = p.lines; payload = p.payload.items } };
 }
 
 impl Plan {
-    pub(crate) fn new(choice: Choice, changes: Vec<Change>, lines: Lines, payload: Blob) -> Self
+    pub(crate) fn new(choice: Choice, changes: Vec<Change>, lines: Lines, payload: Vec<u8>) -> Self
         ensures choice { result.choice ≡ choice }
         ensures changes { result.changes ≡ changes.items }
         ensures lines { result.lines ≡ lines }
-        ensures payload { result.payload ≡ payload }
+        ensures payload { result.payload ≡ payload.items }
     {
         Plan {
             choice,
@@ -48,7 +47,7 @@ impl Plan {
     pub fn payload(&self) -> &[u8]
         ensures { result.now ≡ self.now.payload }
     {
-        self.payload.as_slice()
+        &self.payload
     }
 
     pub(crate) fn changes(&self) -> &[Change]

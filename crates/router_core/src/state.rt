@@ -1,15 +1,15 @@
 //! The state of the router.
-ghost use Rattle.std.specs.Prelude.{◌≡◌, ◌++◌, ◌^◌, ◌<◌, OnOk, IfOk, IsTrue, length};
+ghost use Rattle.std.specs.Prelude.{◌≡◌, ◌++◌, ◌^◌, ◌<◌, OnOk, IfOk, IfSome, IsTrue, length};
 ghost use Rattle.router_model.specs.State.{initial, is_used_up};
 ghost use Rattle.router_model.specs.Changes.{after_changes};
 ghost use Rattle.router_rules.specs.Selection.{next};
 ghost use Rattle.router_rules.specs.History.{least_choice};
-ghost use Rattle.router_rules.specs.Step.{after, is_choice, is_enabled, step_entry};
+ghost use Rattle.router_rules.specs.Step.{after, is_choice, is_enabled, is_next, step_entry};
 ghost use Rattle.router_rules.specs.Well.{IsWell};
 ghost use Rattle.router_stores.specs.Room.{HasRoom, HasNumbers};
 ghost use Rattle.router_core.specs.Plans.{AllFit, IsPlanOf, HasRoomFor};
 
-use crate::{choosing, Plan};
+use crate::{Plan, choosing, closing, drafting, keeping};
 use router_model::{Change, Event};
 use router_rules::Kindred;
 use router_stores::Stores;
@@ -86,8 +86,11 @@ impl State {
     }
 
     /// The choice that is next on the least activity that has one.
+    #[tactic(auto, using(crate::proofs::StateLemmas::least_valid, crate::proofs::StateLemmas::least_next))]
     pub fn next_choice(&self) -> Option<Choice>
-        ensures { result ≡ least_choice self.now.parts }
+        ensures least { result ≡ least_choice self.now.parts }
+        ensures valid { IfSome result (λ choice. IsTrue (is_choice choice)) }
+        ensures next { IfSome result (λ choice. IsTrue (is_next self.now.parts choice)) }
     {
         choosing::least_choice(&self.stores)
     }
@@ -97,6 +100,19 @@ impl State {
         ensures { result ≡ is_enabled self.now.parts choice.now }
     {
         choosing::is_enabled(&self.stores, choice)
+    }
+
+    /// Plans the choice: what it changes, what it tells and what the journal is to keep of it. The state stays as it is.
+    pub fn plan(&self, alloc: Global, choice: Choice) -> Result<Plan, NoMemory>
+        requires valid { IsTrue (is_choice choice) }
+        requires enabled { IsTrue (is_enabled self.now.parts choice) }
+        ensures { IfOk result (λ plan. IsPlanOf self.now.parts choice plan) }
+    {
+        let mut draft = drafting::draft(alloc, &self.stores, &choice)?;
+        closing::close(alloc, &self.stores, &choice, &mut draft)?;
+        let payload = keeping::payload(alloc, &self.stores, &choice)?;
+        let (changes, lines) = draft.into_parts();
+        Ok(Plan::new(choice, changes, lines, payload))
     }
 
     /// Makes the memory for a plan.

@@ -1,14 +1,19 @@
 -- Histories and lists of choices that grow, and the run of one worker, a step on.
-use Rattle.std.proofs.Common.{◌≡◌, ℕ, zero, suc, ◌+◌, ◌-◌, ◌<◌, ◌≤◌, List, [], ◌∷◌, ◌++◌, map, length, refl, sym, ◌∙◌, ap, subst, arith, append_assoc, length-append, Option, Some, None, IsTrue}
+use Rattle.std.proofs.Common.{◌≡◌, ℕ, zero, suc, ◌+◌, ◌-◌, ◌<◌, ◌≤◌, List, [], ◌∷◌, ◌++◌, map, length, refl, sym, ◌∙◌, ap, subst, arith, append_assoc, length-append, Option, Some, None, IsTrue, true, false, option_map}
+use Rattle.std.specs.Option.{option_map_or}
 use Rattle.std.proofs.Math.Nat.{sub-zero}
 use Rattle.signal_script.specs.declared.signal.Signal.{Signal}
 use Rattle.trace_history.specs.Histories.{choices_of, input_of, inputs_of}
 use Rattle.trace_history.specs.declared.choice.Choice.{Choice}
 use Rattle.trace_history.specs.declared.entry.Entry.{Entry}
-use Rattle.router_model.specs.State.{Parts}
-use Rattle.router_rules.specs.Step.{after, lines_of_step, is_enabled, is_choice, step_entry}
+use Rattle.router_model.specs.State.{Parts, is_used_up}
+use Rattle.router_model.specs.Activities.{least_waiting}
+use Rattle.router_rules.specs.Selection.{next}
+use Rattle.router_rules.specs.declared.kindred.Kindred.{Kindred}
+use Rattle.router_rules.specs.declared.kindred.Kindred.TheVariants as kindreds
+use Rattle.router_rules.specs.Step.{after, lines_of_step, is_enabled, is_next, is_choice, choice_on, step_entry}
 use Rattle.router_rules.specs.Payload.{payload, payloads}
-use Rattle.router_rules.specs.History.{after_all, AreEnabled, AreChoices, replay, Legal, due, solo, IsSoFar}
+use Rattle.router_rules.specs.History.{after_all, AreEnabled, AreChoices, replay, Legal, choice_at, least_choice, due, solo, IsSoFar}
 
 -- choices
 
@@ -99,3 +104,36 @@ IsSoFar-next base steps lines h rest more e so_far room is takes choice enabled 
 
     chain : solo (steps - length h) here rest ≡ e ∷ solo left (after here e.choice) more
     chain = ap (λ n. solo n here rest) one_less ∙ solo-due left here rest more e.choice is ∙ ap (λ first. first ∷ solo left (after here e.choice) more) same
+
+-- the choice of the least activity is one that may be made, where the state isn't used up
+
+choice_on_valid : (a : ℕ) (k : Kindred) → is_choice (choice_on a k) ≡ true
+choice_on_valid a kindreds.Initial = refl
+choice_on_valid a kindreds.Deliver = refl
+choice_on_valid a kindreds.Finish = refl
+
+choice_on_next : (s : Parts) (a : ℕ) (k : Kindred) → next s a ≡ Some k → is_next s (choice_on a k) ≡ true
+choice_on_next s a kindreds.Initial is = rw is
+choice_on_next s a kindreds.Deliver is = rw is
+choice_on_next s a kindreds.Finish is = rw is
+
+-- a choice that the state gives
+pub record IsOffered (s : Parts) (c : Choice) : Type 0 where
+  pub valid : is_choice c ≡ true
+  pub next : is_next s c ≡ true
+
+at_offered : (s : Parts) (a : ℕ) (found : Option Kindred) (c : Choice) → next s a ≡ found → option_map (choice_on a) found ≡ Some c → IsOffered s c
+at_offered s a None c found is = absurd (cc)
+at_offered s a (Some k) c found is =
+    let same : choice_on a k ≡ c = cc in
+    subst (IsOffered s) same (record { valid = choice_on_valid a k; next = choice_on_next s a k found })
+
+pub least_offered : (s : Parts) (c : Choice) → least_choice s ≡ Some c → IsOffered s c
+least_offered s c is = by (least_waiting s.events) refl
+  where
+    by : (found : Option ℕ) → least_waiting s.events ≡ found → IsOffered s c
+    by None none = let no : None ≡ Some c = ap (λ (o : Option ℕ). option_map_or (choice_at s) o None) (sym none) ∙ is in absurd (cc)
+    by (Some a) found = at_offered s a (next s a) c refl (ap (λ (o : Option ℕ). option_map_or (choice_at s) o None) (sym found) ∙ is)
+
+pub offered_enabled : (s : Parts) (c : Choice) → is_used_up s ≡ false → IsOffered s c → is_enabled s c ≡ true
+offered_enabled s c fresh offered = let more : is_next s c ≡ true = offered.next in rw (fresh, more)

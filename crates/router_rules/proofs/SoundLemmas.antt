@@ -30,13 +30,14 @@ use Rattle.router_model.specs.declared.change.Change.TheVariants as changes
 use Rattle.router_model.proofs.OrderLemmas.{all_filter, all_from_all, all_pushed, order_pushed, all_map, all_put, put_is_insert, put}
 use Rattle.router_model.proofs.OrderedLemmas.{ordered_after}
 use Rattle.router_rules.specs.BuiltIn.{activity_end, invite, root_block, service_priority, service_order}
-use Rattle.router_rules.specs.Closing.{closing, removed_all, loose}
+use Rattle.router_rules.specs.Closing.{closing, lines_of_closing, removed_all, loose}
+use Rattle.router_rules.specs.Lines.{removed_line}
 use Rattle.router_rules.specs.Taking.{counted, queued, ended}
 use Rattle.router_rules.specs.Delivery.{attached, rooted, selected, selected_with, delivered, finished}
 use Rattle.router_rules.specs.Selection.{selection, due_service, is_due, first, eligible}
 use Rattle.router_rules.specs.Well.{is_entity, is_activity, is_waiting, IsBuiltInRoot, IsLinkOf, IsBuiltInActivity, IsBuiltInEvent, is_external, has_fields, event_number, queue, is_end, has_no_end, has_end_last, EndsLast, IsServiceMark, IsEntityMark, AreCounts, IsSound, IsWell, AreHeld, IsHeld}
 use Rattle.router_rules.proofs.RowLemmas.{all_both, found_all, found_passes, any_more, any_last, found_activity, found_entity, only_found, there_below, some_row, still_activity, ends_same, ended_there, queue_append, queue_absent, absent_queue, front_first, other_queue, still_waiting, front_waits, front_all, all_left, order_left, no_end_more, end_last, tail_ends, end_alone}
-use Rattle.router_rules.proofs.ClosingLemmas.{still_there, closes, closes_held, all_there, all_roots}
+use Rattle.router_rules.proofs.ClosingLemmas.{still_there, closes, closes_lines, closes_held, all_there, all_roots}
 
 -- a removal
 
@@ -87,6 +88,10 @@ removed_all_sound (e ∷ es) s w = removed_all_sound es (removed s e) (removed_s
 pub closing_loose : (s : Parts) → IsSound s → closing s ≡ removed_all (loose s.links s.entities) s
 closing_loose s w =
     rw (all_roots s.entities w.entities) (closes s.entities s w.entities w.entities w.ordered.entities (all_there s.entities))
+
+pub closing_loose_lines : (s : Parts) → IsSound s → lines_of_closing s ≡ map removed_line (loose s.links s.entities)
+closing_loose_lines s w =
+    rw (all_roots s.entities w.entities) (closes_lines s.entities s w.entities w.entities w.ordered.entities (all_there s.entities))
 
 pub closing_well : (s : Parts) → IsSound s → IsWell (closing s)
 closing_well s w = subst IsWell (sym (closing_loose s w)) (record {

@@ -66,7 +66,7 @@ unused_fresh s is =
 pub enabled_fresh : (s : Parts) (c : Choice) → is_enabled s c ≡ true → IsFresh s
 enabled_fresh s c is = unused_fresh s (not-true (is_used_up s) (and_parts (not (is_used_up s)) (is_next s c) is).0)
 
-fresh_next : (s : Parts) → IsFresh s → HasNext s
+pub fresh_next : (s : Parts) → IsFresh s → HasNext s
 fresh_next s f = record { inputs = omega (arith, f.inputs); entities = omega (arith, f.entities); activities = omega (arith, f.activities); events = omega (arith, f.events) }
 
 -- what a choice does

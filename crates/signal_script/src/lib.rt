@@ -16,7 +16,7 @@ pub use fields::Fields;
 pub use laws::{printed_is_read, read_is_spelled};
 pub use line::LINE_LIMIT;
 pub use printing::print_signal;
-pub use reading::read_signals;
+pub use reading::{read_line, read_signals};
 pub use signal::Signal;
 pub use signals::Signals;
 pub use unescaping::unescape;

@@ -25,7 +25,8 @@ pub fn read_signals(alloc: Global, bytes: &[u8]) -> Result<Signals, SignalFault>
     Ok(list)
 }
 
-fn read_line(alloc: Global, line: &[u8]) -> Result<Signal, SignalFault>
+/// The signal that one line spells, without its newline.
+pub fn read_line(alloc: Global, line: &[u8]) -> Result<Signal, SignalFault>
     ensures ok { IfOk result (λ signal. signal_of line.now ≡ Some signal) }
     ensures not_built { IsErrOf result SignalFault.NotBuilt → signal_of line.now ≡ None }
 {

@@ -1,0 +1,99 @@
+//! What the journal keeps of a step.
+ghost use Rattle.std.specs.Prelude.{◌≡◌, ◌++◌, ◌∷◌, [], ◌<◌, ◌^◌, IsTrue, IfOk, OnOk, length, Some, option_map};
+ghost use Rattle.slee_value.specs.Bytes.{spelled_u64, spelled_text};
+ghost use Rattle.slee_effect.specs.Bytes.{spelling_of_effects};
+ghost use Rattle.slee_effect.specs.declared.effect.Effect.TheVariants as effects;
+ghost use Rattle.slee_effect.specs.declared.reference.Ref.TheVariants as references;
+ghost use Rattle.signal_script.specs.Signals.{spelled, is_signal};
+ghost use Rattle.router_model.specs.Activities.{front};
+ghost use Rattle.router_rules.specs.Payload.{payload, effects_due};
+ghost use Rattle.router_rules.specs.Step.{is_choice};
+ghost use Rattle.router_rules.specs.Well.{IsWell};
+
+use crate::{built_in, choosing};
+use router_model::Event;
+use router_stores::Stores;
+use signal_script::{Signal, print_signal};
+use slee_effect::{Effect, Ref, write_effects};
+use slee_value::{ActivityId, EntityId, NoMemory, Text};
+use std::alloc::Global;
+use trace_history::Choice;
+
+#[tactic(auto, using(crate::proofs::KeepingLemmas::line_fits))]
+fn input(alloc: Global, signal: &Signal) -> Result<Vec<u8>, NoMemory>
+    requires { IsTrue (is_signal signal.now) }
+    ensures { IfOk result (λ bytes. bytes.items ≡ 1 ∷ spelled_text (spelled signal.now)) }
+{
+    let mut line = Vec::new(alloc);
+    print_signal(signal, &mut line)?;
+    let length = line.len() as u32;
+    let mut bytes = Vec::new(alloc);
+    bytes.push(1)?;
+    bytes.extend_from_slice(&length.to_le_bytes())?;
+    bytes.extend_from_slice(&line)?;
+    Ok(bytes)
+}
+
+fn numbered(alloc: Global, kind: u8, activity: ActivityId) -> Result<Vec<u8>, NoMemory>
+    ensures { IfOk result (λ bytes. bytes.items ≡ kind ∷ spelled_u64 activity.0) }
+{
+    let mut bytes = Vec::new(alloc);
+    bytes.push(kind)?;
+    bytes.extend_from_slice(&activity.0.to_le_bytes())?;
+    Ok(bytes)
+}
+
+fn write_said(alloc: Global, entity: EntityId, said: Text, into: &mut Vec<u8>) -> Result<(), NoMemory>
+    requires { length said < 2 ^ 32 }
+    ensures { OnOk result (into.new.items ≡ into.old.items ++ spelling_of_effects (effects.Emit (references.Known entity.0) said ∷ [])) }
+{
+    let entity = Ref::Known(entity.0);
+    let effect = Effect::Emit { entity, text: said };
+    write_effects(&[effect], into)
+}
+
+fn write_none(into: &mut Vec<u8>) -> Result<(), NoMemory>
+    ensures { OnOk result (into.new.items ≡ into.old.items ++ spelling_of_effects []) }
+{
+    write_effects(&[], into)
+}
+
+/// Adds the effects of the delivery that is next.
+#[tactic(auto, using(crate::proofs::KeepingLemmas::no_effects, crate::proofs::KeepingLemmas::no_receiver, crate::proofs::KeepingLemmas::one_effect, crate::proofs::KeepingLemmas::said_short))]
+fn write_due(alloc: Global, stores: &Stores, activity: ActivityId, into: &mut Vec<u8>) -> Result<(), NoMemory>
+    requires { IsWell stores.now.parts }
+    ensures { OnOk result (into.new.items ≡ into.old.items ++ spelling_of_effects (effects_due stores.now.parts activity.0)) }
+{
+    let Some(event) = stores.front(activity) else {
+        return write_none(into);
+    };
+    let Some(entity) = choosing::first(stores, activity, event) else {
+        return write_none(into);
+    };
+    let said = built_in::emitted(alloc, event)?;
+    write_said(alloc, entity.number, said, into)
+}
+
+fn delivery(alloc: Global, stores: &Stores, activity: ActivityId) -> Result<Vec<u8>, NoMemory>
+    requires { IsWell stores.now.parts }
+    ensures { IfOk result (λ bytes. bytes.items ≡ 3 ∷ (spelled_u64 activity.0 ++ (0 ∷ spelling_of_effects (effects_due stores.now.parts activity.0)))) }
+{
+    let mut bytes = numbered(alloc, 3, activity)?;
+    bytes.push(0)?;
+    write_due(alloc, stores, activity, &mut bytes)?;
+    Ok(bytes)
+}
+
+/// What the journal keeps of the choice.
+pub fn payload(alloc: Global, stores: &Stores, choice: &Choice) -> Result<Vec<u8>, NoMemory>
+    requires well { IsWell stores.now.parts }
+    requires valid { IsTrue (is_choice choice.now) }
+    ensures { IfOk result (λ bytes. bytes.items ≡ payload stores.now.parts choice.now) }
+{
+    match choice {
+        Choice::Input(signal) => input(alloc, signal),
+        Choice::Initial(activity) => numbered(alloc, 2, *activity),
+        Choice::Deliver(activity) => delivery(alloc, stores, *activity),
+        Choice::Finish(activity) => numbered(alloc, 4, *activity),
+    }
+}
