@@ -7,3 +7,4 @@ pub mod FrontLemmas
 pub mod DraftingLemmas
 pub mod ClosingLemmas
 pub mod KeepingLemmas
+pub mod ReadingLemmas

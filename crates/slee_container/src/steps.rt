@@ -128,6 +128,7 @@ impl<'d, D: Disk> Core<'d, D> {
         ensures any_moment { IsTrue self.old.origin.clean → LeavesOnly (D.disk self.old.disk) (D.disk self.new.disk)
             (RestartsIn self.old.origin self.new.history self.old.acked) }
     {
+        self.state.well_formed();
         let Ok(()) = self.state.reserve(&plan) else {
             return Err(StepFault::NoMemory);
         };

@@ -1,10 +1,18 @@
-use Rattle.std.proofs.Common.{◌≡◌, ap, sym, refl, ◌∙◌, subst, length, IsTrue, ℕ, List, [], ◌∷◌, ◌++◌}
+use Rattle.std.proofs.Common.{◌≡◌, ap, sym, refl, ◌∙◌, subst, length, ◌≤◌, IsTrue, ℕ, List, [], ◌∷◌, ◌++◌}
 use Rattle.router_model.specs.State.{Parts}
 use Rattle.router_rules.specs.Step.{after, step_entry}
+use Rattle.router_rules.proofs.StepLemmas.{payload_fits}
 use Rattle.router_core.specs.Plans.{IsPlanOf}
 use Rattle.trace_history.specs.declared.entry.Entry.{Entry}
 use Rattle.slee_container.proofs.Steps.{Flushed, Acknowledges, whole_leaves, whole_ok, whole_failed}
 use Rattle.slee_container.proofs.steps.Core.step.Goals as goal
+
+pub append-requires-clause-short : goal.append-requires-clause-short
+append-requires-clause-short g c =
+    let parts = c.self.inside.state.parts in
+    let choice = c.args.plan.choice in
+    let made : IsPlanOf parts choice c.args.plan = subst (λ (s : Parts). IsPlanOf s choice c.args.plan) (sym (ap (λ v. v.state) c.self.view_is)) c.requires.made in
+    subst (λ (bytes : List ℕ). length bytes ≤ 65536) (sym (c.payload.ensures ∙ made.payload)) (payload_fits parts choice c.well_formed.ensures made.valid)
 
 pub invariant_of-self-in-Ok-flushed : goal.invariant_of-self-in-Ok-flushed
 invariant_of-self-in-Ok-flushed g c =
