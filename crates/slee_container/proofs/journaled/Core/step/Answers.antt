@@ -5,7 +5,7 @@ use Rattle.router_rules.proofs.StepLemmas.{payload_fits}
 use Rattle.router_core.specs.Plans.{IsPlanOf}
 use Rattle.trace_history.specs.declared.entry.Entry.{Entry}
 use Rattle.slee_container.proofs.Steps.{Flushed, Acknowledges, whole_leaves, whole_ok, whole_failed}
-use Rattle.slee_container.proofs.steps.Core.step.Goals as goal
+use Rattle.slee_container.proofs.journaled.Core.step.Goals as goal
 
 pub append-requires-clause-short : goal.append-requires-clause-short
 append-requires-clause-short g c =

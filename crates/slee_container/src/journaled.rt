@@ -94,11 +94,13 @@ impl<'d, D: Disk> Core<'d, D> {
         let Ok(mut state) = State::initial(alloc) else {
             return Err((OpenFault::NoMemory, journal.into_disk()));
         };
-        if let Err(fault) = replay(alloc, &journal, &mut state) {
-            return Err((fault, journal.into_disk()));
+        match replay(alloc, &journal, &mut state) {
+            Ok(()) => {}
+            Err(fault) => return Err((fault, journal.into_disk())),
         }
-        if let Err(fault) = journal.begin() {
-            return Err((begin_fault(fault), journal.into_disk()));
+        match journal.begin() {
+            Ok(()) => {}
+            Err(fault) => return Err((begin_fault(fault), journal.into_disk())),
         }
         let side = journal.side();
         let _ = side;
