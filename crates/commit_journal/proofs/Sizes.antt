@@ -1,9 +1,11 @@
 -- How long spellings are.
-use Rattle.std.proofs.Common.{◌≡◌, ℕ, ◌+◌, List, [], ◌∷◌, ◌++◌, length, refl, ap, arith, length-append}
+use Rattle.std.proofs.Common.{◌≡◌, ℕ, ◌+◌, List, [], ◌∷◌, ◌++◌, length, refl, ◌∙◌, ap, arith, length-append}
 use Rattle.std.specs.List.{flat_map}
 use Rattle.std.proofs.lemmas.List.Concat.{flat_map-cons}
 use Rattle.commit_journal.specs.Spelling.{Head, text, recorded, header, spelled, records_size, size}
-use Rattle.commit_journal.specs.Kept.{batched}
+use Rattle.slee_disk.specs.Sides.{Sides, on}
+use Rattle.commit_journal.specs.Reading.{Kept}
+use Rattle.commit_journal.specs.Kept.{batched, StandsIn}
 
 pub length-recorded : (ps : List (List ℕ)) → length (flat_map recorded ps) ≡ records_size ps
 length-recorded [] = refl
@@ -21,3 +23,7 @@ length-spelled head ps = omega (arith, length-append (header head) (flat_map rec
 
 pub length-batched : (batch : List (List ℕ)) → length (batched batch) ≡ records_size batch + 1
 length-batched batch = omega (arith, length-append (flat_map recorded batch) (0 ∷ []), length-recorded batch)
+
+-- a side with nothing behind its last gate
+pub length-stands : (kept : Kept) (at : ℕ) (sides : Sides) → StandsIn kept at [] sides → length (on kept.side sides) ≡ size kept.head kept.payloads
+length-stands kept at sides stands = ap length stands.here ∙ omega (arith, length-append (spelled kept.head kept.payloads) (stands.gate ∷ []), length-spelled kept.head kept.payloads)

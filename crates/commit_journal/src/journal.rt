@@ -124,6 +124,8 @@ impl<D: Disk> Journal<D> {
     pub fn side(&self) -> Side
         ensures side { result ≡ self.now.kept.side }
         ensures payloads { payloads_on (on self.now.kept.side (D.disk self.now.disk).seen) ≡ self.now.kept.payloads }
+        ensures whole { self.now.stage ≡ Ready → IsTrue (D.disk self.now.disk).told
+            → length (on self.now.kept.side (D.disk self.now.disk).seen) ≡ size self.now.kept.head self.now.kept.payloads }
     {
         self.side
     }

@@ -2,7 +2,7 @@
 ghost use Rattle.std.specs.Prelude.{◌≡◌, ◌≤◌, IfOk, length, drop, option_map};
 ghost use Rattle.signal_script.specs.Signals.{signal_of};
 ghost use Rattle.trace_history.specs.declared.choice.Choice.TheVariants as choices;
-ghost use Rattle.router_rules.specs.Payload.{choice_in, input_in, activity_in};
+ghost use Rattle.router_rules.specs.Payload.{choice_in, input_in, activity_in, behind, behind_reference, behind_text, behind_effect, are_effects, is_effect_list, is_outcome};
 
 use signal_script::{SignalFault, read_line};
 use slee_value::{ActivityId, NoMemory};
@@ -43,7 +43,92 @@ fn activity_in(bytes: &[u8]) -> ActivityId
     ]))
 }
 
-/// The choice that a payload is of, if it begins as one does.
+/// What stands behind so many bytes.
+fn behind(count: usize, bytes: &[u8]) -> Option<&[u8]>
+    ensures { option_map (λ rest. rest.now) result ≡ behind count bytes.now }
+{
+    if bytes.len() < count {
+        return None;
+    }
+    Some(&bytes[count..])
+}
+
+fn behind_reference(bytes: &[u8]) -> Option<&[u8]>
+    ensures { option_map (λ rest. rest.now) result ≡ behind_reference bytes.now }
+{
+    let (kind, rest) = bytes.split_first()?;
+    if *kind == 0 {
+        return behind(8, rest);
+    }
+    if *kind == 1 {
+        return behind(4, rest);
+    }
+    None
+}
+
+fn behind_text(bytes: &[u8]) -> Option<&[u8]>
+    ensures { option_map (λ rest. rest.now) result ≡ behind_text bytes.now }
+{
+    if bytes.len() < 4 {
+        return None;
+    }
+    let (front, rest) = bytes.split_at(4);
+    let length = u32::from_le_bytes([front[0], front[1], front[2], front[3]]);
+    behind(length as usize, rest)
+}
+
+/// What stands behind an effect that emits a text, the only one that is read by now.
+fn behind_effect(bytes: &[u8]) -> Option<&[u8]>
+    ensures { option_map (λ rest. rest.now) result ≡ behind_effect bytes.now }
+{
+    let (tag, rest) = bytes.split_first()?;
+    if *tag != 16 {
+        return None;
+    }
+    match behind_reference(rest) {
+        Some(rest) => behind_text(rest),
+        None => None,
+    }
+}
+
+/// Whether the bytes are so many effects, and no more.
+#[tactic(auto, using(crate::proofs::ReadingLemmas::effects_on, crate::proofs::ReadingLemmas::effects_off, crate::proofs::ReadingLemmas::effects_end))]
+fn are_effects(count: u32, bytes: &[u8]) -> bool
+    ensures { result ≡ are_effects count bytes.now }
+{
+    let mut left = count;
+    let mut rest = bytes;
+    while left > 0 {
+        let Some(more) = behind_effect(rest) else {
+            return false;
+        };
+        rest = more;
+        left -= 1;
+    }
+    rest.is_empty()
+}
+
+fn is_effect_list(bytes: &[u8]) -> bool
+    ensures { result ≡ is_effect_list bytes.now }
+{
+    if bytes.len() < 4 {
+        return false;
+    }
+    let (front, rest) = bytes.split_at(4);
+    are_effects(u32::from_le_bytes([front[0], front[1], front[2], front[3]]), rest)
+}
+
+/// Whether the bytes are an outcome and effects.
+fn is_outcome(bytes: &[u8]) -> bool
+    ensures { result ≡ is_outcome bytes.now }
+{
+    match bytes {
+        [] => false,
+        [outcome, effects @ ..] => *outcome <= 17 && is_effect_list(effects),
+    }
+}
+
+/// The choice that a payload is of, if it is one of the grammar.
 pub fn choice_in(alloc: Global, payload: &[u8]) -> Result<Option<Choice>, NoMemory>
     ensures { IfOk result (λ found. found ≡ choice_in payload.now) }
 {
@@ -56,7 +141,7 @@ pub fn choice_in(alloc: Global, payload: &[u8]) -> Result<Option<Choice>, NoMemo
     if *kind == 2 && rest.len() == 8 {
         return Ok(Some(Choice::Initial(activity_in(rest))));
     }
-    if *kind == 3 && rest.len() >= 8 {
+    if *kind == 3 && rest.len() >= 8 && is_outcome(&rest[8..]) {
         return Ok(Some(Choice::Deliver(activity_in(rest))));
     }
     if *kind == 4 && rest.len() == 8 {

@@ -1,8 +1,9 @@
 //! The state of the router.
-ghost use Rattle.std.specs.Prelude.{◌≡◌, ◌++◌, ◌^◌, ◌<◌, OnOk, OnErr, IfOk, IfSome, IsTrue, length};
+ghost use Rattle.std.specs.Prelude.{◌≡◌, ◌++◌, ◌^◌, ◌<◌, OnOk, OnErr, IfOk, IfSome, IsTrue, length, option_copied};
 ghost use Rattle.router_model.specs.State.{initial, is_used_up};
 ghost use Rattle.router_model.specs.Changes.{after_changes};
-ghost use Rattle.router_rules.specs.Selection.{next};
+ghost use Rattle.router_rules.specs.Selection.{first, next};
+ghost use Rattle.router_model.specs.Activities.{front};
 ghost use Rattle.router_rules.specs.History.{least_choice};
 ghost use Rattle.router_rules.specs.Step.{after, is_choice, is_enabled, is_next, step_entry};
 ghost use Rattle.router_rules.specs.Show.{show_text};
@@ -11,7 +12,7 @@ ghost use Rattle.router_stores.specs.Room.{HasRoom, HasNumbers};
 ghost use Rattle.router_core.specs.Plans.{AllFit, IsPlanOf, HasRoomFor};
 
 use crate::{Plan, choosing, closing, drafting, keeping, showing};
-use router_model::{Change, Event};
+use router_model::{Change, Entity, Event, Queued};
 use router_rules::Kindred;
 use router_stores::Stores;
 use slee_value::{ActivityId, NoMemory};
@@ -124,6 +125,27 @@ impl State {
         let text = showing::show_text(alloc, &self.stores)?;
         into.extend_from_slice(&text)?;
         Ok(())
+    }
+
+    /// The events that wait, in the order in which they were fired.
+    pub fn events(&self) -> &[Queued]
+        ensures { result.now ≡ self.now.parts.events }
+    {
+        self.stores.events()
+    }
+
+    /// The event of an activity that comes next.
+    pub fn front(&self, activity: ActivityId) -> Option<&Event>
+        ensures { option_copied result ≡ front self.now.parts.events activity.0 }
+    {
+        self.stores.front(activity)
+    }
+
+    /// The entity that the event of an activity reaches next.
+    pub fn first(&self, activity: ActivityId, event: &Event) -> Option<&Entity>
+        ensures { option_copied result ≡ first self.now.parts activity.0 event.now }
+    {
+        choosing::first(&self.stores, activity, event)
     }
 
     /// Makes the memory for a plan.

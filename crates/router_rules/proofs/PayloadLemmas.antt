@@ -1,7 +1,8 @@
 -- Payloads are read back.
-use Rattle.std.proofs.Common.{◌≡◌, ℕ, suc, ◌+◌, ◌^◌, ◌<◌, ◌≤◌, ◌==◌, nat_le, ◌&&◌, Bool, true, List, [], ◌∷◌, ◌++◌, length, take, drop, refl, sym, ◌∙◌, ap, arith, Option, Some, IsTrue, option_map, if◌then◌else◌, None}
+use Rattle.std.proofs.Common.{◌≡◌, ℕ, suc, ◌+◌, ◌^◌, ◌<◌, ◌≤◌, ◌==◌, nat_le, ◌&&◌, Bool, true, List, [], ◌∷◌, ◌++◌, length, take, drop, refl, sym, ◌∙◌, ap, arith, Option, Some, IsTrue, option_map, if◌then◌else◌, None, inl, inr, codes, append-nil, length-append}
 use Rattle.std.specs.Int.{w32, w64, from_le_bytes, to_le_bytes}
-use Rattle.std.proofs.lemmas.Bool.{eq-eqb, le-leb, leb-true, and_parts, and_from}
+use Rattle.std.proofs.lemmas.Bool.{cases_Bool, eq-eqb, le-leb, leb-true, and_parts, and_from}
+use Rattle.std.proofs.lemmas.List.{drop_at}
 use Rattle.std.proofs.lemmas.Nat.{from_le_bytes-to_le_bytes_4, from_le_bytes-to_le_bytes_8}
 use Rattle.slee_value.specs.Bytes.{spelled_text, spelled_u64}
 use Rattle.slee_value.specs.declared.ids.ActivityId.{ActivityId}
@@ -13,8 +14,22 @@ use Rattle.trace_history.specs.declared.choice.Choice.{Choice}
 use Rattle.trace_history.specs.declared.choice.Choice.TheVariants as choices
 use Rattle.router_model.specs.State.{Parts}
 use Rattle.router_rules.specs.Step.{is_choice, after}
-use Rattle.router_rules.specs.Payload.{payload, payloads, choice_in, input_in, activity_in, effects_due, HasNumber}
-use Rattle.slee_effect.specs.Bytes.{spelling_of_effects}
+use Rattle.router_rules.specs.Payload.{payload, payloads, choice_in, input_in, activity_in, effects_of, effects_due, behind, behind_text, behind_effect, is_effect_list, HasNumber}
+use Rattle.std.specs.Option.{option_map_or}
+use Rattle.std.specs.Str.{bytes_eq}
+use Rattle.slee_value.specs.declared.value.Value.{Value}
+use Rattle.slee_value.specs.declared.value.Value.TheVariants as values
+use Rattle.slee_effect.specs.Bytes.{spelling_of_effects, spelled_effect}
+use Rattle.slee_effect.specs.declared.effect.Effect.{Effect}
+use Rattle.slee_effect.specs.declared.effect.Effect.TheVariants as effects
+use Rattle.slee_effect.specs.declared.reference.Ref.TheVariants as references
+use Rattle.router_model.specs.Activities.{front}
+use Rattle.router_model.specs.declared.rows.Entity.{Entity}
+use Rattle.router_model.specs.declared.rows.Event.{Event}
+use Rattle.router_rules.specs.BuiltIn.{invite, addr, address_in, text_of}
+use Rattle.router_rules.specs.Selection.{first}
+use Rattle.router_rules.specs.Well.{IsSound, is_short_text, is_address, has_fields}
+use Rattle.router_rules.proofs.RowLemmas.{front_all}
 
 -- a line that a signal is spelled by is short
 pub short_line : (signal : Signal) → is_signal signal ≡ true → length (spelled signal) ≤ 4096
@@ -32,11 +47,89 @@ input_read line signal short reads =
     let same : (from_le_bytes w32 (take 4 (spelled_text line)) == length line) ≡ true = eq-eqb _ (length line) number in
     rw (long, same, reads)
 
-pub payload_read : (s : Parts) (c : Choice) → is_choice c ≡ true → HasNumber c → choice_in (payload s c) ≡ Some c
-payload_read s (choices.Input signal) is fits = input_read (spelled signal) signal (short_line signal is) (printed_read signal is)
-payload_read s (choices.Initial a) is fits = ap (λ (b : ActivityId). Some (choices.Initial b)) (activity_read a.0 [] fits)
-payload_read s (choices.Deliver a) is fits =
+-- a text, an effect and a list of one effect are read back
+
+behind_whole : (bytes rest : List ℕ) → behind (length bytes) (bytes ++ rest) ≡ Some rest
+behind_whole bytes rest =
+    let long : nat_le (length bytes) (length (bytes ++ rest)) ≡ true = le-leb (length bytes) (length (bytes ++ rest)) (omega (arith, length-append bytes rest)) in
+    rw long (ap (λ (l : List ℕ). Some l) (drop_at bytes rest (length bytes) refl))
+
+text_read : (text rest : List ℕ) → length text < 2 ^ 32 → behind_text (spelled_text text ++ rest) ≡ Some rest
+text_read text rest short =
+    let long : nat_le 4 (length (spelled_text text ++ rest)) ≡ true = le-leb 4 (length (spelled_text text ++ rest)) (omega arith) in
+    let number : from_le_bytes w32 (take 4 (spelled_text text ++ rest)) ≡ length text = from_le_bytes-to_le_bytes_4 (length text) short in
+    rw (long, number) (behind_whole text rest)
+
+effect_read : (n : ℕ) (text rest : List ℕ) → length text < 2 ^ 32 → behind_effect (spelled_effect (effects.Emit (references.Known n) text) ++ rest) ≡ Some rest
+effect_read n text rest short =
+    let tail = spelled_u64 n ++ spelled_text text in
+    let long : nat_le 8 (length ((spelled_u64 n ++ spelled_text text) ++ rest)) ≡ true = le-leb 8 (length ((spelled_u64 n ++ spelled_text text) ++ rest)) (omega arith) in
+    rw long (text_read text rest short)
+
+one_read : (n : ℕ) (text : List ℕ) → length text < 2 ^ 32 → is_effect_list (spelling_of_effects (effects.Emit (references.Known n) text ∷ [])) ≡ true
+one_read n text short =
+    let long : nat_le 4 (length (spelling_of_effects (effects.Emit (references.Known n) text ∷ []))) ≡ true = le-leb 4 (length (spelling_of_effects (effects.Emit (references.Known n) text ∷ []))) (omega arith) in
+    rw (effect_read n text [] short, long)
+
+-- what an event of a well-formed state gives its block to emit
+
+short_text : (v : Value) → is_short_text v ≡ true → length (text_of v) ≤ 4096
+short_text (values.Int n) is = absurd cc
+short_text (values.Text text) is = leb-true (length text) 4096 is
+short_text (values.Bool b) is = absurd cc
+short_text (values.Activity a) is = absurd cc
+short_text (values.Timer t) is = absurd cc
+
+short_address : (fields : List (List ℕ × Value)) → is_address fields ≡ true → length (address_in fields) ≤ 4096
+short_address [] is = absurd cc
+short_address (field ∷ []) is =
+    let both = and_parts (bytes_eq field.0 addr) (is_short_text field.1) is in
+    rw both.0 (short_text field.1 both.1)
+short_address (field ∷ other ∷ fields) is = absurd cc
+
+one_size : (n : ℕ) (text : List ℕ) → length (spelling_of_effects (effects.Emit (references.Known n) text ∷ [])) ≡ 18 + length text
+one_size n text = omega (arith, ap length (append-nil text))
+
+-- effects that are read, and aren't long
+record AreGood (list : List Effect) : Type 0 where
+  read : is_effect_list (spelling_of_effects list) ≡ true
+  short : length (spelling_of_effects list) ≤ 5000
+
+emit_good : (n : ℕ) (text : List ℕ) → length text ≤ 4200 → AreGood (effects.Emit (references.Known n) text ∷ [])
+emit_good n text short = record { read = one_read n text (omega (arith, short)); short = omega (arith, one_size n text, short) }
+
+event_good : (v : Event) (row : Entity) → has_fields v.name v.fields ≡ true → AreGood (effects_of v row)
+event_good v row is = elim (cases_Bool (bytes_eq v.name invite)) [
+  | inl it ↦
+      let fields : is_address v.fields ≡ true = rw it at is in
+      rw it (emit_good row.number.0 (codes "call " ++ address_in v.fields) (omega (arith, short_address v.fields fields, length-append (codes "call ") (address_in v.fields))))
+  | inr other ↦ rw other (emit_good row.number.0 (codes "over") (omega arith))
+]
+
+row_good : (v : Event) (found : Option Entity) → has_fields v.name v.fields ≡ true → AreGood (option_map_or (λ row. effects_of v row) found [])
+row_good v None is = record { read = refl; short = omega arith }
+row_good v (Some row) is = event_good v row is
+
+due_good : (s : Parts) (a : ℕ) (found : Option Event) → IsSound s → front s.events a ≡ found
+    → AreGood (option_map_or (λ v. option_map_or (λ row. effects_of v row) (first s a v) []) found [])
+due_good s a None sound is = record { read = refl; short = omega arith }
+due_good s a (Some v) sound is =
+    let found = front_all _ s.events a v is sound.events in
+    row_good v (first s a v) (rw found.1 at found.3.fields)
+
+pub payload_read : (s : Parts) (c : Choice) → IsSound s → is_choice c ≡ true → HasNumber c → choice_in (payload s c) ≡ Some c
+payload_read s (choices.Input signal) sound is fits = input_read (spelled signal) signal (short_line signal is) (printed_read signal is)
+payload_read s (choices.Initial a) sound is fits = ap (λ (b : ActivityId). Some (choices.Initial b)) (activity_read a.0 [] fits)
+payload_read s (choices.Deliver a) sound is fits =
     let tail = 0 ∷ spelling_of_effects (effects_due s a.0) in
     let long : nat_le 8 (length (spelled_u64 a.0 ++ tail)) ≡ true = le-leb 8 (length (spelled_u64 a.0 ++ tail)) (omega arith) in
-    rw long (ap (λ (b : ActivityId). Some (choices.Deliver b)) (activity_read a.0 tail fits))
-payload_read s (choices.Finish a) is fits = ap (λ (b : ActivityId). Some (choices.Finish b)) (activity_read a.0 [] fits)
+    let good : is_effect_list (spelling_of_effects (effects_due s a.0)) ≡ true = (due_good s a.0 (front s.events a.0) sound refl).read in
+    rw (long, good) (ap (λ (b : ActivityId). Some (choices.Deliver b)) (activity_read a.0 tail fits))
+payload_read s (choices.Finish a) sound is fits = ap (λ (b : ActivityId). Some (choices.Finish b)) (activity_read a.0 [] fits)
+
+-- no payload is long
+pub payload_short : (s : Parts) (c : Choice) → IsSound s → is_choice c ≡ true → length (payload s c) ≤ 65536
+payload_short s (choices.Input signal) sound valid = omega (arith, short_line signal valid)
+payload_short s (choices.Initial a) sound valid = omega arith
+payload_short s (choices.Deliver a) sound valid = omega (arith, (due_good s a.0 (front s.events a.0) sound refl).short)
+payload_short s (choices.Finish a) sound valid = omega arith

@@ -28,10 +28,14 @@ use Rattle.router_rules.specs.BuiltIn.{activity_end}
 use Rattle.router_rules.specs.Closing.{closing, lines_of_closing, count_of, AreRootsHeld}
 use Rattle.router_rules.specs.Taking.{taken, after_taking, refusal}
 use Rattle.router_rules.specs.Delivery.{selected, selected_with, finished, delivered, attached, rooted}
-use Rattle.router_rules.specs.Selection.{due_service, first}
-use Rattle.router_rules.specs.Step.{after, did, told, is_enabled, is_next, is_choice, lines_of_step}
+use Rattle.router_rules.specs.Selection.{due_service, first, next_for}
+use Rattle.router_rules.specs.Step.{after, did, told, is_enabled, is_next, is_choice, lines_of_step, is_initial_next, is_deliver_next, is_finish_next}
+use Rattle.router_rules.specs.Payload.{payload, choice_in, HasNumber}
+use Rattle.router_rules.specs.declared.kindred.Kindred.{Kindred}
+use Rattle.router_rules.proofs.PayloadLemmas.{payload_read, payload_short}
+use Rattle.router_rules.proofs.RowLemmas.{front_all, there_below}
 use Rattle.router_rules.specs.History.{replay, Legal}
-use Rattle.router_rules.specs.Well.{IsBuiltInRoot, IsSound, IsWell, AreHeld, IsHeld, is_entity}
+use Rattle.router_rules.specs.Well.{IsBuiltInRoot, IsSound, IsWell, AreHeld, IsHeld, is_entity, is_activity}
 use Rattle.router_rules.proofs.ClosingLemmas.{closing_held, closing_silent, own_count, some_rows, all_roots, all_there}
 use Rattle.router_rules.proofs.SoundLemmas.{closing_well}
 use Rattle.router_rules.proofs.TakingLemmas.{HasNext, taken_sound}
@@ -225,3 +229,28 @@ step_held s c is enabled w held =
 pub lines_held : (s : Parts) (c : Choice) → is_choice c ≡ true → is_enabled s c ≡ true → IsWell s → AreHeld (did s c) → lines_of_step s c ≡ told s c
 lines_held s c is enabled w held =
     ap (λ (ls : List (List ℕ)). told s c ++ ls) (closing_silent (did s c) (held_roots_of (did s c) (did_sound s c is (fresh_next s (enabled_fresh s c enabled)) w.sound) held)) ∙ append-nil (told s c)
+
+-- what the journal keeps of a step that may be made is read back
+
+waiting_number : (s : Parts) (a : ℕ) (v : Event) → IsSound s → front s.events a ≡ Some v → a < 2 ^ 64
+waiting_number s a v sound is =
+    let found = front_all _ s.events a v is sound.events in
+    let there : is_activity s.activities a ≡ true = subst (λ (n : ℕ). is_activity s.activities n ≡ true) found.2 found.3.waits in
+    omega (arith, there_below s.activities a s.next_activity there sound.ordered.activities_below, sound.counts.activities)
+
+next_number : (s : Parts) (a : ℕ) (test : Option Kindred → Bool) (found : Option Event) → IsSound s → front s.events a ≡ found → test None ≡ false
+    → test (option_map_or (λ v. Some (next_for s a v)) found None) ≡ true → a < 2 ^ 64
+next_number s a test None sound is none may = absurd (cc)
+next_number s a test (Some v) sound is none may = waiting_number s a v sound is
+
+enabled_number : (s : Parts) (c : Choice) → IsSound s → is_next s c ≡ true → HasNumber c
+enabled_number s (choices.Input signal) sound may = tt
+enabled_number s (choices.Initial a) sound may = next_number s a.0 is_initial_next (front s.events a.0) sound refl refl may
+enabled_number s (choices.Deliver a) sound may = next_number s a.0 is_deliver_next (front s.events a.0) sound refl refl may
+enabled_number s (choices.Finish a) sound may = next_number s a.0 is_finish_next (front s.events a.0) sound refl refl may
+
+pub choice_again : (s : Parts) (c : Choice) → IsWell s → is_choice c ≡ true → is_enabled s c ≡ true → choice_in (payload s c) ≡ Some c
+choice_again s c well valid enabled = payload_read s c well.sound valid (enabled_number s c well.sound (and_parts (not (is_used_up s)) (is_next s c) enabled).1)
+
+pub payload_fits : (s : Parts) (c : Choice) → IsWell s → is_choice c ≡ true → length (payload s c) ≤ 65536
+payload_fits s c well valid = payload_short s c well.sound valid

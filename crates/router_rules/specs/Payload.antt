@@ -1,5 +1,5 @@
 -- What the journal keeps of a step, and the choice that is read back from it.
-use Rattle.std.specs.Prelude.{ℕ, ◌<◌, ◌^◌, ◌==◌, ◌&&◌, nat_le, if◌then◌else◌, List, [], ◌∷◌, ◌++◌, length, take, drop, map, Some, None, Option, option_map, ⊤}
+use Rattle.std.specs.Prelude.{ℕ, zero, suc, ◌<◌, ◌^◌, ◌==◌, ◌&&◌, nat_le, Bool, false, option_and_then, if◌then◌else◌, List, [], ◌∷◌, ◌++◌, length, take, drop, map, Some, None, Option, option_map, ⊤}
 use Rattle.std.specs.Option.{option_map_or}
 use Rattle.std.specs.Int.{w32, w64, from_le_bytes}
 use Rattle.slee_value.specs.Bytes.{spelled_u64, spelled_text}
@@ -49,13 +49,45 @@ input_in bytes =
 abbrev pub activity_in : List ℕ → ActivityId
 activity_in bytes = record { 0 = from_le_bytes w64 (take 8 bytes) }
 
--- The choice of a payload, if it begins as one does. What stands behind the activity of a delivery isn't read here.
+-- what stands behind so many bytes
+abbrev pub behind : ℕ → List ℕ → Option (List ℕ)
+behind n bytes = if nat_le n (length bytes) then Some (drop n bytes) else None
+
+-- what stands behind a reference: 0 and a number of eight bytes, or 1 and a place of four
+abbrev pub behind_reference : List ℕ → Option (List ℕ)
+behind_reference [] = None
+behind_reference (kind ∷ bytes) = if kind == 0 then behind 8 bytes else (if kind == 1 then behind 4 bytes else None)
+
+-- what stands behind a text: its length in four bytes, and its bytes
+abbrev pub behind_text : List ℕ → Option (List ℕ)
+behind_text bytes = if nat_le 4 (length bytes) then behind (from_le_bytes w32 (take 4 bytes)) (drop 4 bytes) else None
+
+-- what stands behind an effect. That which emits a text is the only one that is read by now: 16, the entity and the text.
+abbrev pub behind_effect : List ℕ → Option (List ℕ)
+behind_effect [] = None
+behind_effect (tag ∷ bytes) = if tag == 16 then option_and_then behind_text (behind_reference bytes) else None
+
+-- the bytes are so many effects, and no more
+abbrev pub are_effects : ℕ → List ℕ → Bool
+are_effects zero bytes = length bytes == 0
+are_effects (suc n) bytes = option_map_or (λ rest. are_effects n rest) (behind_effect bytes) false
+
+-- the bytes are a list of effects: their count in four bytes, and each of them
+abbrev pub is_effect_list : List ℕ → Bool
+is_effect_list bytes = nat_le 4 (length bytes) && are_effects (from_le_bytes w32 (take 4 bytes)) (drop 4 bytes)
+
+-- what stands behind the activity of a delivery: an outcome, which is a byte up to 17, and the effects
+abbrev pub is_outcome : List ℕ → Bool
+is_outcome [] = false
+is_outcome (outcome ∷ bytes) = nat_le outcome 17 && is_effect_list bytes
+
+-- the choice of a payload, if it is one of this grammar
 abbrev pub choice_in : List ℕ → Option Choice
 choice_in [] = None
 choice_in (kind ∷ rest) =
     if kind == 1 then input_in rest
     else (if kind == 2 then (if length rest == 8 then Some (choices.Initial (activity_in rest)) else None)
-    else (if kind == 3 then (if nat_le 8 (length rest) then Some (choices.Deliver (activity_in rest)) else None)
+    else (if kind == 3 then (if nat_le 8 (length rest) && is_outcome (drop 8 rest) then Some (choices.Deliver (activity_in rest)) else None)
     else (if kind == 4 then (if length rest == 8 then Some (choices.Finish (activity_in rest)) else None)
     else None)))
 

@@ -1,11 +1,11 @@
 //! Laws of steps and of what the journal keeps of them. Each is proved of the definitions alone.
-ghost use Rattle.std.specs.Prelude.{◌≡◌, IsTrue, List, [], Some};
+ghost use Rattle.std.specs.Prelude.{◌≡◌, ◌≤◌, length, IsTrue, List, [], Some};
 ghost use Rattle.router_model.specs.State.{Parts, initial};
 ghost use Rattle.trace_history.specs.declared.choice.Choice.{Choice};
 ghost use Rattle.trace_history.specs.declared.entry.Entry.{Entry};
 ghost use Rattle.router_rules.specs.Closing.{closing, lines_of_closing, AreRootsHeld};
 ghost use Rattle.router_rules.specs.History.{replay, Legal};
-ghost use Rattle.router_rules.specs.Payload.{payload, choice_in, HasNumber};
+ghost use Rattle.router_rules.specs.Payload.{payload, choice_in};
 ghost use Rattle.router_rules.specs.Step.{after, is_choice, is_enabled};
 ghost use Rattle.router_rules.specs.Well.{IsWell};
 
@@ -41,8 +41,14 @@ pub fn closing_again_changes_nothing()
     ensures lines { (s : Parts) → IsWell s → lines_of_closing s ≡ [] }
 {}
 
-/// The choice of a payload is the one that it was made of.
-#[tactic(auto, using(crate::proofs::PayloadLemmas::payload_read))]
+/// The choice of a payload is the one that it was made of, where it may be made.
+#[tactic(auto, using(crate::proofs::StepLemmas::choice_again))]
 pub fn payloads_are_read()
-    ensures { (s : Parts) (c : Choice) → IsTrue (is_choice c) → HasNumber c → choice_in (payload s c) ≡ Some c }
+    ensures { (s : Parts) (c : Choice) → IsWell s → IsTrue (is_choice c) → IsTrue (is_enabled s c) → choice_in (payload s c) ≡ Some c }
+{}
+
+/// No payload is longer than a record of the journal may be.
+#[tactic(auto, using(crate::proofs::StepLemmas::payload_fits))]
+pub fn payloads_are_short()
+    ensures { (s : Parts) (c : Choice) → IsWell s → IsTrue (is_choice c) → length (payload s c) ≤ 65536 }
 {}

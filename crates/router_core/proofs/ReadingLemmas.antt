@@ -1,0 +1,18 @@
+-- Effects that are read one after another.
+use Rattle.std.proofs.Common.{◌≡◌, ℕ, zero, suc, ◌-◌, ◌<◌, ◌==◌, true, false, List, [], ◌∷◌, length, refl, sym, ◌∙◌, ap, subst, arith, Option, Some, None, option_map}
+use Rattle.std.specs.Option.{option_map_or}
+use Rattle.router_rules.specs.Payload.{behind_effect, are_effects}
+
+pub effects_on : (n : ℕ) (bytes rest : List ℕ) → 0 < n → behind_effect bytes ≡ Some rest → are_effects (n - 1) rest ≡ are_effects n bytes
+effects_on zero bytes rest some is = absurd (omega arith)
+effects_on (suc n) bytes rest some is =
+    let less : suc n - 1 ≡ n = omega arith in
+    ap (λ m. are_effects m rest) less ∙ ap (λ (found : Option (List ℕ)). option_map_or (λ more. are_effects n more) found false) (sym is)
+
+pub effects_off : (n : ℕ) (bytes : List ℕ) → 0 < n → behind_effect bytes ≡ None → are_effects n bytes ≡ false
+effects_off zero bytes some is = absurd (omega arith)
+effects_off (suc n) bytes some is = ap (λ (found : Option (List ℕ)). option_map_or (λ more. are_effects n more) found false) is
+
+pub effects_end : (n : ℕ) (bytes : List ℕ) → n ≡ 0 → are_effects n bytes ≡ (length bytes == 0)
+effects_end zero bytes is = refl
+effects_end (suc n) bytes is = absurd (omega arith)
