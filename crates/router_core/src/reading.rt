@@ -115,7 +115,10 @@ fn is_effect_list(bytes: &[u8]) -> bool
         return false;
     }
     let (front, rest) = bytes.split_at(4);
-    are_effects(u32::from_le_bytes([front[0], front[1], front[2], front[3]]), rest)
+    are_effects(
+        u32::from_le_bytes([front[0], front[1], front[2], front[3]]),
+        rest,
+    )
 }
 
 /// Whether the bytes are an outcome and effects.

@@ -24,5 +24,4 @@ pub fn spelled_is_command()
 /// and want of memory.
 pub fn run_is_determined()
     ensures { (base : Parts) (words : List (List ℕ)) (bytes : List ℕ) (h k : List Entry) (s t : Status) → IsRun base words (Some bytes) h s → IsRun base words (Some bytes) k t → (IsByFault s → ⊥) → (IsByFault t → ⊥) → (s ≡ t) × (h ≡ k) }
-{
-}
+{}
