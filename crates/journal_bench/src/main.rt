@@ -3,6 +3,9 @@
 //! of SIZE bytes each. It ends with status 0, 1 for a fault and 2 for other words.
 #![tactic(auto)]
 
+ghost use Rattle.std.specs.Prelude.{◌≡◌, ◌≤◌, length, OnOk};
+ghost use Rattle.commit_journal.specs.declared.stage.Stage.TheVariants.{Ready};
+
 use commit_journal::{Journal, JournalBad, JournalFault};
 use slee_disk::{Disk, HostDisk, Side};
 use std::alloc::Global;
@@ -11,6 +14,10 @@ use std::{env, io};
 
 /// The most bytes of a side.
 const LIMIT: u64 = 268_435_456;
+
+/// No payload more was acknowledged.
+#[derive(Drop)]
+struct Refused;
 
 fn main(rt: HostRuntime) -> ExitCode {
     match words_of(&rt) {
@@ -43,7 +50,7 @@ fn run(rt: &HostRuntime, words: &[String]) -> ExitCode {
 }
 
 /// Prints what the two files stand for.
-fn open<D: Disk>(rt: &HostRuntime, disk: D, deployment: &str) -> ExitCode {
+fn open<D: Disk + Drop>(rt: &HostRuntime, disk: D, deployment: &str) -> ExitCode {
     match Journal::open(rt.alloc(), disk, deployment.as_bytes(), LIMIT) {
         Ok(journal) => told(println!(rt; "records {}", journal.records().len())),
         Err((fault, _disk)) => {
@@ -93,7 +100,7 @@ fn kind_word(kind: JournalBad) -> &'static str {
 }
 
 /// Appends and flushes this many payloads; how many of them are acknowledged, or none after a fault.
-fn write<D: Disk>(alloc: Global, disk: D, count: u32, size: u16) -> Option<u32> {
+fn write<D: Disk + Drop>(alloc: Global, disk: D, count: u32, size: u16) -> Option<u32> {
     let payload = vec![in alloc; b'.'; usize::from(size)].ok()?;
     let Ok(mut journal) = Journal::open(alloc, disk, b"bench", LIMIT) else {
         return None;
@@ -101,15 +108,27 @@ fn write<D: Disk>(alloc: Global, disk: D, count: u32, size: u16) -> Option<u32> 
     let Ok(()) = journal.begin() else {
         return None;
     };
-    for _ in 0..count {
-        let Ok(()) = journal.append(&payload) else {
-            return None;
-        };
-        let Ok(()) = journal.flush() else {
+    'payloads: for _ in 0..count {
+        let Ok(()) = write_one(&mut journal, &payload) else {
             return None;
         };
     }
     Some(count)
+}
+
+/// Appends a payload and flushes it.
+fn write_one<D: Disk>(journal: &mut Journal<D>, payload: &[u8]) -> Result<(), Refused>
+    requires ready { journal.old.stage ≡ Ready }
+    requires short { length payload.now ≤ 65536 }
+    ensures { OnOk result (journal.new.stage ≡ Ready) }
+{
+    let Ok(()) = journal.append(payload) else {
+        return Err(Refused);
+    };
+    let Ok(()) = journal.flush() else {
+        return Err(Refused);
+    };
+    Ok(())
 }
 
 fn written(rt: &HostRuntime, count: Option<u32>) -> ExitCode {
