@@ -19,6 +19,3 @@ pub use fault::{AppendFault, BeginFault, JournalBad, JournalFault};
 pub use journal::Journal;
 pub use record::Record;
 pub use stage::Stage;
-
-#[cfg(test)]
-mod tests;

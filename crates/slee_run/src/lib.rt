@@ -15,6 +15,3 @@ pub use laws::{command_is_spelled, run_is_determined, spelled_is_command};
 pub use status::{Given, Status};
 pub use top::run_one;
 pub use words::command_of;
-
-#[cfg(test)]
-mod tests;
