@@ -8,7 +8,5 @@ mod queues;
 mod roots;
 mod stores;
 mod tallies;
-#[cfg(test)]
-mod tests;
 
 pub use stores::Stores;
