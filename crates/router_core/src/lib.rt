@@ -19,6 +19,3 @@ pub use choosing::choice_on;
 pub use plan::Plan;
 pub use reading::choice_in;
 pub use state::State;
-
-#[cfg(test)]
-mod tests;

@@ -33,16 +33,25 @@ pub struct Played {
 }
 
 /// Plays the signals, in so many entries at most.
-#[tactic(auto, using(crate::proofs::PlayLemmas::unplayed))]
 pub fn play(alloc: Global, signals: &Signals, steps: u64) -> Played
     ensures { IsPlayed initial steps signals.now result.history.entries result.end }
 {
     let mut history = History::new(alloc);
-    let end = match State::initial(alloc) {
-        Ok(mut state) => play_from(alloc, &mut state, &mut history, signals.as_slice(), steps),
-        Err(_) => End::NoMemory,
-    };
+    let end = play_all(alloc, &mut history, signals.as_slice(), steps);
     Played { history, end }
+}
+
+/// Makes the initial state, and plays the signals from there.
+#[tactic(auto, using(crate::proofs::PlayLemmas::unplayed))]
+fn play_all(alloc: Global, history: &mut History, signals: &[Signal], steps: u64) -> End
+    requires history { history.old.entries ≡ [] }
+    requires valid { IsTrue (list_all is_signal signals.now) }
+    ensures { IsPlayed initial steps signals.now history.new.entries result }
+{
+    let Ok(mut state) = State::initial(alloc) else {
+        return End::NoMemory;
+    };
+    play_from(alloc, &mut state, history, signals, steps)
 }
 
 /// Plays the signals from the initial state on.
