@@ -1,6 +1,6 @@
 //! Steps of the router that are kept in a journal, and what they leave on the disk.
 ghost use Rattle.slee_container.specs.Opening.{fault_of, begin_fault_of};
-ghost use Rattle.std.specs.Prelude.{◌≡◌, ◌≤◌, ◌<◌, ◌+◌, [], true, false, length, IsTrue, Some, None, Ok, IfOk, IfErr, OnOk, OnErr};
+ghost use Rattle.std.specs.Prelude.{◌≡◌, ◌≤◌, ◌<◌, ◌+◌, [], true, false, length, IsTrue, Some, None, Ok, IfOk, IfErr, OnOk, OnErr, IsErrOf};
 
 use crate::replaying::replay;
 use crate::{OpenFault, StepFault, Stop};
@@ -127,6 +127,7 @@ impl<'d, D: Disk> Core<'d, D> {
         ensures step { Stepped self.old plan.choice result self.new }
         ensures origin { self.new.origin ≡ self.old.origin }
         ensures limit { self.new.limit ≡ self.old.limit }
+        ensures failed { IsErrOf result StepFault.DiskFault → Rose (D.disk self.old.disk).faults (D.disk self.new.disk).faults }
 
         // A crash at any moment of the call leaves what was acknowledged before it.
         ensures any_moment { IsTrue self.old.origin.clean → LeavesOnly (D.disk self.old.disk) (D.disk self.new.disk)
@@ -172,6 +173,7 @@ impl<'d, D: Disk> Core<'d, D> {
         ensures step { Stepped self.old choice result self.new }
         ensures origin { self.new.origin ≡ self.old.origin }
         ensures limit { self.new.limit ≡ self.old.limit }
+        ensures failed { IsErrOf result StepFault.DiskFault → Rose (D.disk self.old.disk).faults (D.disk self.new.disk).faults }
         ensures any_moment { IsTrue self.old.origin.clean → LeavesOnly (D.disk self.old.disk) (D.disk self.new.disk)
             (RestartsIn self.old.origin self.new.history self.old.acked) }
     {
