@@ -38,7 +38,7 @@ Statuses, printed last and given as the exit status:
   2 bad-words      the words are of no form, or a number is out of range
   3 read-fault     standard input failed
   6 (none)         standard output failed; a front of the text is out
-  7 disk-fault     a file of the journal failed; open it again to see what it has
+  7 disk-fault     a file of the journal failed; what it has, show tells
   8 bad-journal SIDE AT KIND
                    the journal is damaged: in file a or b, at this byte, by its
                    header, length, sides, snapshot, record or replay
