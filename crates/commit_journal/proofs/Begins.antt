@@ -94,7 +94,7 @@ module _ (kept : Kept) (end : ℕ) (batch : List (List ℕ)) (limit : ℕ) (old 
   abbrev first : Kept
   first = record { side = kept.side; head = kept.head; payloads = [] }
 
-  is_header : behind ≡ header kept.head ++ 0 ∷ []
+  pub is_header : behind ≡ header kept.head ++ 0 ∷ []
   is_header = is ∙ ap (λ (l : List ℕ). header (record { generation = kept.head.generation; deployment = kept.head.deployment; snapshot = l }) ++ 0 ∷ []) (sym (sound.first refl))
 
   pub head_fits : FitsHead kept.head

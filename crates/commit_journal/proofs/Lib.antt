@@ -15,4 +15,5 @@ pub mod Newer
 pub mod Rewrites
 pub mod Begins
 pub mod Renewals
+pub mod Bytes
 pub mod LawLemmas

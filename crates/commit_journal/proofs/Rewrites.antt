@@ -23,7 +23,7 @@ by_case (inl x) f g h = f x
 by_case (inr (inl y)) f g h = g y
 by_case (inr (inr z)) f g h = h z
 
-other_twice : (side : Side) → other (other side) ≡ side
+pub other_twice : (side : Side) → other (other side) ≡ side
 other_twice A = refl
 other_twice B = refl
 
@@ -54,7 +54,7 @@ module _ (side : Side) (head : Head) (behind : List ℕ) (fits : FitsHead head) 
   abbrev new : Kept
   new = record { side = side; head = head; payloads = [] }
 
-  spelled_here : (bytes : List ℕ) → bytes ≡ 1 ∷ behind → bytes ≡ spelled head [] ++ 0 ∷ []
+  pub spelled_here : (bytes : List ℕ) → bytes ≡ 1 ∷ behind → bytes ≡ spelled head [] ++ 0 ∷ []
   spelled_here bytes opened = opened ∙ ap (λ (l : List ℕ). 1 ∷ l) is ∙ ap (λ (l : List ℕ). 1 ∷ (l ++ 0 ∷ [])) (sym (append-nil (header head)))
 
   begins_here : (sides : Sides) → on side sides ≡ 1 ∷ behind → front (on side sides) ≡ Header head (0 ∷ [])

@@ -48,7 +48,7 @@ module _ (kept : Kept) (at : ℕ) (sides : Sides) (stands : StandsIn kept at [] 
     shut = λ open_gate. stands.shut (sym (get_or-append_seam (whole kept at [] sides stands) stands.gate [] 0) ∙ sym (ap (λ (l : List ℕ). get_or l (length (whole kept at [] sides stands)) 0) stands.here) ∙ ap (λ n. get_or (on kept.side sides) n 0) (sym stands.place) ∙ open_gate);
   }
 
-  opened_here : (batch : List (List ℕ)) (behind here : List ℕ) → 1 ∷ behind ≡ batched batch → here ≡ take at (on kept.side sides) ++ 1 ∷ behind → here ≡ spelled kept.head (kept.payloads ++ batch) ++ 0 ∷ []
+  pub opened_here : (batch : List (List ℕ)) (behind here : List ℕ) → 1 ∷ behind ≡ batched batch → here ≡ take at (on kept.side sides) ++ 1 ∷ behind → here ≡ spelled kept.head (kept.payloads ++ batch) ++ 0 ∷ []
   opened_here batch behind here is opened =
       opened ∙ ap (λ (l : List ℕ). l ++ 1 ∷ behind) (stands_front kept at [] sides stands) ∙ ap (λ (l : List ℕ). spelled kept.head kept.payloads ++ l) is ∙ sym (append_assoc (spelled kept.head kept.payloads) (flat_map recorded batch) (0 ∷ [])) ∙ ap (λ (l : List ℕ). l ++ 0 ∷ []) (sym (spelled_more kept.head kept.payloads batch))
 

@@ -8,4 +8,5 @@ pub mod Batch
 pub mod Journal
 pub mod Rewriting
 pub mod Renewal
+pub mod Written
 pub mod Laws

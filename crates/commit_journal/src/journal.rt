@@ -1,4 +1,4 @@
-ghost use Rattle.std.specs.Prelude.{◌≡◌, ◌≢◌, ◌⊎◌, ◌<◌, ◌≤◌, ◌+◌, ◌^◌, [], ◌∷◌, ◌++◌, length, IsTrue, OnOk, OnErr, IfOk, IfErr, IsErr, IsErrOf, IsOk};
+ghost use Rattle.std.specs.Prelude.{◌≡◌, ◌≢◌, ◌⊎◌, ◌<◌, ◌≤◌, ◌+◌, ◌^◌, [], ◌∷◌, ◌++◌, length, take, IsTrue, OnOk, OnErr, IfOk, IfErr, IsErr, IsErrOf, IsOk};
 
 use crate::batch::Batch;
 use crate::blank::{rewrite_side, write_side};
@@ -49,13 +49,15 @@ impl<D: Disk> Model for Journal<D> {
 
 impl<D: Disk> Journal<D> {
     ghost use Rattle.slee_disk.specs.Causes.{Rose};
-    ghost use Rattle.slee_disk.specs.Sides.{Sides, on};
+    ghost use Rattle.slee_disk.specs.Sides.{Sides, on, other};
     ghost use Rattle.slee_disk.specs.Disk.{LeavesOnly, Looks, is_clean};
     ghost use Rattle.commit_journal.specs.declared.stage.Stage.TheVariants.{Ready, Stopped};
+    ghost use Rattle.commit_journal.specs.declared.stage.Stage.TheVariants as stages;
     ghost use Rattle.commit_journal.specs.Spelling.{header, records_size, size};
     ghost use Rattle.commit_journal.specs.Reading.{first_gate, recovered};
     ghost use Rattle.commit_journal.specs.Kept.{IsWhole, with_more, Keeps, Stands, StandsOrMore, StandsOrBegun, side_renewed, generation_renewed, renewed, StandsOrRenewed};
     ghost use Rattle.commit_journal.specs.Renewal.{StandsMoreOrRenewed, LeavesRenewed};
+    ghost use Rattle.commit_journal.specs.Written.{IsWritten, IsUntouched};
     ghost use Rattle.commit_journal.specs.Views.{IsCause, located};
     ghost use Rattle.commit_journal.specs.Journal.{payloads_on, IsOpenedAs, IsSameSide, Refuses, size_begun, IsTooLarge, IsLeft};
 
@@ -150,6 +152,13 @@ impl<D: Disk> Journal<D> {
             ((image : Sides) → (D.disk self.new.disk).images image → Keeps self.new.kept image) }
         ensures rest { IsTrue (is_clean (D.disk self.old.disk)) → OnOk result (IsTrue (is_clean (D.disk self.new.disk))) }
 
+        // The bytes: a blank side is written whole, any other is cut behind its last gate, and the other side is left alone.
+        ensures written { IsTrue (D.disk self.old.disk).told → self.old.stage ≡ stages.Blank → OnOk result (IsWritten self.new.kept (D.disk self.new.disk).seen) }
+        ensures cut { IsTrue (D.disk self.old.disk).told → self.old.stage ≢ stages.Blank → OnOk result
+            (on self.old.kept.side (D.disk self.new.disk).seen ≡ take (size self.old.kept.head self.old.kept.payloads) (on self.old.kept.side (D.disk self.old.disk).seen)) }
+        ensures beside { IsTrue (D.disk self.old.disk).told → OnOk result
+            (IsUntouched (other self.old.kept.side) (D.disk self.old.disk).seen (D.disk self.new.disk).seen) }
+
         // A crash at any moment of the call leaves what stood, or the side that is begun.
         ensures any_moment { IsTrue (is_clean (D.disk self.old.disk)) → LeavesOnly (D.disk self.old.disk) (D.disk self.new.disk)
             (StandsOrBegun self.old.stage self.old.kept) }
@@ -195,7 +204,7 @@ impl<D: Disk> Journal<D> {
         }
     }
 
-    /// Adds a payload to the batch.
+    /// Adds a payload to the batch, without a call of the disk.
     pub fn append(&mut self, payload: &[u8]) -> Result<(), AppendFault>
         requires ready { self.old.stage ≡ Ready }
         requires short { length payload.now ≤ 65536 }
@@ -215,7 +224,7 @@ impl<D: Disk> Journal<D> {
         Ok(())
     }
 
-    /// Writes the batch. At `Ok` it is acknowledged.
+    /// Writes the batch. At `Ok` it is acknowledged. It makes four calls of the disk, however many payloads there are.
     pub fn flush(&mut self) -> Result<(), Failed>
         requires { self.old.stage ≢ Stopped }
         ensures ok { IsTrue (D.disk self.old.disk).told → OnOk result
@@ -227,6 +236,11 @@ impl<D: Disk> Journal<D> {
         ensures acknowledged { IsTrue (is_clean (D.disk self.old.disk)) → OnOk result
             ((image : Sides) → (D.disk self.new.disk).images image → Stands self.new.stage self.new.kept image) }
         ensures rest { IsTrue (is_clean (D.disk self.old.disk)) → OnOk result (IsTrue (is_clean (D.disk self.new.disk))) }
+
+        // The bytes: the last gate that is written is a zero, and the other side is left alone.
+        ensures written { IsTrue (D.disk self.old.disk).told → self.old.batch ≢ [] → OnOk result (IsWritten self.new.kept (D.disk self.new.disk).seen) }
+        ensures beside { IsTrue (D.disk self.old.disk).told → OnOk result
+            (IsUntouched (other self.old.kept.side) (D.disk self.old.disk).seen (D.disk self.new.disk).seen) }
 
         // A crash at any moment of the call leaves what was acknowledged, with the batch or without.
         ensures any_moment { IsTrue (is_clean (D.disk self.old.disk)) → LeavesOnly (D.disk self.old.disk) (D.disk self.new.disk)
@@ -285,6 +299,9 @@ impl<D: Disk> Journal<D> {
         ensures whole { IsTrue (D.disk self.old.disk).told → OnOk result (IsWhole self.new.kept (D.disk self.new.disk).seen) }
         ensures seen { IsTrue (D.disk self.old.disk).told → OnOk result (Keeps self.new.kept (D.disk self.new.disk).seen) }
         ensures rest { IsTrue (is_clean (D.disk self.old.disk)) → OnOk result (IsTrue (is_clean (D.disk self.new.disk))) }
+        ensures written { IsTrue (D.disk self.old.disk).told → OnOk result (IsWritten self.new.kept (D.disk self.new.disk).seen) }
+        ensures beside { IsTrue (D.disk self.old.disk).told → OnOk result
+            (IsUntouched (other (side_renewed self.old.stage self.old.kept.side)) (D.disk self.old.disk).seen (D.disk self.new.disk).seen) }
         ensures any_moment { IsTrue (is_clean (D.disk self.old.disk)) → LeavesOnly (D.disk self.old.disk) (D.disk self.new.disk)
             (StandsOrRenewed self.old.stage self.old.kept snapshot) }
         ensures failed { IfErr result (λ fault. fault ≡ BeginFault.DiskFault) }
@@ -327,6 +344,13 @@ impl<D: Disk> Journal<D> {
         ensures acknowledged { IsTrue (is_clean (D.disk self.old.disk)) → OnOk result
             ((image : Sides) → (D.disk self.new.disk).images image → Keeps self.new.kept image) }
         ensures rest { IsTrue (is_clean (D.disk self.old.disk)) → OnOk result (IsTrue (is_clean (D.disk self.new.disk))) }
+
+        // The bytes: the renewed side is written whole, and the other one stays as the flush leaves it.
+        ensures written { IsTrue (D.disk self.old.disk).told → OnOk result (IsWritten self.new.kept (D.disk self.new.disk).seen) }
+        ensures beside { IsTrue (D.disk self.old.disk).told → self.old.batch ≡ [] → OnOk result
+            (IsUntouched (other (side_renewed self.old.stage self.old.kept.side)) (D.disk self.old.disk).seen (D.disk self.new.disk).seen) }
+        ensures beside_flushed { IsTrue (D.disk self.old.disk).told → self.old.batch ≢ [] → OnOk result
+            (IsWritten (with_more self.old.kept self.old.batch) (D.disk self.new.disk).seen) }
 
         // A crash at any moment of the call leaves what was acknowledged, with the batch or without, or the renewed side;
         // once the batch is gone, the flush has ended.

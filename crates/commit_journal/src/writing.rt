@@ -1,11 +1,13 @@
 // A batch on its way to the disk.
-ghost use Rattle.std.specs.Prelude.{◌≡◌, ◌≢◌, ◌<◌, ◌≤◌, ◌+◌, ◌^◌, [], IsTrue, OnOk, IsErr};
+ghost use Rattle.std.specs.Prelude.{◌≡◌, ◌≢◌, ◌<◌, ◌≤◌, ◌+◌, ◌^◌, [], take, IsTrue, OnOk, IsErr};
 ghost use Rattle.slee_disk.specs.Causes.{Rose};
+ghost use Rattle.slee_disk.specs.Sides.{on, other, AtSide};
 ghost use Rattle.slee_disk.specs.Disk.{LeavesOnly, is_clean};
 ghost use Rattle.commit_journal.specs.Gate.{EndsShut};
 ghost use Rattle.commit_journal.specs.Spelling.{records_size};
 ghost use Rattle.commit_journal.specs.Reading.{Kept};
 ghost use Rattle.commit_journal.specs.Kept.{StandsIn, StandsFound, Keeps, with_more, KeepsOrMore};
+ghost use Rattle.commit_journal.specs.Written.{IsWritten, IsUntouched};
 
 use crate::batch::Batch;
 use crate::gate::open_gate;
@@ -23,6 +25,9 @@ pub(crate) fn write_batch<D: Disk>(
     requires shut { IsTrue (D.disk disk.old).told → EndsShut side at (D.disk disk.old).seen }
     ensures acknowledged { (kept : Kept) → kept.side ≡ side → IsTrue (D.disk disk.old).told → StandsIn kept at [] (D.disk disk.old).seen
         → OnOk result (StandsIn (with_more kept batch.now) (at + records_size batch.now) [] (D.disk disk.new).seen) }
+    ensures written { (kept : Kept) → kept.side ≡ side → IsTrue (D.disk disk.old).told → StandsIn kept at [] (D.disk disk.old).seen
+        → OnOk result (IsWritten (with_more kept batch.now) (D.disk disk.new).seen) }
+    ensures beside { IsTrue (D.disk disk.old).told → OnOk result (IsUntouched (other side) (D.disk disk.old).seen (D.disk disk.new).seen) }
     ensures any_moment { (kept : Kept) → kept.side ≡ side → IsTrue (is_clean (D.disk disk.old)) → StandsIn kept at [] (D.disk disk.old).seen
         → LeavesOnly (D.disk disk.old) (D.disk disk.new) (KeepsOrMore kept batch.now) }
     ensures rest { IsTrue (is_clean (D.disk disk.old)) → OnOk result (IsTrue (is_clean (D.disk disk.new))) }
@@ -38,6 +43,7 @@ pub(crate) fn cut_behind<D: Disk>(disk: &mut D, side: Side, at: u64) -> Result<(
     requires { at + 1 < 2 ^ 64 }
     ensures ready { (kept : Kept) → kept.side ≡ side → IsTrue (D.disk disk.old).told → StandsFound kept at (D.disk disk.old).seen
         → OnOk result (StandsIn kept at [] (D.disk disk.new).seen) }
+    ensures cut { IsTrue (D.disk disk.old).told → OnOk result (AtSide side (λ old new. new ≡ take (at + 1) old) (D.disk disk.old).seen (D.disk disk.new).seen) }
     ensures any_moment { (kept : Kept) → kept.side ≡ side → IsTrue (is_clean (D.disk disk.old)) → StandsFound kept at (D.disk disk.old).seen
         → LeavesOnly (D.disk disk.old) (D.disk disk.new) (Keeps kept) }
     ensures rest { IsTrue (is_clean (D.disk disk.old)) → OnOk result (IsTrue (is_clean (D.disk disk.new))) }

@@ -24,3 +24,10 @@ returns-clause-ready g c kept same told found =
     let told-1 = tells _ _ c.cut.ensures.changes.passes.told told in
     let done = subst (λ (s : Side). AtSide s (λ a b. b ≡ take (c.args.at + 1) a) old.seen (g.D.Disk.disk c.cut.new.self).seen) (sym same) (c.in_ok-cut.ensures.cut told) in
     on_ok c.sync.result _ _ (c.sync.ensures.settled.here told-1) (λ _. cut_stands kept c.args.at old found _ _ _ done c.sync.ensures.looks)
+
+pub returns-clause-cut : goal.returns-clause-cut
+returns-clause-cut g c told =
+    let told-1 = tells _ _ c.cut.ensures.changes.passes.told told in
+    let old = (g.D.Disk.disk c.args.disk.now).seen in
+    on_ok c.sync.result _ _ (c.sync.ensures.settled.here told-1) (λ _.
+    subst (λ (s : Sides). AtSide c.args.side (λ a b. b ≡ take (c.args.at + 1) a) old s) (sym c.sync.ensures.looks.seen) (c.in_ok-cut.ensures.cut told))

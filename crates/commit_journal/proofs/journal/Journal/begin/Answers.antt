@@ -8,7 +8,9 @@ use Rattle.commit_journal.specs.Reading.{Kept}
 use Rattle.commit_journal.specs.Kept.{Keeps, StandsOrBegun}
 use Rattle.commit_journal.specs.Journal.{View, kept_by, IsSound}
 use Rattle.commit_journal.proofs.Sound.{runs, sound_seen}
-use Rattle.commit_journal.proofs.Begins.{idle_leaves, clean_images, found_in, same_payloads, keeps_on, whole_on, same_kept, cut_sound, cut_leaves, stands_begun, begun_stands, begun_image, begun_sound, blank_payloads}
+use Rattle.commit_journal.proofs.Begins.{idle_leaves, clean_images, found_in, same_payloads, keeps_on, whole_on, same_kept, cut_sound, cut_leaves, stands_begun, head_fits, is_header, begun_stands, begun_image, begun_sound, blank_payloads}
+use Rattle.commit_journal.proofs.Rewrites.{spelled_here}
+use Rattle.commit_journal.proofs.Bytes.{written_on, cut_size}
 use Rattle.commit_journal.proofs.journal.Journal.begin.Goals as goal
 
 -- ---- what stands behind the last gate is cut
@@ -61,6 +63,19 @@ returns-in-Ok-clause-any_moment g c =
     let running = runs _ _ (ap (λ v. v.stage) c.self.view_is) c.requires in
     rw (← c.self.view_is) (λ clean. leaves_what _ _ _ (StandsOrBegun c.self.inside.stage kept) (c.in-Ok.ensures.any_moment kept refl clean (found_in _ _ _ _ _ _ c.self.invariant running c.in_default.not-Blank (clean_told old clean)))
     (λ image keeps. inr keeps))
+
+pub returns-in-Ok-clause-written : goal.returns-in-Ok-clause-written
+returns-in-Ok-clause-written g c = rw (← c.self.view_is) (λ told blank. absurd (c.in_default.not-Blank blank))
+
+pub returns-in-Ok-clause-cut : goal.returns-in-Ok-clause-cut
+returns-in-Ok-clause-cut g c =
+    let old = g.D.Disk.disk c.self.inside.disk in
+    let kept = kept_by c.self.inside.side c.self.inside.generation c.self.inside.deployment c.self.inside.snapshot old in
+    let running = runs _ _ (ap (λ v. v.stage) c.self.view_is) c.requires in
+    rw (← c.self.view_is) (λ told _. cut_size kept c.self.inside.end old.seen _ _ (found_in _ _ _ _ _ _ c.self.invariant running c.in_default.not-Blank told) (c.in-Ok.ensures.cut told).here)
+
+pub returns-in-Ok-clause-beside : goal.returns-in-Ok-clause-beside
+returns-in-Ok-clause-beside g c = rw (← c.self.view_is) (λ told. (c.in-Ok.ensures.cut told).there)
 
 -- ---- the first side is begun
 
@@ -168,3 +183,28 @@ returns-clause-any_moment g c =
     c.deref.ensures.value ∙ c.in_ok-bytes.ensures ∙ ap (λ (l : List ℕ). header (record { generation = c.self.inside.generation; deployment = l; snapshot = [] }) ++ 0 ∷ []) c.as_slice-deployment.ensures in
     rw (← c.self.view_is) (λ clean. leaves_what _ _ _ (StandsOrBegun c.self.inside.stage kept) (c.write_side.ensures.any_moment clean) (λ image is_image.
     subst (λ (s : Stage). StandsOrBegun s kept image) (sym c.in-Blank.is) (begun_image kept _ _ _ old sound fits (omega arith) c.deref.result.now is (clean_told old clean) (blank_payloads kept _ _ _ old sound (clean_told old clean)) image is_image)))
+
+pub returns-in-Ok-write_side-clause-written : goal.returns-in-Ok-write_side-clause-written
+returns-in-Ok-write_side-clause-written g c =
+    let old = g.D.Disk.disk c.self.inside.disk in
+    let kept = kept_by c.self.inside.side c.self.inside.generation c.self.inside.deployment c.self.inside.snapshot old in
+    let sound = subst (λ (s : Stage). IsSound s kept c.self.inside.end c.self.inside.batch c.self.inside.limit old) c.in-Blank.is c.self.invariant in
+    let length_is = ap length c.as_slice-deployment.ensures in
+    let none_is = ap length (sound.first refl) in
+    let fits : size kept.head [] ≤ c.self.inside.limit = omega (arith, length_is, none_is, c.if-size-self.false) in
+    let is : c.deref.result.now ≡ header (record { generation = c.self.inside.generation; deployment = c.self.inside.deployment; snapshot = [] }) ++ 0 ∷ [] =
+    c.deref.ensures.value ∙ c.in_ok-bytes.ensures ∙ ap (λ (l : List ℕ). header (record { generation = c.self.inside.generation; deployment = l; snapshot = [] }) ++ 0 ∷ []) c.as_slice-deployment.ensures in
+    let new = g.D.Disk.disk c.write_side.new.disk in
+    rw (← c.self.view_is) (λ told _.
+    let opened = c.in-Ok-write_side.ensures.opened told in
+    let head = kept.head in
+    let fit = head_fits kept _ _ _ old sound fits (omega arith) c.deref.result.now is in
+    let header_is = is_header kept _ _ _ old sound fits (omega arith) c.deref.result.now is in
+    written_on (record { side = kept.side; head = head; payloads = [] }) (length c.deref.result.now) new (begun_stands kept _ _ _ old sound fits (omega arith) c.deref.result.now is new.seen told opened)
+    (spelled_here kept.side head c.deref.result.now fit header_is _ opened.here))
+
+pub returns-in-Ok-write_side-clause-cut : goal.returns-in-Ok-write_side-clause-cut
+returns-in-Ok-write_side-clause-cut g c = rw (← c.self.view_is) (λ told some. absurd (some c.in-Blank.is))
+
+pub returns-in-Ok-write_side-clause-beside : goal.returns-in-Ok-write_side-clause-beside
+returns-in-Ok-write_side-clause-beside g c = rw (← c.self.view_is) (λ told. (c.in-Ok-write_side.ensures.opened told).elsewhere)

@@ -1,9 +1,10 @@
 use Rattle.std.proofs.Common.{◌≡◌, ◌≢◌, ap, sym, refl, ◌∙◌, subst, ◌+◌, ◌<◌, IsTrue, List, ℕ, [], ◌∷◌, ◌++◌, arith}
 use Rattle.slee_disk.proofs.Moments.{leaves_what, clean_told}
-use Rattle.commit_journal.specs.Kept.{StandsOrMore}
+use Rattle.commit_journal.specs.Kept.{StandsOrMore, with_more}
 use Rattle.commit_journal.specs.Journal.{View, kept_by}
 use Rattle.commit_journal.proofs.Writes.{stands_ends}
 use Rattle.commit_journal.proofs.Sound.{runs, not_so, whole_in, flushed_whole, sound_seen, ready_if, clean_stands, nothing_done, as_ready, flushed_payloads, flushed_seen, flushed_sound, same_view}
+use Rattle.commit_journal.proofs.Bytes.{written_on}
 use Rattle.commit_journal.proofs.journal.Journal.flush.Goals as goal
 
 pub returns-then-is_empty-clause-seen : goal.returns-then-is_empty-clause-seen
@@ -79,3 +80,17 @@ returns-in-Ok-clause-acknowledged g c =
     let ready = ready_if _ _ _ _ _ _ c.self.invariant (runs _ _ (ap (λ v. v.stage) c.self.view_is) c.requires) some in
     rw (← c.self.view_is) (λ clean. clean_stands _ _ new (c.in-Ok.ensures.rest clean) (flushed_seen _ kept _ c.self.inside.batch _ old new c.self.invariant ready c.write_batch.ensures.told
     (λ told stands. c.in-Ok.ensures.acknowledged kept refl told stands) (clean_told old clean)))
+
+pub returns-then-is_empty-clause-written : goal.returns-then-is_empty-clause-written
+returns-then-is_empty-clause-written g c = rw (← c.self.view_is) (λ told some. absurd (some (c.is_empty.ensures.0 c.if-is_empty.true)))
+
+pub returns-in-Ok-clause-written : goal.returns-in-Ok-clause-written
+returns-in-Ok-clause-written g c =
+    let old = g.D.Disk.disk c.self.inside.disk in
+    let new = g.D.Disk.disk c.write_batch.new.disk in
+    let kept = kept_by c.self.inside.side c.self.inside.generation c.self.inside.deployment c.self.inside.snapshot old in
+    let some = not_so c.is_empty.result _ c.if-is_empty.false c.is_empty.ensures in
+    let ready = ready_if _ _ _ _ _ _ c.self.invariant (runs _ _ (ap (λ v. v.stage) c.self.view_is) c.requires) some in
+    rw (← c.self.view_is) (λ told _.
+    let stands = c.self.invariant.ready ready told in
+    written_on (with_more kept c.self.inside.batch) _ new (c.in-Ok.ensures.acknowledged kept refl told stands) (c.in-Ok.ensures.written kept refl told stands))

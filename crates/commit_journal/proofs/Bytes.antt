@@ -1,0 +1,40 @@
+-- The bytes that a journal leaves on the sides of its disk.
+use Rattle.std.proofs.Common.{◌≡◌, ◌≢◌, ◌+◌, ℕ, List, [], ◌∷◌, ◌++◌, length, take, IsTrue, sym, ◌∙◌, ap, subst, arith}
+use Rattle.slee_disk.specs.declared.side.Side.{Side}
+use Rattle.slee_disk.specs.Sides.{Sides, on, other}
+use Rattle.slee_disk.specs.Disk.{DiskState}
+use Rattle.commit_journal.specs.declared.stage.Stage.{Stage}
+use Rattle.commit_journal.specs.declared.stage.Stage.TheVariants.{Ready}
+use Rattle.commit_journal.specs.Spelling.{header, size}
+use Rattle.commit_journal.specs.Reading.{Kept}
+use Rattle.commit_journal.specs.Gate.{IsOpened}
+use Rattle.commit_journal.specs.Kept.{StandsIn, StandsFound, with_more, side_renewed, renewed}
+use Rattle.commit_journal.specs.Written.{IsWritten, IsUntouched}
+use Rattle.commit_journal.specs.Journal.{kept_by}
+use Rattle.commit_journal.proofs.Sizes.{length-spelled}
+use Rattle.commit_journal.proofs.Rewrites.{spelled_here, other_twice}
+use Rattle.commit_journal.proofs.Sound.{kept_on}
+use Rattle.commit_journal.proofs.Begins.{same_payloads}
+use Rattle.commit_journal.proofs.Renewals.{same_renewed}
+
+-- what is written is what is read
+pub written_on : (kept : Kept) (at : ℕ) (new : DiskState) → StandsIn kept at [] new.seen → IsWritten kept new.seen → IsWritten (kept_on kept new) new.seen
+written_on kept at new stands written =
+    subst (λ (ps : List (List ℕ)). IsWritten (record { side = kept.side; head = kept.head; payloads = ps }) new.seen) (sym (same_payloads kept at new stands)) written
+
+-- what stands before the cut, by its size
+pub cut_size : (kept : Kept) (at : ℕ) (sides : Sides) (old new : List ℕ) → StandsFound kept at sides → new ≡ take (at + 1) old → new ≡ take (size kept.head kept.payloads) old
+cut_size kept at sides old new found cut =
+    let n : at + 1 ≡ size kept.head kept.payloads = omega (arith, found.stands.place, length-spelled kept.head kept.payloads) in
+    cut ∙ ap (λ k. take k old) n
+
+-- the fields of a renewed journal say the same of the bytes
+pub written_renewed : (stage : Stage) (kept : Kept) (snapshot : List ℕ) (side : Side) (generation : ℕ) (disk : DiskState) → side ≡ side_renewed stage kept.side → generation ≡ (renewed stage kept snapshot).head.generation
+    → IsWritten (kept_on (renewed stage kept snapshot) disk) disk.seen → IsWritten (kept_by side generation kept.head.deployment snapshot disk) disk.seen
+written_renewed stage kept snapshot side generation disk p q written = subst (λ (k : Kept). IsWritten k disk.seen) (same_renewed stage kept snapshot side generation disk p q) written
+
+-- the side beside the renewed one is the one that counted
+pub beside_ready : (stage : Stage) (kept : Kept) (mid new : Sides) → stage ≡ Ready → IsUntouched (other (side_renewed stage kept.side)) mid new → IsWritten kept mid → IsWritten kept new
+beside_ready stage kept mid new is_ready same written =
+    let side_is : other (side_renewed stage kept.side) ≡ kept.side = ap (λ (s : Stage). other (side_renewed s kept.side)) is_ready ∙ other_twice kept.side in
+    subst (λ (s : Side). IsUntouched s mid new) side_is same ∙ written

@@ -1,0 +1,272 @@
+//! Steps of the router that are kept in a journal, and what they leave on the disk.
+ghost use Rattle.slee_container.specs.Opening.{fault_of, begin_fault_of};
+ghost use Rattle.std.specs.Prelude.{◌≡◌, ◌≤◌, ◌<◌, ◌+◌, [], true, false, length, IsTrue, Some, None, Ok, IfOk, IfErr, OnOk, OnErr};
+
+use crate::replaying::replay;
+use crate::{OpenFault, StepFault, Stop};
+use commit_journal::{AppendFault, BeginFault, Journal, JournalFault};
+use router_core::{Plan, State};
+use slee_disk::Disk;
+use std::alloc::Global;
+use std::marker::Model;
+use std::snapshot::Snapshot;
+use trace_history::{Choice, History};
+
+/// A state, its history since the opening, and the journal of it.
+#[derive(Drop)]
+pub struct Core<'d, D: Disk> {
+    alloc: Global,
+    journal: Journal<D>,
+    deployment: &'d [u8],
+    state: State,
+    history: History,
+    acked: u64,
+    stop: Option<Stop>,
+    // The disk before the opening, and the journal behind it.
+    opened: Snapshot<D>,
+    begun: Snapshot<Journal<D>>,
+}
+
+impl<'d, D: Disk> Model for Core<'d, D> {
+    ghost use Rattle.slee_container.specs.Facts.{told_on, origin_of};
+    ghost use Rattle.slee_container.specs.Core.{Held, IsSound};
+
+    ghost Value = { Held D };
+
+    ghost view = { λ c. record {
+      disk = c.journal.disk;
+      origin = origin_of c.deployment.now c.begun.value.records (D.disk c.opened.value) (told_on c.begun.value.kept.side (D.disk c.begun.value.disk));
+      limit = c.journal.limit;
+      history = c.history.entries;
+      state = c.state.parts;
+      acked = c.acked;
+      stop = c.stop;
+    } };
+
+    ghost invariant = { λ c. IsSound c.journal (D.disk c.journal.disk)
+        (origin_of c.deployment.now c.begun.value.records (D.disk c.opened.value) (told_on c.begun.value.kept.side (D.disk c.begun.value.disk)))
+        c.history.entries c.state.parts c.acked c.stop };
+}
+
+impl<'d, D: Disk> Core<'d, D> {
+    ghost use Rattle.slee_disk.specs.Causes.{Rose};
+    ghost use Rattle.slee_disk.specs.Sides.{Sides};
+    ghost use Rattle.slee_disk.specs.Disk.{LeavesOnly, is_clean};
+    ghost use Rattle.commit_journal.specs.Reading.{recovered};
+    ghost use Rattle.commit_journal.specs.Journal.{payloads_on};
+    ghost use Rattle.commit_journal.specs.Spelling.{records_size};
+    ghost use Rattle.router_model.specs.State.{Parts};
+    ghost use Rattle.router_rules.specs.Step.{is_enabled, is_choice};
+    ghost use Rattle.router_rules.specs.History.{Legal, replay};
+    ghost use Rattle.router_core.specs.Plans.{IsPlanOf};
+    ghost use Rattle.slee_container.specs.Recovery.{restart, records, counting_side};
+    ghost use Rattle.slee_container.specs.Opening.{IsOpenCause, IsUntouchedFor};
+    ghost use Rattle.slee_container.specs.Facts.{RestartsIn, IsCrashSafe, HasRecords, base_of};
+    ghost use Rattle.slee_container.specs.Core.{Stepped, is_down, IsStopOf};
+
+    /// Opens what a disk keeps. It replays all records before it writes anything.
+    pub fn open(
+        alloc: Global,
+        disk: D,
+        deployment: &'d [u8],
+        limit: u64,
+    ) -> Result<Core<'d, D>, (OpenFault, D)>
+        requires limit { limit ≤ 268435456 }
+        ensures state { IsTrue (D.disk disk).told → IfOk result (λ c. restart deployment.now (D.disk disk).seen ≡ Ok c.state) }
+        ensures records { IsTrue (D.disk disk).told → IfOk result (λ c. records deployment.now (D.disk disk).seen ≡ c.origin.found) }
+        ensures fits { IsTrue (D.disk disk).told → IfOk result (λ c. recovered deployment.now (D.disk disk).seen ≡ Ok None → 24 + length deployment.now ≤ limit) }
+        ensures counting { IsTrue (D.disk disk).told → IfOk result (λ c. c.origin.counting ≡ counting_side deployment.now (D.disk c.disk).seen) }
+        ensures new { IfOk result (λ c. (c.history ≡ []) × (c.acked ≡ 0) × (c.stop ≡ None) × (c.limit ≡ limit)) }
+        ensures origin { IfOk result (λ c. (c.origin.deployment ≡ deployment.now) × (c.origin.moment ≡ (D.disk disk).moment) × (c.origin.faults ≡ (D.disk disk).faults) × (c.origin.clean ≡ is_clean (D.disk disk))) }
+        ensures cause { IsTrue (D.disk disk).told → IfErr result (λ e. IsOpenCause limit deployment.now (D.disk disk).seen e.0) }
+        ensures failed { IfErr result (λ e. e.0 ≡ OpenFault.DiskFault → Rose (D.disk disk).faults (D.disk e.1).faults) }
+        ensures untouched { IfErr result (λ e. IsUntouchedFor e.0 (D.disk disk) (D.disk e.1)) }
+
+        // A crash at any moment leaves the state that was there.
+        ensures any_moment { IsTrue (is_clean (D.disk disk)) → (s : Parts) → restart deployment.now (D.disk disk).seen ≡ Ok s
+            → IfOk result (λ c. LeavesOnly (D.disk disk) (D.disk c.disk) (λ image. restart deployment.now image ≡ Ok s)) }
+        ensures any_moment_err { IsTrue (is_clean (D.disk disk)) → (s : Parts) → restart deployment.now (D.disk disk).seen ≡ Ok s
+            → IfErr result (λ e. LeavesOnly (D.disk disk) (D.disk e.1) (λ image. restart deployment.now image ≡ Ok s)) }
+    {
+        let opened = Snapshot::of(&disk);
+        let mut journal = match Journal::open(alloc, disk, deployment, limit) {
+            Ok(found) => found,
+            Err((fault, disk)) => return Err((open_fault(fault), disk)),
+        };
+        let Ok(mut state) = State::initial(alloc) else {
+            return Err((OpenFault::NoMemory, journal.into_disk()));
+        };
+        match replay(alloc, &journal, &mut state) {
+            Ok(()) => {}
+            Err(fault) => return Err((fault, journal.into_disk())),
+        }
+        match journal.begin() {
+            Ok(()) => {}
+            Err(fault) => return Err((begin_fault(fault), journal.into_disk())),
+        }
+        let side = journal.side();
+        let _ = side;
+        let begun = Snapshot::of(&journal);
+        Ok(Core {
+            alloc,
+            journal,
+            deployment,
+            state,
+            history: History::new(alloc),
+            acked: 0,
+            stop: None,
+            opened,
+            begun,
+        })
+    }
+
+    /// Makes the step of a plan, first in the journal. All memory is taken before the journal is written.
+    pub fn step(&mut self, plan: Plan) -> Result<u64, StepFault>
+        requires live { self.old.stop ≡ None }
+        requires made { IsPlanOf self.old.state plan.choice plan }
+        ensures step { Stepped self.old plan.choice result self.new }
+        ensures origin { self.new.origin ≡ self.old.origin }
+        ensures limit { self.new.limit ≡ self.old.limit }
+
+        // A crash at any moment of the call leaves what was acknowledged before it.
+        ensures any_moment { IsTrue self.old.origin.clean → LeavesOnly (D.disk self.old.disk) (D.disk self.new.disk)
+            (RestartsIn self.old.origin self.new.history self.old.acked) }
+    {
+        let known = self.state.well_formed();
+        let _ = known;
+        let Ok(()) = self.state.reserve(&plan) else {
+            return Err(StepFault::NoMemory);
+        };
+        let Ok(()) = self.history.reserve(1) else {
+            return Err(StepFault::NoMemory);
+        };
+        match self.journal.append(plan.payload()) {
+            Ok(()) => {}
+            Err(AppendFault::Full { length, adding }) => {
+                self.stop = Some(Stop::Full { length, adding });
+                return Err(StepFault::Full { length, adding });
+            }
+            Err(AppendFault::NoMemory) => return Err(StepFault::NoMemory),
+        }
+        let flushed = self.journal.flush();
+        let entry = self.state.apply(plan);
+        self.history.push(entry);
+        let number = self.history.len();
+        match flushed {
+            Ok(()) => {
+                self.acked = number;
+                Ok(number)
+            }
+            Err(_) => {
+                self.stop = Some(Stop::DiskFault);
+                Err(StepFault::DiskFault)
+            }
+        }
+    }
+
+    /// Makes the step of a choice.
+    pub fn make(&mut self, choice: Choice) -> Result<u64, StepFault>
+        requires live { self.old.stop ≡ None }
+        requires valid { IsTrue (is_choice choice) }
+        requires enabled { IsTrue (is_enabled self.old.state choice) }
+        ensures step { Stepped self.old choice result self.new }
+        ensures origin { self.new.origin ≡ self.old.origin }
+        ensures limit { self.new.limit ≡ self.old.limit }
+        ensures any_moment { IsTrue self.old.origin.clean → LeavesOnly (D.disk self.old.disk) (D.disk self.new.disk)
+            (RestartsIn self.old.origin self.new.history self.old.acked) }
+    {
+        let Ok(plan) = self.state.plan(self.alloc, choice) else {
+            return Err(StepFault::NoMemory);
+        };
+        self.step(plan)
+    }
+
+    pub fn state(&self) -> &State
+        ensures { result.now.parts ≡ self.now.state }
+    {
+        &self.state
+    }
+
+    pub fn history(&self) -> &History
+        ensures { result.now.entries ≡ self.now.history }
+    {
+        &self.history
+    }
+
+    pub fn acked(&self) -> u64
+        ensures { result ≡ self.now.acked }
+    {
+        self.acked
+    }
+
+    pub fn stop(&self) -> Option<Stop>
+        ensures { result ≡ self.now.stop }
+    {
+        self.stop
+    }
+
+    /// The disk, whatever has come of the container.
+    pub fn into_disk(self) -> D
+        ensures disk { result ≡ self.entry.disk }
+        ensures safe { IsCrashSafe self.entry.origin self.entry.history self.entry.acked (D.disk result) }
+    {
+        let Core {
+            alloc: _,
+            journal,
+            deployment: _,
+            state: _,
+            history: _,
+            acked: _,
+            stop: _,
+            opened: _,
+            begun: _,
+        } = self;
+        journal.into_disk()
+    }
+
+    /// What is true of each core.
+    #[tactic(auto, using(crate::proofs::Steps::sized_now))]
+    pub fn kept(&self)
+        ensures safe { IsCrashSafe self.now.origin self.now.history self.now.acked (D.disk self.now.disk) }
+        ensures legal { Legal (base_of self.now.origin) self.now.history }
+        ensures state { self.now.state ≡ replay (base_of self.now.origin) self.now.history }
+        ensures acked { self.now.acked ≤ length self.now.history }
+        ensures cause { IsStopOf self.now.origin self.now.limit self.now.history (D.disk self.now.disk) self.now.stop }
+        ensures rest { IsTrue self.now.origin.clean → is_down self.now.stop ≡ false → IsTrue (is_clean (D.disk self.now.disk)) }
+        ensures whole { is_down self.now.stop ≡ false → self.now.acked ≡ length self.now.history }
+        ensures counted { IsTrue self.now.origin.clean → payloads_on self.now.origin.counting ≡ self.now.origin.found }
+        ensures sized { IsTrue self.now.origin.clean → length self.now.origin.counting ≡ 24 + length self.now.origin.deployment + records_size self.now.origin.found }
+        ensures records { IsTrue self.now.origin.clean → is_down self.now.stop ≡ false → HasRecords self.now.origin self.now.history self.now.acked (D.disk self.now.disk).seen }
+    {
+        let _history = &self.history;
+    }
+}
+
+/// A fault of the journal, as one of opening.
+fn open_fault(fault: JournalFault) -> OpenFault
+    ensures { result ≡ fault_of fault }
+{
+    match fault {
+        JournalFault::DiskFault => OpenFault::DiskFault,
+        JournalFault::BadJournal { side, at, kind } => OpenFault::BadJournal { side, at, kind },
+        JournalFault::OtherDeployment {
+            kept_len,
+            first_difference,
+        } => OpenFault::OtherDeployment {
+            kept_len,
+            first_difference,
+        },
+        JournalFault::NoMemory => OpenFault::NoMemory,
+    }
+}
+
+/// A fault of its beginning.
+fn begin_fault(fault: BeginFault) -> OpenFault
+    ensures { result ≡ begin_fault_of fault }
+{
+    match fault {
+        BeginFault::DiskFault => OpenFault::DiskFault,
+        BeginFault::Full { length, adding } => OpenFault::Full { length, adding },
+        BeginFault::NoMemory => OpenFault::NoMemory,
+    }
+}
