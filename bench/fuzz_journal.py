@@ -10,8 +10,9 @@
 
 Each pair of files `journal.a` and `journal.b` lies in a folder of its own beside the deployment `deploy.json`. The
 program has to end by itself with a status that is named for such files: 0, or 8 for a damaged journal and 9 for
-another deployment, of which the last line tells; `journal_bench` has the status 1 for both. After a fault both files
-are as they were.
+another deployment, of which the last line tells; `journal_bench` has the status 1 for both. What it tells of headers,
+lengths, sides and deployments has to be what this script finds by docs/FORMATS.md, and after a fault both files are as
+they were.
 """
 import argparse
 import os
@@ -23,14 +24,10 @@ import tempfile
 import time
 
 TOP = os.path.join(os.path.dirname(os.path.abspath(__file__)), "..")
-KINDS = b"(header|length|sides|snapshot|record|replay)"
-# The last line of each status.
-SLEE = {
-    0: rb"status 0 ok",
-    8: rb"status 8 bad-journal [ab] \d+ " + KINDS,
-    9: rb"status 9 other-deployment \d+ \d+",
-}
-JOURNAL_BENCH = {0: rb"records \d+", 1: rb"(bad-journal [ab] \d+ (header|length|sides)|other-deployment \d+ \d+)"}
+SLEE = "slee"
+JOURNAL_BENCH = "journal_bench"
+# What may be wrong with the records themselves, of which this script knows nothing.
+DEEPER = r"status 8 bad-journal [ab] (0 snapshot|\d+ (record|replay))"
 LARGEST = 2**64 - 1
 
 
@@ -85,6 +82,63 @@ def mutated(chance, bytes_):
     return bytes(data)
 
 
+def text_of(bytes_):
+    """A text that bytes begin with, and what follows it, or nothing."""
+    end = 4 + int.from_bytes(bytes_[:4], "little")
+    return (bytes_[4:end], bytes_[end:]) if 4 <= end <= len(bytes_) and len(bytes_) >= 4 else None
+
+
+def front_of(bytes_):
+    """A blank side, no header, or the generation, the deployment, the snapshot's length and what follows them."""
+    if len(bytes_) < 2 or bytes_[0] != 1:
+        return "blank"
+    deployment = text_of(bytes_[15:]) if bytes_[1:7] == b"SLEEJ1" and len(bytes_) >= 15 else None
+    snapshot = text_of(deployment[1]) if deployment else None
+    if not snapshot or not snapshot[1]:
+        return "header"
+    return int.from_bytes(bytes_[7:15], "little"), deployment[0], len(snapshot[0]), snapshot[1]
+
+
+def newer(a, b):
+    """Whether generation a counts, and not b."""
+    if a == (b + 1) % (LARGEST + 1):
+        return True
+    return b != (a + 1) % (LARGEST + 1) and a > b
+
+
+def found(pair, own):
+    """What two sides stand for: a fault as it is printed, or how many records."""
+    fronts = {name[-1]: front_of(bytes_) for name, bytes_ in pair.items()}
+    for name, front in fronts.items():
+        if front == "header":
+            return f"bad-journal {name} 0 header"
+    sides = [(name, front) for name, front in fronts.items() if front != "blank"]
+    if not sides:
+        return 0
+    if len(sides) == 2 and sides[0][1][0] == sides[1][1][0]:
+        return "bad-journal b 0 sides"
+    name, (_, deployment, snapshot, rest) = sides[0] if len(sides) == 1 or newer(sides[0][1][0], sides[1][1][0]) else sides[1]
+    at, records = 23 + len(deployment) + snapshot, 0
+    while rest[0] == 1:
+        payload = text_of(rest[1:])
+        if not payload or not payload[1]:
+            return f"bad-journal {name} {at} length"
+        at, records, rest = at + 5 + len(payload[0]), records + 1, payload[1]
+    if deployment != own:
+        return f"other-deployment {len(deployment)} {len(os.path.commonprefix([deployment, own]))}"
+    return records
+
+
+def is_right(kind, status, last, what):
+    """Whether a program of this kind says so of two sides."""
+    if kind == JOURNAL_BENCH:
+        return (status, last) == ((0, f"records {what}") if isinstance(what, int) else (1, what))
+    if isinstance(what, int):
+        return (status, last) == (0, "status 0 ok") or (status == 8 and re.fullmatch(DEEPER, last) is not None)
+    code = 8 if what.startswith("bad") else 9
+    return (status, last) == (code, f"status {code} {what}")
+
+
 def files_of(chance, own):
     pair = {}
     for name in ("journal.a", "journal.b"):
@@ -98,20 +152,20 @@ def read(folder, name):
         return f.read()
 
 
-def trial(command, answers, own, pair):
-    """The status, or why the program is wrong."""
+def trial(kind, command, own, pair):
+    """The last line, or why the program is wrong."""
     with tempfile.TemporaryDirectory() as folder:
         for name, bytes_ in {**pair, "deploy.json": own}.items():
             with open(os.path.join(folder, name), "wb") as f:
                 f.write(bytes_)
         done = subprocess.run(command, cwd=folder, capture_output=True, stdin=subprocess.DEVNULL, timeout=60)
-        lines = done.stdout.splitlines() or [b""]
-        pattern = answers.get(done.returncode)
-        if pattern is None or not re.fullmatch(pattern, lines[-1]):
-            return None, f"status {done.returncode}, last line {lines[-1]!r}, {done.stderr!r}"
+        last = (done.stdout.decode("utf-8", "replace").splitlines() or [""])[-1]
+        what = found(pair, own)
+        if not is_right(kind, done.returncode, last, what):
+            return None, f"status {done.returncode}, last line {last!r}, {done.stderr!r}; the files stand for {what!r}"
         if done.returncode != 0 and any(read(folder, name) != bytes_ for name, bytes_ in pair.items()):
-            return None, f"a file was changed, last line {lines[-1]!r}"
-        return re.sub(rb"\d+", b"N", lines[-1]).decode(), None
+            return None, f"a file was changed, last line {last!r}"
+        return re.sub(r"\d+", "N", last), None
 
 
 def main():
@@ -123,13 +177,13 @@ def main():
     given = words.parse_args()
     own = given.deploy.read() if given.deploy else b"bench"
     program = os.path.abspath(given.cmd[0])
-    answers = JOURNAL_BENCH if os.path.basename(program) == "journal_bench" else SLEE
+    kind = JOURNAL_BENCH if os.path.basename(program) == JOURNAL_BENCH else SLEE
     chance = random.Random(given.seed)
     seen = {}
     begun = time.perf_counter()
     for count in range(given.count):
         pair = files_of(chance, own)
-        answer, wrong = trial([program, *given.cmd[1:]], answers, own, pair)
+        answer, wrong = trial(kind, [program, *given.cmd[1:]], own, pair)
         if wrong:
             sides = ", ".join(f"{name} {bytes_.hex() or '-'}" for name, bytes_ in pair.items())
             sys.exit(f"pair {count}: {wrong}\n{sides}")

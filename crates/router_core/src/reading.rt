@@ -1,19 +1,19 @@
 //! Reading back the choice of a payload.
 ghost use Rattle.std.specs.Prelude.{◌≡◌, ◌≤◌, IfOk, length, drop, option_map};
-ghost use Rattle.signal_script.specs.Signals.{signal_of};
+ghost use Rattle.signal_script.specs.Signals.{signal_unbounded};
 ghost use Rattle.trace_history.specs.declared.choice.Choice.TheVariants as choices;
 ghost use Rattle.router_rules.specs.Payload.{choice_in, input_in, activity_in, behind, behind_reference, behind_text, behind_effect, are_effects, is_effect_list, is_outcome};
 
-use signal_script::{SignalFault, read_line};
+use signal_script::{SignalFault, read_unbounded};
 use slee_value::{ActivityId, NoMemory};
 use std::alloc::Global;
 use trace_history::Choice;
 
-/// The choice of a line, if it is one of the grammar.
+/// The choice of a line, if it is one of the grammar but perhaps too long.
 fn line_choice(alloc: Global, line: &[u8]) -> Result<Option<Choice>, NoMemory>
-    ensures { IfOk result (λ found. found ≡ option_map choices.Input (signal_of line.now)) }
+    ensures { IfOk result (λ found. found ≡ option_map choices.Input (signal_unbounded line.now)) }
 {
-    match read_line(alloc, line) {
+    match read_unbounded(alloc, line) {
         Ok(signal) => Ok(Some(Choice::Input(signal))),
         Err(SignalFault::NotBuilt) => Ok(None),
         Err(SignalFault::NoMemory) => Err(NoMemory),
@@ -131,7 +131,7 @@ fn is_outcome(bytes: &[u8]) -> bool
     }
 }
 
-/// The choice that a payload is of, if it is one of the grammar.
+/// The choice that a payload is of, if it is one of the grammar. A line that is too long gives one that can't be made.
 pub fn choice_in(alloc: Global, payload: &[u8]) -> Result<Option<Choice>, NoMemory>
     ensures { IfOk result (λ found. found ≡ choice_in payload.now) }
 {

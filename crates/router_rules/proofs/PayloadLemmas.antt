@@ -7,9 +7,9 @@ use Rattle.std.proofs.lemmas.Nat.{from_le_bytes-to_le_bytes_4, from_le_bytes-to_
 use Rattle.slee_value.specs.Bytes.{spelled_text, spelled_u64}
 use Rattle.slee_value.specs.declared.ids.ActivityId.{ActivityId}
 use Rattle.signal_script.specs.declared.signal.Signal.{Signal}
-use Rattle.signal_script.specs.Signals.{spelled, signal_of, is_signal, is_of_form}
+use Rattle.signal_script.specs.Signals.{spelled, signal_unbounded, is_signal, is_of_form}
 use Rattle.signal_script.specs.Lines.{is_line}
-use Rattle.signal_script.proofs.LawLemmas.{printed_read}
+use Rattle.signal_script.proofs.LawLemmas.{printed_unbounded}
 use Rattle.trace_history.specs.declared.choice.Choice.{Choice}
 use Rattle.trace_history.specs.declared.choice.Choice.TheVariants as choices
 use Rattle.router_model.specs.State.{Parts}
@@ -40,7 +40,7 @@ short_line signal is =
 activity_read : (a : ℕ) (rest : List ℕ) → a < 2 ^ 64 → ◌≡◌ {A = ActivityId} (activity_in (spelled_u64 a ++ rest)) (record { 0 = a })
 activity_read a rest fits = ap (λ (n : ℕ). record { 0 = n }) (from_le_bytes-to_le_bytes_8 a fits)
 
-input_read : (line : List ℕ) (signal : Signal) → length line ≤ 4096 → signal_of line ≡ Some signal → input_in (spelled_text line) ≡ Some (choices.Input signal)
+input_read : (line : List ℕ) (signal : Signal) → length line ≤ 4096 → signal_unbounded line ≡ Some signal → input_in (spelled_text line) ≡ Some (choices.Input signal)
 input_read line signal short reads =
     let long : nat_le 4 (length (spelled_text line)) ≡ true = le-leb 4 (length (spelled_text line)) (omega arith) in
     let number : from_le_bytes w32 (take 4 (spelled_text line)) ≡ length line = from_le_bytes-to_le_bytes_4 (length line) (omega (arith, short)) in
@@ -118,7 +118,7 @@ due_good s a (Some v) sound is =
     row_good v (first s a v) (rw found.1 at found.3.fields)
 
 pub payload_read : (s : Parts) (c : Choice) → IsSound s → is_choice c ≡ true → HasNumber c → choice_in (payload s c) ≡ Some c
-payload_read s (choices.Input signal) sound is fits = input_read (spelled signal) signal (short_line signal is) (printed_read signal is)
+payload_read s (choices.Input signal) sound is fits = input_read (spelled signal) signal (short_line signal is) (printed_unbounded signal is)
 payload_read s (choices.Initial a) sound is fits = ap (λ (b : ActivityId). Some (choices.Initial b)) (activity_read a.0 [] fits)
 payload_read s (choices.Deliver a) sound is fits =
     let tail = 0 ∷ spelling_of_effects (effects_due s a.0) in

@@ -9,7 +9,7 @@ use Rattle.slee_effect.specs.declared.effect.Effect.TheVariants as effects
 use Rattle.slee_effect.specs.declared.reference.Ref.TheVariants as references
 use Rattle.trace_history.specs.declared.choice.Choice.{Choice}
 use Rattle.trace_history.specs.declared.choice.Choice.TheVariants as choices
-use Rattle.signal_script.specs.Signals.{spelled, signal_of}
+use Rattle.signal_script.specs.Signals.{spelled, signal_unbounded}
 use Rattle.slee_value.specs.declared.ids.ActivityId.{ActivityId}
 use Rattle.router_model.specs.State.{Parts}
 use Rattle.router_model.specs.Activities.{front}
@@ -40,11 +40,11 @@ abbrev pub payloads : Parts → List Choice → List (List ℕ)
 payloads s [] = []
 payloads s (c ∷ cs) = payload s c ∷ payloads (after s c) cs
 
--- the line of a text, if it is one, and nothing stands behind it
+-- the line of a text, if it is one but perhaps too long, and nothing stands behind it
 abbrev pub input_in : List ℕ → Option Choice
 input_in bytes =
     if nat_le 4 (length bytes) && (from_le_bytes w32 (take 4 bytes) == length (drop 4 bytes))
-    then option_map choices.Input (signal_of (drop 4 bytes)) else None
+    then option_map choices.Input (signal_unbounded (drop 4 bytes)) else None
 
 abbrev pub activity_in : List ℕ → ActivityId
 activity_in bytes = record { 0 = from_le_bytes w64 (take 8 bytes) }
@@ -81,7 +81,7 @@ abbrev pub is_outcome : List ℕ → Bool
 is_outcome [] = false
 is_outcome (outcome ∷ bytes) = nat_le outcome 17 && is_effect_list bytes
 
--- the choice of a payload, if it is one of this grammar
+-- The choice of a payload, if it is one of this grammar. A line that is too long gives a choice too, but none that can be made.
 abbrev pub choice_in : List ℕ → Option Choice
 choice_in [] = None
 choice_in (kind ∷ rest) =

@@ -1,5 +1,5 @@
 -- A signal has one spelling.
-use Rattle.std.proofs.Common.{◌≡◌, ℕ, ◌/◌, ◌%◌, ◌<◌, Bool, true, false, not, ◌&&◌, ◌==◌, if◌then◌else◌, List, [], ◌∷◌, ◌++◌, codes, take, drop, nat_eq, is_none, refl, sym, ◌∙◌, ap, arith, append-nil, take-append-drop, Option, Some, None, option_map, ◌⊎◌, inl, inr}
+use Rattle.std.proofs.Common.{◌≡◌, ℕ, ◌/◌, ◌%◌, ◌<◌, Bool, true, false, not, ◌&&◌, ◌==◌, if◌then◌else◌, List, [], ◌∷◌, ◌++◌, codes, take, drop, length, nat_eq, nat_le, is_none, refl, sym, ◌∙◌, ap, arith, append-nil, take-append-drop, Option, Some, None, option_map, ◌⊎◌, inl, inr}
 use Rattle.std.proofs.lemmas.Bool.{cases_Bool, and_parts, and_from}
 use Rattle.std.proofs.lemmas.Bool.Decides.{nat_tests}
 use Rattle.std.proofs.lemmas.Slice.Eq.{bytes_eq-Decides}
@@ -10,9 +10,9 @@ use Rattle.slee_value.specs.Name.{is_name, is_byte_of_name, is_letter}
 use Rattle.slee_value.specs.Escape.{is_escaped, hex_digit_of, escaped}
 use Rattle.signal_script.specs.declared.signal.Signal.{Signal}
 use Rattle.signal_script.specs.declared.signal.Signal.TheVariants.{Start, End, Fire}
-use Rattle.signal_script.specs.Lines.{words_of, is_line}
+use Rattle.signal_script.specs.Lines.{words_of, is_plain, is_line}
 use Rattle.signal_script.specs.WordText.{unescaped}
-use Rattle.signal_script.specs.Signals.{signal_of, signal_of_words, signal_of_two, signal_of_four, address_of, invite_of, spelled, is_signal, is_of_form, are_invite_fields}
+use Rattle.signal_script.specs.Signals.{signal_of, signal_unbounded, signal_of_words, signal_of_two, signal_of_four, address_of, invite_of, spelled, is_signal, is_of_form, are_invite_fields}
 use Rattle.signal_script.proofs.WordLemmas.{no_space, words_alone, words_before}
 use Rattle.signal_script.proofs.WordTextLemmas.{unescaped_back, escaped_back, escaped_small}
 
@@ -190,3 +190,24 @@ pub read_valid : (line : List ℕ) (signal : Signal) → signal_of line ≡ Some
 read_valid line signal is =
     let whole = line_given line signal is in
     and_from (is_of_form signal) (is_line (spelled signal)) whole.1.form (rw whole.1.spelled whole.0)
+
+-- the same of a line whose length is left out
+
+pub printed_unbounded : (signal : Signal) → is_signal signal ≡ true → signal_unbounded (spelled signal) ≡ Some signal
+printed_unbounded signal valid =
+    let parts = and_parts (is_of_form signal) (is_line (spelled signal)) valid in
+    let plain = (and_parts (nat_le (length (spelled signal)) 4096) (is_plain (spelled signal)) parts.1).1 in
+    chosen (is_plain (spelled signal)) (signal_of_words (words_of (spelled signal))) None (Some signal) plain (words_read signal parts.0)
+
+bounded : (form plain : Bool) (short : Bool) → form ≡ true → plain ≡ true → (form && (short && plain)) ≡ short
+bounded form plain true is_form is_plain = rw (is_form, is_plain)
+bounded form plain false is_form is_plain = rw is_form
+
+-- its signal is one that a line can give exactly where the line isn't too long
+pub unbounded_valid : (line : List ℕ) (signal : Signal) → signal_unbounded line ≡ Some signal → is_signal signal ≡ nat_le (length line) 4096
+unbounded_valid line signal is =
+    let parts = both (is_plain line) (signal_of_words (words_of line)) signal is in
+    let words = given (words_of line) signal parts.1 in
+    let same : spelled signal ≡ line = words.spelled ∙ join_with_byte-slice_split 32 line in
+    ap (λ (bytes : List ℕ). is_of_form signal && is_line bytes) same
+    ∙ bounded (is_of_form signal) (is_plain line) (nat_le (length line) 4096) words.form parts.0

@@ -16,6 +16,10 @@ words_of line = slice_split (λ b. b == 32) line
 abbrev pub is_control : ℕ → Bool
 is_control b = nat_lt b 32 || b == 127
 
--- at most 4,096 bytes, none of them a control, that are UTF-8
+-- bytes without a control that are UTF-8
+abbrev pub is_plain : List ℕ → Bool
+is_plain line = list_all (λ b. not (is_control b)) line && is_utf8 line
+
+-- at most 4,096 of them
 abbrev pub is_line : List ℕ → Bool
-is_line line = nat_le (length line) 4096 && (list_all (λ b. not (is_control b)) line && is_utf8 line)
+is_line line = nat_le (length line) 4096 && is_plain line

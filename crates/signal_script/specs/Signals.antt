@@ -5,7 +5,7 @@ use Rattle.std.specs.Str.{bytes_eq}
 use Rattle.std.specs.declared.option.Option.{Option}
 use Rattle.slee_value.specs.Name.{is_name}
 use Rattle.slee_value.specs.Escape.{escaped}
-use Rattle.signal_script.specs.Lines.{lines_of, words_of, is_line}
+use Rattle.signal_script.specs.Lines.{lines_of, words_of, is_plain, is_line}
 use Rattle.signal_script.specs.WordText.{unescaped}
 use Rattle.signal_script.specs.declared.signal.Signal.{Signal}
 use Rattle.signal_script.specs.declared.signal.Signal.TheVariants.{Start, End, Fire}
@@ -70,6 +70,10 @@ signal_of_words (verb ∷ name ∷ []) = signal_of_two verb name
 signal_of_words (verb ∷ name ∷ event ∷ []) = None
 signal_of_words (verb ∷ name ∷ event ∷ field ∷ []) = signal_of_four verb name event field
 signal_of_words (verb ∷ name ∷ event ∷ field ∷ next ∷ more) = None
+
+-- what a line says, if it is of the grammar but perhaps too long
+abbrev pub signal_unbounded : List ℕ → Option Signal
+signal_unbounded line = if is_plain line then signal_of_words (words_of line) else None
 
 -- what a line says, if it is of the grammar
 abbrev pub signal_of : List ℕ → Option Signal

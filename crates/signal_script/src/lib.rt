@@ -13,10 +13,10 @@ mod unescaping;
 
 pub use fault::SignalFault;
 pub use fields::Fields;
-pub use laws::{printed_is_read, read_is_spelled};
+pub use laws::{length_alone_decides, printed_is_read, read_is_spelled};
 pub use line::LINE_LIMIT;
 pub use printing::print_signal;
-pub use reading::{read_line, read_signals};
+pub use reading::{read_line, read_signals, read_unbounded};
 pub use signal::Signal;
 pub use signals::Signals;
 pub use unescaping::unescape;

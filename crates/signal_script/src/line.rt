@@ -1,6 +1,6 @@
 ghost use Rattle.std.specs.Prelude.{◌≡◌, ◌∷◌, ◌<◌, [], true, false, not, length, MatchOption};
 ghost use Rattle.std.specs.List.{list_all};
-ghost use Rattle.signal_script.specs.Lines.{lines_of, words_of, is_line, is_control};
+ghost use Rattle.signal_script.specs.Lines.{lines_of, words_of, is_plain, is_line, is_control};
 
 use std::str;
 
@@ -23,11 +23,21 @@ pub fn first_line(bytes: &[u8]) -> (&[u8], &[u8])
 }
 
 /// The line as a text, if it is short enough, has no control and is UTF-8.
-#[tactic(auto, using(crate::proofs::LineLemmas::utf8_test, crate::proofs::LineLemmas::utf8_refused))]
 pub fn line_text(line: &[u8]) -> Option<&str>
     ensures { MatchOption result (is_line line.now ≡ false) (λ text. (is_line line.now ≡ true) × (text.now ≡ line.now)) }
 {
-    if line.len() > LINE_LIMIT || !has_no_control(line) {
+    if line.len() > LINE_LIMIT {
+        return None;
+    }
+    plain_text(line)
+}
+
+/// The line as a text, if it has no control and is UTF-8.
+#[tactic(auto, using(crate::proofs::LineLemmas::utf8_test, crate::proofs::LineLemmas::utf8_refused))]
+pub fn plain_text(line: &[u8]) -> Option<&str>
+    ensures { MatchOption result (is_plain line.now ≡ false) (λ text. (is_plain line.now ≡ true) × (text.now ≡ line.now)) }
+{
+    if !has_no_control(line) {
         return None;
     }
     match str::from_utf8(line) {

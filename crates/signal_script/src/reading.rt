@@ -1,8 +1,8 @@
 ghost use Rattle.std.specs.Prelude.{◌≡◌, ◌∷◌, IfOk, IsErrOf, IfSome, IsNone, Some, None};
 ghost use Rattle.signal_script.specs.Lines.{words_of};
-ghost use Rattle.signal_script.specs.Signals.{signal_of, signals_of, signal_of_words, signal_of_two, signal_of_four, address_of, invite_of};
+ghost use Rattle.signal_script.specs.Signals.{signal_of, signal_unbounded, signals_of, signal_of_words, signal_of_two, signal_of_four, address_of, invite_of};
 
-use crate::line::{first_line, line_text, split_word};
+use crate::line::{first_line, line_text, plain_text, split_word};
 use crate::unescaping::unescape;
 use crate::{Fields, Signal, SignalFault, Signals};
 use slee_value::{Name, NoMemory, Text};
@@ -31,6 +31,17 @@ pub fn read_line(alloc: Global, line: &[u8]) -> Result<Signal, SignalFault>
     ensures not_built { IsErrOf result SignalFault.NotBuilt → signal_of line.now ≡ None }
 {
     match line_text(line) {
+        None => Err(SignalFault::NotBuilt),
+        Some(text) => read_words(alloc, text),
+    }
+}
+
+/// The signal that one line spells, without its newline, even if the line is too long.
+pub fn read_unbounded(alloc: Global, line: &[u8]) -> Result<Signal, SignalFault>
+    ensures ok { IfOk result (λ signal. signal_unbounded line.now ≡ Some signal) }
+    ensures not_built { IsErrOf result SignalFault.NotBuilt → signal_unbounded line.now ≡ None }
+{
+    match plain_text(line) {
         None => Err(SignalFault::NotBuilt),
         Some(text) => read_words(alloc, text),
     }

@@ -8,10 +8,11 @@ usage: slee WORDS
 
   play 1 S   plays the signal lines of standard input with one worker, in at most
              S entries (1 to 1000000), and prints the trace and a status line
+  show       prints the state that the journal has, and a status line
   --help     prints this text
   --version  prints the version
 
-These forms are known and not built yet: check, show, compact, play W S and
+These forms are known and not built yet: check, compact, play W S and
 resume W S with W workers (1 to 64), gen SEED COUNT and trial SEED COUNT with a
 seed from 0 to 4294967295 and a count from 0 to 100000.
 
@@ -24,13 +25,28 @@ underscores. In a value a space, a percent sign and a control byte are written
 as a percent sign and two upper-case hexadecimal digits, and no other byte is.
 
 The deployment is built in: the service prepaid, whose root block call says the
-address of each invite, and that the call is over. No file is read or written.
+address of each invite, and that the call is over.
+
+The journal is two files of the folder where it runs, journal.a and journal.b.
+They are made where they are missing. Each entry is kept there, and synced,
+before it counts; a later run goes on from the state that they have. No other
+file is read or written. Statuses 2, 3, 13 and 14 leave them alone, and 8 and 9
+leave them as they are.
 
 Statuses, printed last and given as the exit status:
   0 ok             all lines were taken, and no choice is left
   2 bad-words      the words are of no form, or a number is out of range
   3 read-fault     standard input failed
   6 (none)         standard output failed; a front of the text is out
+  7 disk-fault     a file of the journal failed; open it again to see what it has
+  8 bad-journal SIDE AT KIND
+                   the journal is damaged: in file a or b, at this byte, by its
+                   header, length, sides, snapshot, record or replay
+  9 other-deployment N M
+                   the journal was written for a deployment of N bytes, which
+                   differs from this one at byte M
+  10 full N M      the journal has N bytes, and M more would be too many: a file
+                   has at most 268435456
   11 steps-spent N N entries were made and more would be left
   12 no-memory     memory ran out
   13 too-large signals

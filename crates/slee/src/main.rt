@@ -1,12 +1,12 @@
-//! The program: it makes the real source and sink, and calls the top call.
+//! The program: it makes the real source, sink and disk, and calls the top call.
 #![tactic(auto)]
 
 mod help;
 
 use help::{HELP, VERSION};
-use slee_disk::{HostSink, HostSource, LateFile, MemoryDisk, write_whole};
+use slee_disk::{HostDisk, HostSink, HostSource, LateFile, write_whole};
 use slee_run::{Status, run_one};
-use slee_value::{Blob, NoMemory};
+use slee_value::NoMemory;
 use std::alloc::Global;
 use std::process::ExitCode;
 use std::{env, io};
@@ -31,10 +31,7 @@ fn words_of(rt: &HostRuntime) -> io::Result<Vec<String>> {
 
 /// Words that are no text are of no form.
 fn refuse(rt: &HostRuntime) -> Status {
-    match run(rt, &[]) {
-        Ok(status) => status,
-        Err(NoMemory) => Status::NoMemory,
-    }
+    run(rt, &[])
 }
 
 /// Does what the words say. Where no memory is found to begin with, nothing is printed.
@@ -62,15 +59,15 @@ fn run_words(rt: &HostRuntime, words: &[String]) -> Result<Status, NoMemory> {
     for word in words {
         list.push(word.as_str())?;
     }
-    run(rt, list.as_slice())
+    Ok(run(rt, list.as_slice()))
 }
 
-fn run(rt: &HostRuntime, words: &[&str]) -> Result<Status, NoMemory> {
-    let alloc = rt.alloc();
+/// Calls the top call, on the files of this folder.
+fn run(rt: &HostRuntime, words: &[&str]) -> Status {
     let mut deploy = HostSource::new(LateFile::new(rt, "deploy.json"));
     let mut signals = HostSource::new(rt.reader());
     let mut out = HostSink::new(io::writer(rt));
-    let disk = MemoryDisk::new(alloc, Blob::new(alloc), Blob::new(alloc), Blob::new(alloc))?;
-    let (status, _disk) = run_one(alloc, words, &mut deploy, &mut signals, &mut out, disk);
-    Ok(status)
+    let disk = HostDisk::new(rt, ".", "journal.a", "journal.b");
+    let (status, _disk) = run_one(rt.alloc(), words, &mut deploy, &mut signals, &mut out, disk);
+    status
 }

@@ -1,6 +1,6 @@
 //! Steps of the router that are kept in a journal, and what they leave on the disk.
 ghost use Rattle.slee_container.specs.Opening.{fault_of, begin_fault_of};
-ghost use Rattle.std.specs.Prelude.{◌≡◌, ◌≤◌, ◌<◌, ◌+◌, [], true, false, length, IsTrue, Some, None, Ok, IfOk, IfErr, OnOk, OnErr};
+ghost use Rattle.std.specs.Prelude.{◌≡◌, ◌≤◌, ◌<◌, ◌+◌, [], true, false, length, IsTrue, Some, None, Ok, IfOk, IfErr, OnOk, OnErr, IsErrOf};
 
 use crate::replaying::replay;
 use crate::{OpenFault, StepFault, Stop};
@@ -60,11 +60,12 @@ impl<'d, D: Disk> Core<'d, D> {
     ghost use Rattle.router_rules.specs.History.{Legal, replay};
     ghost use Rattle.router_core.specs.Plans.{IsPlanOf};
     ghost use Rattle.slee_container.specs.Recovery.{restart, records, counting_side};
-    ghost use Rattle.slee_container.specs.Opening.{IsOpenCause, IsUntouchedFor};
+    ghost use Rattle.slee_container.specs.Opening.{IsOpenCause, IsSmall, IsUntouchedFor};
     ghost use Rattle.slee_container.specs.Facts.{RestartsIn, IsCrashSafe, HasRecords, base_of};
     ghost use Rattle.slee_container.specs.Core.{Stepped, is_down, IsStopOf};
 
     /// Opens what a disk keeps. It replays all records before it writes anything.
+    #[tactic(auto, using(crate::proofs::Opens::small_of_journal, crate::proofs::Opens::small_of_replay, crate::proofs::Opens::small_of_begin, crate::proofs::Opens::plain_of))]
     pub fn open(
         alloc: Global,
         disk: D,
@@ -79,6 +80,7 @@ impl<'d, D: Disk> Core<'d, D> {
         ensures new { IfOk result (λ c. (c.history ≡ []) × (c.acked ≡ 0) × (c.stop ≡ None) × (c.limit ≡ limit)) }
         ensures origin { IfOk result (λ c. (c.origin.deployment ≡ deployment.now) × (c.origin.moment ≡ (D.disk disk).moment) × (c.origin.faults ≡ (D.disk disk).faults) × (c.origin.clean ≡ is_clean (D.disk disk))) }
         ensures cause { IsTrue (D.disk disk).told → IfErr result (λ e. IsOpenCause limit deployment.now (D.disk disk).seen e.0) }
+        ensures small { IfErr result (λ e. IsSmall limit deployment.now e.0) }
         ensures failed { IfErr result (λ e. e.0 ≡ OpenFault.DiskFault → Rose (D.disk disk).faults (D.disk e.1).faults) }
         ensures untouched { IfErr result (λ e. IsUntouchedFor e.0 (D.disk disk) (D.disk e.1)) }
 
@@ -127,6 +129,7 @@ impl<'d, D: Disk> Core<'d, D> {
         ensures step { Stepped self.old plan.choice result self.new }
         ensures origin { self.new.origin ≡ self.old.origin }
         ensures limit { self.new.limit ≡ self.old.limit }
+        ensures failed { IsErrOf result StepFault.DiskFault → Rose (D.disk self.old.disk).faults (D.disk self.new.disk).faults }
 
         // A crash at any moment of the call leaves what was acknowledged before it.
         ensures any_moment { IsTrue self.old.origin.clean → LeavesOnly (D.disk self.old.disk) (D.disk self.new.disk)
@@ -172,6 +175,7 @@ impl<'d, D: Disk> Core<'d, D> {
         ensures step { Stepped self.old choice result self.new }
         ensures origin { self.new.origin ≡ self.old.origin }
         ensures limit { self.new.limit ≡ self.old.limit }
+        ensures failed { IsErrOf result StepFault.DiskFault → Rose (D.disk self.old.disk).faults (D.disk self.new.disk).faults }
         ensures any_moment { IsTrue self.old.origin.clean → LeavesOnly (D.disk self.old.disk) (D.disk self.new.disk)
             (RestartsIn self.old.origin self.new.history self.old.acked) }
     {
@@ -237,6 +241,7 @@ impl<'d, D: Disk> Core<'d, D> {
         ensures counted { IsTrue self.now.origin.clean → payloads_on self.now.origin.counting ≡ self.now.origin.found }
         ensures sized { IsTrue self.now.origin.clean → length self.now.origin.counting ≡ 24 + length self.now.origin.deployment + records_size self.now.origin.found }
         ensures records { IsTrue self.now.origin.clean → is_down self.now.stop ≡ false → HasRecords self.now.origin self.now.history self.now.acked (D.disk self.now.disk).seen }
+        ensures again { IsTrue self.now.origin.clean → is_down self.now.stop ≡ false → RestartsIn self.now.origin self.now.history self.now.acked (D.disk self.now.disk).seen }
     {
         let _history = &self.history;
     }

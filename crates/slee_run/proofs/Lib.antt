@@ -1,5 +1,9 @@
 pub mod WordLemmas
 pub mod TraceLemmas
-pub mod RunLemmas
+pub mod AdvanceLemmas
 pub mod PlayLemmas
+pub mod JournalLemmas
+pub mod EndLemmas
+pub mod AnswerLemmas
+pub mod RunLemmas
 pub mod DeterminedLemmas

@@ -1,12 +1,12 @@
 -- One step more of playing.
-use Rattle.std.proofs.Common.{◌≡◌, ◌≢◌, ℕ, ◌+◌, ◌-◌, ◌<◌, ◌≤◌, zero, suc, List, [], ◌∷◌, ◌++◌, length, length-drop, take, drop, true, false, not, ◌&&◌, if◌then◌else◌, refl, sym, ◌∙◌, ap, subst, arith, drop-drop, Option, Some, None, option_map, IsTrue}
+use Rattle.std.proofs.Common.{inl, inr, ◌≡◌, ◌≢◌, ℕ, ◌+◌, ◌-◌, ◌<◌, ◌≤◌, zero, suc, List, [], ◌∷◌, ◌++◌, length, length-drop, take, drop, true, false, not, ◌&&◌, if◌then◌else◌, refl, sym, ◌∙◌, ap, subst, arith, length-append, drop-drop, Option, Some, None, option_map, IsTrue}
 use Rattle.std.proofs.lemmas.Bool.{and_parts, and_from, not_from_false}
 use Rattle.std.proofs.lemmas.List.{drop_all, take_rest}
 use Rattle.std.specs.List.{list_all}
 use Rattle.std.specs.Option.{option_map_or}
 use Rattle.signal_script.specs.Signals.{is_signal}
 use Rattle.signal_script.specs.declared.signal.Signal.{Signal}
-use Rattle.trace_history.specs.Histories.{input_of}
+use Rattle.trace_history.specs.Histories.{choices_of, input_of}
 use Rattle.trace_history.specs.declared.choice.Choice.{Choice}
 use Rattle.trace_history.specs.declared.choice.Choice.TheVariants.{Input}
 use Rattle.trace_history.specs.declared.entry.Entry.{Entry}
@@ -17,8 +17,14 @@ use Rattle.router_rules.specs.Step.{after, step_entry, is_enabled, is_next, is_c
 use Rattle.router_rules.specs.History.{replay, due, due_next, line_choice, least_choice, choice_at, IsSoFar}
 use Rattle.router_rules.specs.declared.kindred.Kindred.{Kindred}
 use Rattle.router_rules.specs.declared.kindred.Kindred.TheVariants as kindreds
-use Rattle.router_rules.proofs.HistoryLemmas.{IsSoFar-start, IsSoFar-next, replay-append}
-use Rattle.slee_run.specs.Playing.{IsNext, IsPlayed}
+use Rattle.router_rules.proofs.HistoryLemmas.{IsSoFar-start, IsSoFar-next, replay-append, replay-choices, choices_of-append, payloads-append}
+use Rattle.router_rules.specs.Payload.{payload, payloads}
+use Rattle.commit_journal.specs.Spelling.{records_size}
+use Rattle.commit_journal.proofs.Sizes.{records_size-more}
+use Rattle.slee_container.specs.Facts.{Origin, base_of, records_since, size_after, size_added}
+use Rattle.slee_container.specs.Container.{View, Setup}
+use Rattle.slee_run.specs.Playing.{left, IsDueIn, IsStepOn, IsStill, IsSpent, Advances, EndsAs, IsPlayed, HadRoom, stop_of}
+use Rattle.slee_run.specs.declared.playing.End.{End}
 use Rattle.slee_run.specs.declared.playing.End.TheVariants as ends
 
 -- a choice that is next on an activity takes no line, and may be made
@@ -122,28 +128,134 @@ stepped base steps lines h new s t taken c before valid fresh room is moved grow
         (subst (λ (u : Parts). due u rest ≡ Some (c, drop (length (input_of c)) rest)) before.state due_here) facts.takes facts.valid
         (subst (λ (u : Parts). IsTrue (is_enabled u c)) before.state enabled) refl
 
--- what was found is due: it may be made, and it is one that a line can give
-pub found_due : (s : Parts) (lines : List Signal) (taken : ℕ) (c : Choice) → list_all is_signal lines ≡ true
-    → due_next (least_choice s) (drop taken lines) ≡ Some (c, drop (length (input_of c)) (drop taken lines)) → IsDue s (drop taken lines) c
-found_due s lines taken c valid is = due_is s (drop taken lines) (drop (length (input_of c)) (drop taken lines)) (least_choice s) c refl (all_dropped taken lines valid) is
+-- the size of the side with an entry more
+grown_size : (o : Origin) (h : List Entry) (e : Entry) → size_after o (h ++ e ∷ []) ≡ size_after o h + size_added o h e.choice
+grown_size o h e = omega (
+  arith,
+  ap records_size payloads_grown,
+  records_size-more (records_since o h) (payload (replay (base_of o) h) e.choice ∷ []),
+)
+  where
+    payloads_grown : records_since o (h ++ e ∷ []) ≡ records_since o h ++ payload (replay (base_of o) h) e.choice ∷ []
+    payloads_grown =
+        ap (payloads (base_of o)) (choices_of-append h (e ∷ []))
+        ∙ payloads-append (base_of o) (choices_of h) (e.choice ∷ [])
+        ∙ ap (λ (s : Parts). records_since o h ++ payload s e.choice ∷ []) (sym (replay-choices (base_of o) h))
 
-pub enabled_due : (s : Parts) (lines : List Signal) (c : Choice) → is_used_up s ≡ false → IsDue s lines c → is_enabled s c ≡ true
-enabled_due s lines c fresh facts = and_from (not (is_used_up s)) (is_next s c) (not_from_false (is_used_up s) fresh) facts.next
+-- what is played: the state so far, and how many lines were taken
+pub record IsUnderWay {D : Type 0} (first v : View D) : Type 0 where
+  pub same : v.setup ≡ first.setup
+  pub stepped : IsStepped (base_of v.setup.origin) v.setup.steps v.setup.lines v.history v.state v.taken
+  pub valid : list_all is_signal v.setup.lines ≡ true
+  pub live : v.stop ≡ None
+  pub free : v.claims ≡ []
+  pub acked : v.acked ≡ length v.history
+  pub room : HadRoom v.setup.origin v.setup.journal v.history
 
--- the same, as the code cuts the lines
-pub cut_due : (s : Parts) (lines : List Signal) (taken : ℕ) (found : Option Choice) (c : Choice) → found ≡ Some c
-    → IsNext (least_choice s) (take (length lines - taken) (drop taken lines)) found
-    → due_next (least_choice s) (drop taken lines) ≡ Some (c, drop (length (input_of c)) (drop taken lines))
-cut_due s lines taken found c is next =
-    subst (λ (rest : List Signal). due_next (least_choice s) rest ≡ Some (c, drop (length (input_of c)) rest)) (take_rest lines taken)
-    (subst (λ (o : Option Choice). IsNext (least_choice s) (take (length lines - taken) (drop taken lines)) o) is next)
+-- nothing was played
+pub begun : {D : Type 0} (v : View D) → v.history ≡ [] → v.state ≡ base_of v.setup.origin → v.taken ≡ 0 → v.acked ≡ 0 → v.claims ≡ [] → v.stop ≡ None
+    → list_all is_signal v.setup.lines ≡ true → IsUnderWay v v
+begun v none first untaken unacked free live valid = record {
+  same = refl;
+  stepped = subst (λ (n : ℕ). IsStepped (base_of v.setup.origin) v.setup.steps v.setup.lines v.history v.state n) (sym untaken)
+      (subst (λ (h : List Entry). IsStepped (base_of v.setup.origin) v.setup.steps v.setup.lines h v.state 0) (sym none)
+      (record { so_far = IsSoFar-start (base_of v.setup.origin) v.setup.steps v.setup.lines; state = first; within = omega arith }));
+  valid = valid;
+  live = live;
+  free = free;
+  acked = unacked ∙ sym (ap length none);
+  room = λ clean. inl none;
+}
 
--- nothing has been played
-pub begun : (base : Parts) (steps : ℕ) (lines : List Signal) (h : List Entry) (s : Parts) → h ≡ [] → s ≡ base → IsStepped base steps lines h s 0
-begun base steps lines h s none first =
-    subst (λ (h : List Entry). IsStepped base steps lines h s 0) (sym none)
-    (record { so_far = IsSoFar-start base steps lines; state = first; within = omega arith })
+module _ {D : Type 0} (first v w : View D) (way : IsUnderWay first v) (same : w.setup ≡ v.setup) where
+  abbrev base : Parts
+  base = base_of v.setup.origin
 
-pub unplayed : (base : Parts) (steps : ℕ) (lines : List Signal) (h : List Entry) → h ≡ [] → IsPlayed base steps lines h ends.NoMemory
-unplayed base steps lines h none =
-    subst (λ (h : List Entry). IsPlayed base steps lines h ends.NoMemory) (sym none) (record { rest = lines; so_far = IsSoFar-start base steps lines; ends = tt })
+  -- the step of a choice that was due
+  on : (c : Choice) → IsDueIn v c → IsStepOn v c w → IsStepped base v.setup.steps v.setup.lines w.history w.state w.taken
+  on c is step =
+      subst (λ (n : ℕ). IsStepped base v.setup.steps v.setup.lines w.history w.state n) (sym step.taken)
+      (stepped base v.setup.steps v.setup.lines v.history w.history v.state w.state v.taken c way.stepped way.valid is.fresh
+      (λ all. omega (arith, is.fewer, all)) is.due step.state step.history)
+
+  fits : (c : Choice) → IsStepOn v c w → HadRoom v.setup.origin v.setup.journal w.history
+  fits c step clean = inr (omega (
+    arith,
+    step.room clean,
+    ap (size_after v.setup.origin) step.history,
+    grown_size v.setup.origin v.history (step_entry v.state c),
+  ))
+
+  pub goes_on : Advances v None w → IsUnderWay first w
+  goes_on a = record {
+    same = same ∙ way.same;
+    stepped = subst (λ (u : Setup). IsStepped (base_of u.origin) u.steps u.lines w.history w.state w.taken) (sym same) (on a.0 a.1 a.2);
+    valid = subst (λ (u : Setup). list_all is_signal u.lines ≡ true) (sym same) way.valid;
+    live = a.4;
+    free = a.5;
+    acked = a.3;
+    room = subst (λ (u : Setup). HadRoom u.origin u.journal w.history) (sym same) (fits a.0 a.2);
+  }
+
+  pub nearer : Advances v None w → first.setup.steps - length w.history < first.setup.steps - length v.history
+  nearer a = omega (arith, a.1.fewer, ap (λ (u : Setup). u.steps) way.same, ap length a.2.history, length-append v.history (step_entry v.state a.0 ∷ []))
+
+  still : (e : End) → w.history ≡ v.history → EndsAs v.setup.journal base v.setup.steps v.history (left v) e → IsPlayed v.setup.journal base v.setup.steps v.setup.lines w.history e
+  still e is ends =
+      subst (λ (h : List Entry). IsPlayed v.setup.journal base v.setup.steps v.setup.lines h e) (sym is)
+      (record { rest = left v; so_far = way.stepped.so_far; ends = ends })
+
+  at_base : v.state ≡ replay base v.history
+  at_base = way.stepped.state
+
+  played : (e : End) → Advances v (Some e) w → IsPlayed v.setup.journal base v.setup.steps v.setup.lines w.history e
+  played ends.Done a = still ends.Done a.0.history (
+    a.2,
+    ap (due (replay base v.history)) a.2 ∙ ap (λ (s : Parts). due s []) (sym at_base) ∙ a.3,
+    ap is_used_up (sym at_base) ∙ a.4,
+  )
+  played ends.Spent a = still ends.Spent a.0.history
+      (subst (λ (s : Parts). IsSpent s v.setup.steps v.history (left v)) at_base (a.2 way.stepped.so_far.count))
+  played (ends.Full size adding) a = still (ends.Full size adding) a.0.history (record {
+    fewer = a.3.fewer;
+    choice = a.2;
+    more = drop (length (input_of a.2)) (left v);
+    next = ap (λ (s : Parts). due s (left v)) (sym at_base) ∙ rw a.3.fresh a.3.due;
+    adds = a.4;
+    above = a.5;
+  })
+  played ends.DiskFault a = record { rest = drop w.taken v.setup.lines; so_far = (on a.0 a.1 a.2).so_far; ends = tt }
+  played ends.NoMemory a = still ends.NoMemory a.0.history tt
+
+  pub ended : (e : End) → Advances v (Some e) w → IsPlayed first.setup.journal (base_of first.setup.origin) first.setup.steps first.setup.lines w.history e
+  ended e a = subst (λ (u : Setup). IsPlayed u.journal (base_of u.origin) u.steps u.lines w.history e) way.same (played e a)
+
+  pub stopped : (e : End) → Advances v (Some e) w → w.stop ≡ stop_of e
+  stopped ends.Done a = a.1
+  stopped ends.Spent a = a.1
+  stopped (ends.Full size adding) a = a.1
+  stopped ends.DiskFault a = a.4
+  stopped ends.NoMemory a = a.1
+
+  unmoved : IsStill v w → length w.history ≤ w.acked + 1
+  unmoved s = omega (arith, way.acked, ap length s.history, s.acked)
+
+  pub most : (e : End) → Advances v (Some e) w → length w.history ≤ w.acked + 1
+  most ends.Done a = unmoved a.0
+  most ends.Spent a = unmoved a.0
+  most (ends.Full size adding) a = unmoved a.0
+  most ends.DiskFault a = omega (arith, way.acked, a.3, ap length a.2.history, length-append v.history (step_entry v.state a.0 ∷ []))
+  most ends.NoMemory a = unmoved a.0
+
+  kept_room : IsStill v w → HadRoom v.setup.origin v.setup.journal w.history
+  kept_room s = subst (λ (h : List Entry). HadRoom v.setup.origin v.setup.journal h) (sym s.history) way.room
+
+  room_at : (e : End) → Advances v (Some e) w → HadRoom v.setup.origin v.setup.journal w.history
+  room_at ends.Done a = kept_room a.0
+  room_at ends.Spent a = kept_room a.0
+  room_at (ends.Full size adding) a = kept_room a.0
+  room_at ends.DiskFault a = fits a.0 a.2
+  room_at ends.NoMemory a = kept_room a.0
+
+  pub roomy : (e : End) → Advances v (Some e) w → HadRoom first.setup.origin first.setup.journal w.history
+  roomy e a = subst (λ (u : Setup). HadRoom u.origin u.journal w.history) way.same (room_at e a)

@@ -1,81 +1,189 @@
--- What a run comes to.
-use Rattle.std.proofs.Common.{◌≡◌, ◌⊎◌, inl, inr, ℕ, ◌<◌, ◌≤◌, nat_le, Bool, true, false, if◌then◌else◌, List, [], ◌++◌, length, refl, sym, ◌∙◌, ap, subst, arith, Option, Some, None, IfSome, MatchOption, is_some}
-use Rattle.std.proofs.lemmas.Bool.{cases_Bool}
-use Rattle.std.proofs.lemmas.Bool.Decides.{nat_tests}
-use Rattle.signal_script.specs.Signals.{signals_of}
+-- What a run is, by what its words ask.
+use Rattle.std.proofs.Common.{◌≡◌, ◌≢◌, ◌⊎◌, inl, inr, ℕ, List, [], length, true, false, refl, sym, ◌∙◌, ap, subst, Option, Some, None, Result, Ok, Err, IsOk, IsTrue, IfSome, MatchOption, is_some}
 use Rattle.signal_script.specs.declared.signal.Signal.{Signal}
-use Rattle.trace_history.specs.declared.entry.Entry.{Entry}
+use Rattle.slee_disk.specs.Disk.{DiskState}
+use Rattle.commit_journal.specs.Reading.{Wrong, Bad, Other}
 use Rattle.router_model.specs.State.{Parts}
-use Rattle.router_rules.specs.History.{solo}
-use Rattle.slee_run.specs.Headline.{signals_limit, lines_given, Plays, IsFrontOn, ComesOn, IsRun, IsGood, IsComplete}
+use Rattle.trace_history.specs.declared.entry.Entry.{Entry}
+use Rattle.slee_run.specs.Words.{command_of}
+use Rattle.slee_run.specs.Status.{status_line}
+use Rattle.slee_run.specs.Text.{output_text, shown_text}
+use Rattle.slee_run.specs.Headline.{Plays, Shows, AsksLater, lines_given, EndsOn, ComesOn, IsShownAt, IsWritten, IsLegalRun, IsGood, IsComplete, IsShown}
+use Rattle.slee_run.specs.Opening.{found, IsAnswerTo}
+use Rattle.slee_run.specs.Answers.{IsPlayedBy, IsShownBy, IsFormOf}
+use Rattle.slee_run.specs.declared.command.Command.{Command}
+use Rattle.slee_run.specs.declared.command.Command.TheVariants as commands
+use Rattle.slee_run.specs.declared.top.Form.TheVariants as forms
 use Rattle.slee_run.specs.declared.status.Status.{Status}
 use Rattle.slee_run.specs.declared.status.Status.TheVariants as statuses
+use Rattle.slee_run.proofs.JournalLemmas.{or_initial, no_history, untouched}
 
-abbrev nothing : List Entry
-nothing = []
+one_command : (o : Option Command) (c d : Command) → o ≡ Some c → o ≡ Some d → c ≡ d
+one_command o c d p q = cc (sym p ∙ q)
 
--- no entry is a front of each run
-none_front : (base : Parts) (steps : ℕ) (given : Option (List Signal)) → MatchOption given (nothing ≡ nothing) (λ lines. IsFrontOn base steps lines nothing)
-none_front base steps None = refl
-none_front base steps (Some lines) = record { left = lines; taken = refl; rest = solo steps base lines; front = refl }
+no_command : (o : Option Command) (c : Command) → o ≡ None → o ≡ Some c → ⊥
+no_command o c p q = cc
 
--- memory ran out before the first entry
-pub out_of_memory : (base : Parts) (steps : ℕ) (bytes : List ℕ) (history : List Entry) (status : Status) → history ≡ [] → status ≡ statuses.NoMemory
-    → ComesOn base steps bytes history status
-out_of_memory base steps bytes history status none is =
-    subst (λ (s : Status). ComesOn base steps bytes history s) (sym is)
-    (subst (λ (h : List Entry). ComesOn base steps bytes h statuses.NoMemory) (sym none) (none_front base steps (lines_given bytes)))
+other_command : (c d : Command) → c ≡ d → (d ≢ c) → ⊥
+other_command c d is other = other (sym is)
 
-pub told_out_of_memory : (base : Parts) (steps : ℕ) (told : Option (List ℕ)) (history : List Entry) (status : Status) → history ≡ [] → status ≡ statuses.NoMemory
-    → IfSome told (λ bytes. ComesOn base steps bytes history status)
-told_out_of_memory base steps None history status none is = tt
-told_out_of_memory base steps (Some bytes) history status none is = out_of_memory base steps bytes history status none is
+-- the words are of no form
+pub run_of_bad : (words : List (List ℕ)) (told before after : Option (List ℕ)) (d : DiskState) (status : Status) → command_of words ≡ None
+    → IsWritten before after (status_line statuses.BadWords) statuses.BadWords status → IsLegalRun words told before after d d status
+run_of_bad words told before after d status none out = record {
+  base = or_initial (found d);
+  history = [];
+  acked = [];
+  text = status_line statuses.BadWords;
+  stood = statuses.BadWords;
+  run = record {
+    legal = no_history (or_initial (found d)) statuses.BadWords;
+    bad = λ e. record { same = refl; none = refl; alone = refl };
+    later = λ asks. absurd (no_command (command_of words) asks.command none asks.asks);
+    plays = λ steps is. absurd (no_command (command_of words) (commands.Play 1 steps) none is);
+    shows = λ is. absurd (no_command (command_of words) commands.Show none is);
+    unwritten = λ is. cc;
+  };
+  journal = untouched d statuses.BadWords tt;
+  output = out;
+}
 
--- bytes past the limit give no lines
-pub too_many : (bytes : List ℕ) → signals_limit < length bytes → lines_given bytes ≡ None
-too_many bytes large = rw (past (length bytes) large) refl
+-- they ask what isn't built
+pub run_of_later : (words : List (List ℕ)) (told before after : Option (List ℕ)) (d : DiskState) (status : Status) (c : Command) → command_of words ≡ Some c → IsFormOf c forms.Later
+    → IsWritten before after (status_line statuses.NotBuilt) statuses.NotBuilt status → IsLegalRun words told before after d d status
+run_of_later words told before after d status c asks later out = record {
+  base = or_initial (found d);
+  history = [];
+  acked = [];
+  text = status_line statuses.NotBuilt;
+  stood = statuses.NotBuilt;
+  run = record {
+    legal = no_history (or_initial (found d)) statuses.NotBuilt;
+    bad = λ none. absurd (no_command (command_of words) c none asks);
+    later = λ e. record { same = refl; none = refl; alone = refl };
+    plays = λ steps is. absurd (later.0 steps (one_command (command_of words) c (commands.Play 1 steps) asks is));
+    shows = λ is. absurd (later.1 (one_command (command_of words) c commands.Show asks is));
+    unwritten = λ is. cc;
+  };
+  journal = untouched d statuses.NotBuilt tt;
+  output = out;
+}
+
+-- they ask to play
+same_steps : (m n : ℕ) → commands.Play 1 m ≡ commands.Play 1 n → m ≡ n
+same_steps m n is = cc
+
+pub run_of_play : (words : List (List ℕ)) (told before after : Option (List ℕ)) (old new : DiskState) (status : Status) (c : Command) (steps : ℕ) → command_of words ≡ Some c → c ≡ commands.Play 1 steps
+    → IsPlayedBy (λ base history s. IfSome told (λ bytes. ComesOn base steps bytes history s)) before after old new status → IsLegalRun words told before after old new status
+run_of_play words told before after old new status c steps asks plays p = record {
+  base = p.base;
+  history = p.history;
+  acked = p.acked;
+  text = output_text p.acked p.stood;
+  stood = p.stood;
+  run = record {
+    legal = p.legal;
+    bad = λ none. absurd (no_command (command_of words) c none asks);
+    later = λ asked. absurd (asked.no_play steps (one_command (command_of words) asked.command (commands.Play 1 steps) asked.asks asked_play));
+    plays = λ n is. record {
+      comes = subst (λ k. IfSome told (λ bytes. ComesOn p.base k bytes p.history p.stood)) (same_steps steps n (one_command (command_of words) (commands.Play 1 steps) (commands.Play 1 n) asked_play is)) p.comes;
+      words = p.words;
+      prints = refl;
+    };
+    shows = λ is. absurd (no_play (one_command (command_of words) commands.Show (commands.Play 1 steps) is asked_play));
+    unwritten = p.unwritten;
+  };
+  journal = p.journal;
+  output = p.output;
+}
   where
-    past : (n : ℕ) → signals_limit < n → nat_le n signals_limit ≡ false
-    past n large = grind (arith, nat_tests)
+    asked_play : command_of words ≡ Some (commands.Play 1 steps)
+    asked_play = asks ∙ ap (λ (d : Command). Some d) plays
 
-pub not_lines : (bytes : List ℕ) → signals_of bytes ≡ None → lines_given bytes ≡ None
-not_lines bytes none = rw none (either (nat_le (length bytes) signals_limit))
+    no_play : commands.Show ≡ commands.Play 1 steps → ⊥
+    no_play is = cc
+
+-- they ask to show
+pub run_of_show : (words : List (List ℕ)) (told before after : Option (List ℕ)) (old new : DiskState) (status : Status) (c : Command) → command_of words ≡ Some c → c ≡ commands.Show
+    → IsShownBy before after old new status → IsLegalRun words told before after old new status
+run_of_show words told before after old new status c asks shows p = record {
+  base = p.base;
+  history = [];
+  acked = [];
+  text = shown_text p.base p.stood;
+  stood = p.stood;
+  run = record {
+    legal = no_history p.base p.stood;
+    bad = λ none. absurd (no_command (command_of words) c none asks);
+    later = λ asked. absurd (asked.no_show (one_command (command_of words) asked.command commands.Show asked.asks asked_show));
+    plays = λ n is. absurd (no_play n (one_command (command_of words) commands.Show (commands.Play 1 n) asked_show is));
+    shows = λ is. record { comes = p.comes; none = refl; prints = refl };
+    unwritten = λ is. subst IsShownAt is p.comes;
+  };
+  journal = p.journal;
+  output = p.output;
+}
   where
-    no_lines : Option (List Signal)
-    no_lines = None
+    asked_show : command_of words ≡ Some commands.Show
+    asked_show = asks ∙ ap (λ (d : Command). Some d) shows
 
-    either : (test : Bool) → (if test then no_lines else no_lines) ≡ no_lines
-    either true = refl
-    either false = refl
+    no_play : (n : ℕ) → commands.Show ≡ commands.Play 1 n → ⊥
+    no_play n is = cc
 
--- what a run on good lines comes to
-good : (base : Parts) (steps : ℕ) (bytes : List ℕ) (history : List Entry) (stood : Status) → ComesOn base steps bytes history stood
-    → is_some (lines_given bytes) ≡ true → (stood ≡ statuses.ReadFault → ⊥) → IsGood stood
-good base steps bytes history statuses.Ok comes given fine = tt
-good base steps bytes history statuses.BadWords comes given fine = absurd comes
-good base steps bytes history statuses.ReadFault comes given fine = absurd (fine refl)
-good base steps bytes history statuses.WriteFault comes given fine = absurd comes
-good base steps bytes history (statuses.StepsSpent entries) comes given fine = tt
-good base steps bytes history statuses.NoMemory comes given fine = tt
-good base steps bytes history (statuses.TooLarge what) comes given fine =
-    let none : false ≡ true = rw (too_many bytes comes.2) at given in cc
-good base steps bytes history statuses.NotBuilt comes given fine =
-    let none : false ≡ true = rw (not_lines bytes comes.2) at given in cc
+-- ---- without a fault
 
-told_good : (base : Parts) (steps : ℕ) (told : Option (List ℕ)) (history : List Entry) (stood : Status) → IfSome told (λ bytes. ComesOn base steps bytes history stood)
-    → IfSome told (λ bytes. is_some (lines_given bytes) ≡ true → (stood ≡ statuses.ReadFault → ⊥) → IsGood stood)
-told_good base steps None history stood comes = tt
-told_good base steps (Some bytes) history stood comes = good base steps bytes history stood comes
+no_fault : (bytes : Result Parts Wrong) (wrong : Wrong) → IsOk bytes → bytes ≡ Err wrong → ⊥
+no_fault bytes wrong ok is = let never : false ≡ true = subst IsOk is ok in cc
 
--- a run is complete: its status is the one that stood, or something failed
-pub complete : (base : Parts) (words : List (List ℕ)) (told : Option (List ℕ)) (history : List Entry) (stood status : Status) (Faulted : Type 0)
-    → IsRun base words told history stood → (stood ≡ statuses.ReadFault → Faulted) → (status ≡ stood) ⊎ Faulted → IsComplete words told Faulted status
-complete base words told history stood status Faulted run read or steps plays = by told (told_good base steps told history stood (run.plays steps plays).1)
+good : (base : Parts) (steps : ℕ) (lines : List Signal) (history : List Entry) (bytes : Result Parts Wrong) (stood : Status) → EndsOn base steps lines history stood → IsOk bytes → IsAnswerTo bytes stood
+    → stood ≢ statuses.ReadFault → stood ≢ statuses.DiskFault → IsGood stood
+good base steps lines history bytes statuses.Ok comes ok answer reads keeps = tt
+good base steps lines history bytes statuses.BadWords comes ok answer reads keeps = absurd comes
+good base steps lines history bytes statuses.ReadFault comes ok answer reads keeps = absurd (reads refl)
+good base steps lines history bytes statuses.WriteFault comes ok answer reads keeps = absurd comes
+good base steps lines history bytes statuses.DiskFault comes ok answer reads keeps = absurd (keeps refl)
+good base steps lines history bytes (statuses.BadJournal side at kind) comes ok answer reads keeps = absurd (no_fault bytes (Bad side at kind) ok answer)
+good base steps lines history bytes (statuses.OtherDeployment kept_len place) comes ok answer reads keeps = absurd (no_fault bytes (Other kept_len place) ok answer)
+good base steps lines history bytes (statuses.Full size adding) comes ok answer reads keeps = tt
+good base steps lines history bytes (statuses.StepsSpent entries) comes ok answer reads keeps = tt
+good base steps lines history bytes statuses.NoMemory comes ok answer reads keeps = tt
+good base steps lines history bytes (statuses.TooLarge what) comes ok answer reads keeps = absurd comes
+good base steps lines history bytes statuses.NotBuilt comes ok answer reads keeps = absurd comes
+
+good_given : (base : Parts) (steps : ℕ) (given : Option (List Signal)) (refusal : Type 0) (history : List Entry) (bytes : Result Parts Wrong) (stood : Status)
+    → MatchOption given refusal (λ lines. EndsOn base steps lines history stood) → is_some given ≡ true → IsOk bytes → IsAnswerTo bytes stood
+    → stood ≢ statuses.ReadFault → stood ≢ statuses.DiskFault → IsGood stood
+good_given base steps None refusal history bytes stood comes some ok answer reads keeps = absurd (cc)
+good_given base steps (Some lines) refusal history bytes stood comes some ok answer reads keeps = good base steps lines history bytes stood comes ok answer reads keeps
+
+pub complete : (words : List (List ℕ)) (told before after : Option (List ℕ)) (old new : DiskState) (status : Status) (Faulted : Type 0) → IsLegalRun words told before after old new status
+    → (status ≡ statuses.ReadFault → Faulted) → (status ≡ statuses.WriteFault → Faulted) → (status ≡ statuses.DiskFault → Faulted) → IsComplete words told old Faulted status
+complete words told before after old new status Faulted r read write disk steps plays tells ok = by told (r.run.plays steps plays).comes
   where
-    by : (told : Option (List ℕ)) → IfSome told (λ bytes. is_some (lines_given bytes) ≡ true → (stood ≡ statuses.ReadFault → ⊥) → IsGood stood)
-        → IfSome told (λ bytes. is_some (lines_given bytes) ≡ true → (Faulted → ⊥) → IsGood status)
-    by None fine = tt
-    by (Some bytes) fine = λ given none. elim or [
-      | inl same ↦ subst (λ (s : Status). IsGood s) (sym same) (fine given (λ is. none (read is)))
-      | inr faulted ↦ absurd (none faulted)
-    ]
+    by : (told : Option (List ℕ)) → IfSome told (λ bytes. ComesOn r.base steps bytes r.history r.stood) → IfSome told (λ bytes. is_some (lines_given bytes) ≡ true → (Faulted → ⊥) → IsGood status)
+    by None comes = tt
+    by (Some bytes) comes = λ given none.
+        let same : r.stood ≡ status = (r.output.whole (λ is. none (write is))).0 in
+        subst IsGood same (good_given r.base steps (lines_given bytes) _ r.history (found old) r.stood comes given ok (r.journal.opened tells).answer
+        (λ is. none (read (sym same ∙ is))) (λ is. none (disk (sym same ∙ is))))
+
+shown_or : (bytes : Result Parts Wrong) (stood : Status) → IsShownAt stood → IsOk bytes → IsAnswerTo bytes stood → stood ≢ statuses.DiskFault → (stood ≡ statuses.Ok) ⊎ (stood ≡ statuses.NoMemory)
+shown_or bytes statuses.Ok comes ok answer keeps = inl refl
+shown_or bytes statuses.BadWords comes ok answer keeps = absurd comes
+shown_or bytes statuses.ReadFault comes ok answer keeps = absurd comes
+shown_or bytes statuses.WriteFault comes ok answer keeps = absurd comes
+shown_or bytes statuses.DiskFault comes ok answer keeps = absurd (keeps refl)
+shown_or bytes (statuses.BadJournal side at kind) comes ok answer keeps = absurd (no_fault bytes (Bad side at kind) ok answer)
+shown_or bytes (statuses.OtherDeployment kept_len place) comes ok answer keeps = absurd (no_fault bytes (Other kept_len place) ok answer)
+shown_or bytes (statuses.Full size adding) comes ok answer keeps = absurd comes
+shown_or bytes (statuses.StepsSpent entries) comes ok answer keeps = absurd comes
+shown_or bytes statuses.NoMemory comes ok answer keeps = inr refl
+shown_or bytes (statuses.TooLarge what) comes ok answer keeps = absurd comes
+shown_or bytes statuses.NotBuilt comes ok answer keeps = absurd comes
+
+pub shown_whole : (words : List (List ℕ)) (told before after : Option (List ℕ)) (old new : DiskState) (status : Status) (Faulted : Type 0) → IsLegalRun words told before after old new status
+    → (status ≡ statuses.WriteFault → Faulted) → (status ≡ statuses.DiskFault → Faulted) → IsShown words old Faulted status
+shown_whole words told before after old new status Faulted r write disk shows tells ok none =
+    let same : r.stood ≡ status = (r.output.whole (λ is. none (write is))).0 in
+    subst (λ (s : Status). (s ≡ statuses.Ok) ⊎ (s ≡ statuses.NoMemory)) same
+    (shown_or (found old) r.stood (r.run.shows shows).comes ok (r.journal.opened tells).answer (λ is. none (disk (sym same ∙ is))))

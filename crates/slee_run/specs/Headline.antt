@@ -1,16 +1,23 @@
 -- What a run is: a legal history of the signal lines, its text, and a status with its cause.
-use Rattle.std.specs.Prelude.{◌≡◌, ◌≢◌, ◌⊎◌, ℕ, ◌<◌, ◌≤◌, nat_le, Bool, true, false, if◌then◌else◌, is_some, List, [], ◌++◌, length, Some, None, IfSome, MatchOption}
+use Rattle.std.specs.Prelude.{◌≡◌, ◌≢◌, ◌⊎◌, ℕ, ◌+◌, ◌<◌, ◌≤◌, nat_le, Bool, true, false, IsTrue, IsOk, if◌then◌else◌, is_some, List, [], ◌++◌, length, Some, None, IfSome, MatchOption}
+use mathlib.Core.List.{IsPrefix}
 use Rattle.std.specs.Io.KnownBytes.{Appends}
 use Rattle.std.specs.declared.option.Option.{Option}
 use Rattle.signal_script.specs.Signals.{signals_of}
 use Rattle.signal_script.specs.declared.signal.Signal.{Signal}
+use Rattle.slee_disk.specs.Disk.{DiskState}
 use Rattle.slee_disk.specs.Writes.{AppendsFront}
 use Rattle.trace_history.specs.Histories.{inputs_of}
+use Rattle.trace_history.specs.declared.choice.Choice.{Choice}
 use Rattle.trace_history.specs.declared.entry.Entry.{Entry}
 use Rattle.router_model.specs.State.{Parts, is_used_up}
 use Rattle.router_rules.specs.History.{Legal, replay, due, solo}
+use Rattle.router_rules.specs.Payload.{payload}
 use Rattle.slee_run.specs.Words.{command_of}
-use Rattle.slee_run.specs.Text.{output_text}
+use Rattle.slee_run.specs.Status.{status_line}
+use Rattle.slee_run.specs.Text.{output_text, shown_text}
+use Rattle.slee_run.specs.Opening.{journal_limit, found}
+use Rattle.slee_run.specs.Stops.{KeepsJournal}
 use Rattle.slee_run.specs.declared.command.Command.{Command}
 use Rattle.slee_run.specs.declared.command.Command.TheVariants as commands
 use Rattle.slee_run.specs.declared.status.Given.TheVariants as givens
@@ -25,9 +32,16 @@ signals_limit = 16777216
 abbrev pub Plays : List (List ℕ) → ℕ → Type 0
 Plays words steps = command_of words ≡ Some (commands.Play 1 steps)
 
+-- the words ask to show the state that the journal has
+abbrev pub Shows : List (List ℕ) → Type 0
+Shows words = command_of words ≡ Some commands.Show
+
 -- the words ask what isn't built yet
-abbrev pub AsksLater : List (List ℕ) → Type 0
-AsksLater words = (command : Command) × (command_of words ≡ Some command) × ((steps : ℕ) → command ≡ commands.Play 1 steps → ⊥)
+pub record AsksLater (words : List (List ℕ)) : Type 0 where
+  pub command : Command
+  pub asks : command_of words ≡ Some command
+  pub no_play : (steps : ℕ) → command ≢ commands.Play 1 steps
+  pub no_show : command ≢ commands.Show
 
 -- the signals that bytes give, if they are within the limit and lines of the grammar
 abbrev pub lines_given : List ℕ → Option (List Signal)
@@ -55,25 +69,104 @@ pub record IsSpentOn (base : Parts) (steps : ℕ) (lines : List Signal) (history
   pub taken : inputs_of history ++ left ≡ lines
   pub spent : (is_used_up (replay base history) ≡ true) ⊎ ((length history ≡ steps) × (is_some (due (replay base history) left) ≡ true))
 
--- When a run in so many entries at most, on these bytes, comes to a status, and what its history is then. No two of these
--- lines go together, but for a fault of reading and want of memory, which may come with any bytes.
+-- One worker would go on, with a choice whose record has this many bytes; with it a side of this size would be longer
+-- than the limit.
+pub record HasNoRoom (limit : ℕ) (base : Parts) (steps : ℕ) (history : List Entry) (left : List Signal) (size adding : ℕ) : Type 0 where
+  pub fewer : length history < steps
+  pub choice : Choice
+  pub more : List Signal
+  pub next : due (replay base history) left ≡ Some (choice, more)
+  pub adds : adding ≡ 5 + length (payload (replay base history) choice)
+  pub above : limit < size + adding
+
+-- a front of the run of one worker, behind which the next record has no room in the journal
+pub record IsFullOn (base : Parts) (steps : ℕ) (lines : List Signal) (history : List Entry) (size adding : ℕ) : Type 0 where
+  pub front : IsFrontOn base steps lines history
+  pub full : HasNoRoom journal_limit base steps history front.left size adding
+
+-- When a run on these lines, in so many entries at most, comes to a status, and what its history is then. No two of these
+-- lines go together, but for faults of the outside, what the disk keeps, and want of memory.
+abbrev pub EndsOn : Parts → ℕ → List Signal → List Entry → Status → Type 0
+EndsOn base steps lines history statuses.Ok = IsDoneOn base steps lines history
+EndsOn base steps lines history statuses.BadWords = ⊥
+EndsOn base steps lines history statuses.ReadFault = history ≡ []
+EndsOn base steps lines history statuses.WriteFault = ⊥
+EndsOn base steps lines history statuses.DiskFault = IsFrontOn base steps lines history
+EndsOn base steps lines history (statuses.BadJournal side at kind) = history ≡ []
+EndsOn base steps lines history (statuses.OtherDeployment kept_len place) = history ≡ []
+EndsOn base steps lines history (statuses.Full size adding) = IsFullOn base steps lines history size adding
+EndsOn base steps lines history (statuses.StepsSpent entries) = (entries ≡ length history) × IsSpentOn base steps lines history
+EndsOn base steps lines history statuses.NoMemory = IsFrontOn base steps lines history
+EndsOn base steps lines history (statuses.TooLarge what) = ⊥
+EndsOn base steps lines history statuses.NotBuilt = ⊥
+
+-- when bytes that give no lines come to a status
+abbrev pub IsRefused : List ℕ → Status → Type 0
+IsRefused bytes statuses.Ok = ⊥
+IsRefused bytes statuses.BadWords = ⊥
+IsRefused bytes statuses.ReadFault = Unit {0}
+IsRefused bytes statuses.WriteFault = ⊥
+IsRefused bytes statuses.DiskFault = ⊥
+IsRefused bytes (statuses.BadJournal side at kind) = ⊥
+IsRefused bytes (statuses.OtherDeployment kept_len place) = ⊥
+IsRefused bytes (statuses.Full size adding) = ⊥
+IsRefused bytes (statuses.StepsSpent entries) = ⊥
+IsRefused bytes statuses.NoMemory = Unit {0}
+IsRefused bytes (statuses.TooLarge what) = (what ≡ givens.Signals) × (signals_limit < length bytes)
+IsRefused bytes statuses.NotBuilt = (length bytes ≤ signals_limit) × (signals_of bytes ≡ None)
+
+-- When a run on these bytes, in so many entries at most, comes to a status, and what its history is then.
 abbrev pub ComesOn : Parts → ℕ → List ℕ → List Entry → Status → Type 0
-ComesOn base steps bytes history statuses.Ok = (lines : List Signal) × (lines_given bytes ≡ Some lines) × IsDoneOn base steps lines history
-ComesOn base steps bytes history statuses.BadWords = ⊥
-ComesOn base steps bytes history statuses.ReadFault = history ≡ []
-ComesOn base steps bytes history statuses.WriteFault = ⊥
-ComesOn base steps bytes history (statuses.StepsSpent entries) =
-    (lines : List Signal) × (lines_given bytes ≡ Some lines) × (entries ≡ length history) × IsSpentOn base steps lines history
-ComesOn base steps bytes history statuses.NoMemory = MatchOption (lines_given bytes) (history ≡ []) (λ lines. IsFrontOn base steps lines history)
-ComesOn base steps bytes history (statuses.TooLarge what) = (what ≡ givens.Signals) × (history ≡ []) × (signals_limit < length bytes)
-ComesOn base steps bytes history statuses.NotBuilt = (history ≡ []) × (length bytes ≤ signals_limit) × (signals_of bytes ≡ None)
+ComesOn base steps bytes history status =
+    MatchOption (lines_given bytes) ((history ≡ []) × IsRefused bytes status) (λ lines. EndsOn base steps lines history status)
+
+-- when showing comes to a status
+abbrev pub IsShownAt : Status → Type 0
+IsShownAt statuses.Ok = Unit {0}
+IsShownAt statuses.BadWords = ⊥
+IsShownAt statuses.ReadFault = ⊥
+IsShownAt statuses.WriteFault = ⊥
+IsShownAt statuses.DiskFault = Unit {0}
+IsShownAt (statuses.BadJournal side at kind) = Unit {0}
+IsShownAt (statuses.OtherDeployment kept_len place) = Unit {0}
+IsShownAt (statuses.Full size adding) = ⊥
+IsShownAt (statuses.StepsSpent entries) = ⊥
+IsShownAt statuses.NoMemory = Unit {0}
+IsShownAt (statuses.TooLarge what) = ⊥
+IsShownAt statuses.NotBuilt = ⊥
+
+-- A history is legal, and a front of it was acknowledged: all of it, but perhaps for one entry where the disk failed.
+pub record IsHistory (base : Parts) (history acked : List Entry) (status : Status) : Type 0 where
+  pub legal : Legal base history
+  pub front : IsPrefix acked history
+  pub whole : status ≢ statuses.DiskFault → acked ≡ history
+  pub most : length history ≤ length acked + 1
+
+-- nothing is done but this refusal
+pub record IsRefusal (history : List Entry) (text : List ℕ) (refusal status : Status) : Type 0 where
+  pub same : status ≡ refusal
+  pub none : history ≡ []
+  pub alone : text ≡ status_line refusal
+
+-- what is played, from a source that told that these bytes were left
+pub record IsPlay (base : Parts) (steps : ℕ) (told : Option (List ℕ)) (history acked : List Entry) (text : List ℕ) (status : Status) : Type 0 where
+  pub comes : IfSome told (λ bytes. ComesOn base steps bytes history status)
+  pub words : status ≢ statuses.BadWords
+  pub prints : text ≡ output_text acked status
+
+-- what is shown
+pub record IsShow (base : Parts) (history : List Entry) (text : List ℕ) (status : Status) : Type 0 where
+  pub comes : IsShownAt status
+  pub none : history ≡ []
+  pub prints : text ≡ shown_text base status
 
 -- What is said of a run with these words, where the source of signals told that these bytes were left, before its text is written.
-pub record IsRun (base : Parts) (words : List (List ℕ)) (told : Option (List ℕ)) (history : List Entry) (status : Status) : Type 0 where
-  pub legal : Legal base history
-  pub bad : command_of words ≡ None → (status ≡ statuses.BadWords) × (history ≡ [])
-  pub later : AsksLater words → (status ≡ statuses.NotBuilt) × (history ≡ [])
-  pub plays : (steps : ℕ) → Plays words steps → (status ≢ statuses.BadWords) × IfSome told (λ bytes. ComesOn base steps bytes history status)
+pub record IsRun (base : Parts) (words : List (List ℕ)) (told : Option (List ℕ)) (history acked : List Entry) (text : List ℕ) (status : Status) : Type 0 where
+  pub legal : IsHistory base history acked status
+  pub bad : command_of words ≡ None → IsRefusal history text statuses.BadWords status
+  pub later : AsksLater words → IsRefusal history text statuses.NotBuilt status
+  pub plays : (steps : ℕ) → Plays words steps → IsPlay base steps told history acked text status
+  pub shows : Shows words → IsShow base history text status
   pub unwritten : status ≢ statuses.WriteFault
 
 -- The text is out and the status is the one that stood, or a front of the text is out.
@@ -81,36 +174,55 @@ pub record IsWritten (before after : Option (List ℕ)) (text : List ℕ) (stood
   pub whole : status ≢ statuses.WriteFault → (stood ≡ status) × Appends before after text
   pub front : status ≡ statuses.WriteFault → AppendsFront before after text
 
--- One history is legal, follows the signals that were read, and is what was written; the status has its cause.
--- `stood` is the status before writing failed, if it did.
-pub record IsLegalRun (base : Parts) (words : List (List ℕ)) (told before after : Option (List ℕ)) (status : Status) : Type 0 where
+-- One history is legal, follows the signals that were read, and its acknowledged part is what was written and what the
+-- journal has; the status has its cause. `stood` is the status before writing failed, if it did.
+pub record IsLegalRun (words : List (List ℕ)) (told before after : Option (List ℕ)) (old new : DiskState) (status : Status) : Type 0 where
+  pub base : Parts
   pub history : List Entry
+  pub acked : List Entry
+  pub text : List ℕ
   pub stood : Status
-  pub run : IsRun base words told history stood
-  pub output : IsWritten before after (output_text history stood) stood status
+  pub run : IsRun base words told history acked text stood
+  pub journal : KeepsJournal base history acked old new stood
+  pub output : IsWritten before after text stood status
 
--- statuses with which a run on good lines ends
+-- statuses with which a run on good lines and an honest journal ends
 abbrev pub IsGood : Status → Type 0
 IsGood statuses.Ok = Unit {0}
 IsGood statuses.BadWords = ⊥
 IsGood statuses.ReadFault = ⊥
 IsGood statuses.WriteFault = ⊥
+IsGood statuses.DiskFault = ⊥
+IsGood (statuses.BadJournal side at kind) = ⊥
+IsGood (statuses.OtherDeployment kept_len place) = ⊥
+IsGood (statuses.Full size adding) = Unit {0}
 IsGood (statuses.StepsSpent entries) = Unit {0}
 IsGood statuses.NoMemory = Unit {0}
 IsGood (statuses.TooLarge what) = ⊥
 IsGood statuses.NotBuilt = ⊥
 
--- With words that play and lines of the grammar within the limit, a run without a fault comes to no other status.
-abbrev pub IsComplete : List (List ℕ) → Option (List ℕ) → Type 0 → Status → Type 0
-IsComplete words told Faulted status =
-    (steps : ℕ) → Plays words steps → IfSome told (λ bytes. is_some (lines_given bytes) ≡ true → (Faulted → ⊥) → IsGood status)
+-- With words that play, lines of the grammar within the limit, and bytes on the disk that stand for a state, a run without
+-- a fault comes to no other status.
+abbrev pub IsComplete : List (List ℕ) → Option (List ℕ) → DiskState → Type 0 → Status → Type 0
+IsComplete words told disk Faulted status =
+    (steps : ℕ) → Plays words steps → IsTrue disk.told → IsOk (found disk)
+    → IfSome told (λ bytes. is_some (lines_given bytes) ≡ true → (Faulted → ⊥) → IsGood status)
 
--- a status that doesn't follow from the words and the bytes
+-- With words that show, and bytes on the disk that stand for a state, a run without a fault shows it, or memory ran out.
+abbrev pub IsShown : List (List ℕ) → DiskState → Type 0 → Status → Type 0
+IsShown words disk Faulted status =
+    Shows words → IsTrue disk.told → IsOk (found disk) → (Faulted → ⊥) → (status ≡ statuses.Ok) ⊎ (status ≡ statuses.NoMemory)
+
+-- a status that doesn't follow from the words and the lines
 abbrev pub IsByFault : Status → Type 0
 IsByFault statuses.Ok = ⊥
 IsByFault statuses.BadWords = ⊥
 IsByFault statuses.ReadFault = Unit {0}
 IsByFault statuses.WriteFault = ⊥
+IsByFault statuses.DiskFault = Unit {0}
+IsByFault (statuses.BadJournal side at kind) = Unit {0}
+IsByFault (statuses.OtherDeployment kept_len place) = Unit {0}
+IsByFault (statuses.Full size adding) = Unit {0}
 IsByFault (statuses.StepsSpent entries) = ⊥
 IsByFault statuses.NoMemory = Unit {0}
 IsByFault (statuses.TooLarge what) = ⊥

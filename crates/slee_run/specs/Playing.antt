@@ -1,28 +1,107 @@
--- How playing ends.
-use Rattle.std.specs.Prelude.{◌≡◌, ◌⊎◌, ℕ, Bool, true, false, is_some, List, [], length, drop, Some, None, Option, MatchOption}
+-- How playing goes on, and how it ends.
+use Rattle.std.specs.Prelude.{◌≡◌, ◌⊎◌, ℕ, ◌+◌, ◌≤◌, ◌<◌, Bool, true, false, IsTrue, is_some, List, [], ◌∷◌, ◌++◌, length, drop, Some, None, Option, Result, Ok, Err}
 use Rattle.signal_script.specs.declared.signal.Signal.{Signal}
 use Rattle.trace_history.specs.Histories.{input_of}
 use Rattle.trace_history.specs.declared.choice.Choice.{Choice}
 use Rattle.trace_history.specs.declared.entry.Entry.{Entry}
 use Rattle.router_model.specs.State.{Parts, is_used_up}
-use Rattle.router_rules.specs.History.{replay, due, due_next, IsSoFar}
+use Rattle.router_rules.specs.Step.{after, step_entry}
+use Rattle.router_rules.specs.History.{replay, due, due_next, least_choice, IsSoFar}
+use Rattle.slee_container.specs.declared.fault.StepFault.{StepFault}
+use Rattle.slee_container.specs.declared.fault.StepFault.TheVariants as faults
+use Rattle.slee_container.specs.declared.fault.Stop.{Stop}
+use Rattle.slee_container.specs.declared.fault.Stop.TheVariants as stops
+use Rattle.slee_container.specs.Facts.{Origin, size_after, size_added, HasRoom}
+use Rattle.slee_container.specs.Container.{View, is_spent}
+use Rattle.slee_run.specs.Headline.{HasNoRoom}
 use Rattle.slee_run.specs.declared.playing.End.{End}
 use Rattle.slee_run.specs.declared.playing.End.TheVariants as ends
+use Rattle.slee_run.specs.declared.status.Status.{Status}
+use Rattle.slee_run.specs.declared.status.Status.TheVariants as statuses
 
--- what one worker does next where these lines are left: nothing, or this choice, which takes its lines from them
-abbrev pub IsNext : Option Choice → List Signal → Option Choice → Type 0
-IsNext own lines found =
-    MatchOption found (due_next own lines ≡ None) (λ choice. due_next own lines ≡ Some (choice, drop (length (input_of choice)) lines))
+-- the lines that aren't taken yet
+abbrev pub left : {D : Type 0} → View D → List Signal
+left v = drop v.taken v.setup.lines
 
--- Done: no line is left and no choice is enabled. Spent: the run may go no further.
-abbrev pub EndsAs : Parts → ℕ → List Entry → List Signal → End → Type 0
-EndsAs base steps history rest ends.Done = (rest ≡ []) × (due (replay base history) rest ≡ None) × (is_used_up (replay base history) ≡ false)
-EndsAs base steps history rest ends.Spent =
-    (is_used_up (replay base history) ≡ true) ⊎ ((length history ≡ steps) × (is_some (due (replay base history) rest) ≡ true))
-EndsAs base steps history rest ends.NoMemory = Unit {0}
+-- the choice that one worker makes next, which takes its lines from those that are left
+pub record IsDueIn {D : Type 0} (v : View D) (c : Choice) : Type 0 where
+  pub fresh : is_used_up v.state ≡ false
+  pub fewer : length v.history < v.setup.steps
+  pub due : due_next (least_choice v.state) (left v) ≡ Some (c, drop (length (input_of c)) (left v))
 
--- the signals were played so far, and so it ended
-pub record IsPlayed (base : Parts) (steps : ℕ) (lines : List Signal) (history : List Entry) (end : End) : Type 0 where
+-- the step of this choice stands in the history
+pub record IsStepOn {D : Type 0} (old : View D) (c : Choice) (new : View D) : Type 0 where
+  pub history : new.history ≡ old.history ++ step_entry old.state c ∷ []
+  pub state : new.state ≡ after old.state c
+  pub taken : new.taken ≡ old.taken + length (input_of c)
+  pub room : HasRoom old.setup.origin old.setup.journal old.history c
+
+-- no step was made
+pub record IsStill {D : Type 0} (old new : View D) : Type 0 where
+  pub history : new.history ≡ old.history
+  pub taken : new.taken ≡ old.taken
+  pub acked : new.acked ≡ old.acked
+
+-- what a step does to a container without claims
+abbrev pub Moves : {D : Type 0} → View D → Choice → Result ℕ StepFault → View D → Type 0
+Moves old c (Ok number) new = IsStepOn old c new × (new.acked ≡ length new.history) × (new.stop ≡ None) × (new.claims ≡ [])
+Moves old c (Err faults.DiskFault) new = IsStepOn old c new × (new.acked ≡ old.acked) × (new.stop ≡ Some stops.DiskFault)
+Moves old c (Err (faults.Full size adding)) new = IsStill old new × (new.stop ≡ Some (stops.Full size adding)) × (adding ≡ size_added old.setup.origin old.history c) × (old.setup.journal < size + adding)
+Moves old c (Err faults.NoMemory) new = IsStill old new × (new.stop ≡ old.stop)
+Moves old c (Err faults.Spent) new = IsStill old new × (new.stop ≡ old.stop) × IsTrue (is_spent old.setup.steps old.history old.state)
+
+-- what playing ends with after a step
+abbrev pub end_of : Result ℕ StepFault → Option End
+end_of (Ok number) = None
+end_of (Err faults.DiskFault) = Some ends.DiskFault
+end_of (Err (faults.Full size adding)) = Some (ends.Full size adding)
+end_of (Err faults.NoMemory) = Some ends.NoMemory
+end_of (Err faults.Spent) = Some ends.Spent
+
+-- the worker may go no further
+abbrev pub IsSpent : Parts → ℕ → List Entry → List Signal → Type 0
+IsSpent s steps history lines = (is_used_up s ≡ true) ⊎ ((length history ≡ steps) × (is_some (due s lines) ≡ true))
+
+-- what one step of playing does: it goes on, or this is the end
+abbrev pub Advances : {D : Type 0} → View D → Option End → View D → Type 0
+Advances old None new = (c : Choice) × IsDueIn old c × IsStepOn old c new × (new.acked ≡ length new.history) × (new.stop ≡ None) × (new.claims ≡ [])
+Advances old (Some ends.DiskFault) new = (c : Choice) × IsDueIn old c × IsStepOn old c new × (new.acked ≡ old.acked) × (new.stop ≡ Some stops.DiskFault)
+Advances old (Some (ends.Full size adding)) new = IsStill old new × (new.stop ≡ Some (stops.Full size adding)) × (c : Choice) × IsDueIn old c × (adding ≡ size_added old.setup.origin old.history c) × (old.setup.journal < size + adding)
+Advances old (Some ends.NoMemory) new = IsStill old new × (new.stop ≡ None)
+Advances old (Some ends.Spent) new = IsStill old new × (new.stop ≡ None) × ((length old.history ≤ old.setup.steps) → IsSpent old.state old.setup.steps old.history (left old))
+Advances old (Some ends.Done) new = IsStill old new × (new.stop ≡ None) × (left old ≡ []) × (due old.state [] ≡ None) × (is_used_up old.state ≡ false)
+
+-- how playing ends: done, where no line is left and no choice is enabled; spent, where the run may go no further; full, where
+-- the next record has no room
+abbrev pub EndsAs : ℕ → Parts → ℕ → List Entry → List Signal → End → Type 0
+EndsAs limit base steps history rest ends.Done = (rest ≡ []) × (due (replay base history) rest ≡ None) × (is_used_up (replay base history) ≡ false)
+EndsAs limit base steps history rest ends.Spent = IsSpent (replay base history) steps history rest
+EndsAs limit base steps history rest (ends.Full size adding) = HasNoRoom limit base steps history rest size adding
+EndsAs limit base steps history rest ends.DiskFault = Unit {0}
+EndsAs limit base steps history rest ends.NoMemory = Unit {0}
+
+-- the lines were played so far, and so it ended
+pub record IsPlayed (limit : ℕ) (base : Parts) (steps : ℕ) (lines : List Signal) (history : List Entry) (end : End) : Type 0 where
   pub rest : List Signal
   pub so_far : IsSoFar base steps lines history rest
-  pub ends : EndsAs base steps history rest end
+  pub ends : EndsAs limit base steps history rest end
+
+-- each entry that was made had room
+abbrev pub HadRoom : Origin → ℕ → List Entry → Type 0
+HadRoom o limit history = IsTrue o.clean → (history ≡ []) ⊎ (size_after o history ≤ limit)
+
+-- how an end has stopped a container
+abbrev pub stop_of : End → Option Stop
+stop_of ends.Done = None
+stop_of ends.Spent = None
+stop_of (ends.Full size adding) = Some (stops.Full size adding)
+stop_of ends.DiskFault = Some stops.DiskFault
+stop_of ends.NoMemory = None
+
+-- the status of an end, after so many entries
+abbrev pub status_after : ℕ → End → Status
+status_after entries ends.Done = statuses.Ok
+status_after entries ends.Spent = statuses.StepsSpent entries
+status_after entries (ends.Full size adding) = statuses.Full size adding
+status_after entries ends.DiskFault = statuses.DiskFault
+status_after entries ends.NoMemory = statuses.NoMemory

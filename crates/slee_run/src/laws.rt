@@ -20,8 +20,8 @@ pub fn spelled_is_command()
     ensures { (command : Command) → is_in_range command ≡ true → command_of (spelled command) ≡ Some command }
 {}
 
-/// Where the source tells its bytes, they and the words determine the status and the history, but for a fault of reading
-/// and want of memory.
+/// The state that a run goes on from, the words and the bytes of the source determine the status, the history and the text,
+/// but for faults of the outside, what the journal has no room for, and want of memory.
 pub fn run_is_determined()
-    ensures { (base : Parts) (words : List (List ℕ)) (bytes : List ℕ) (h k : List Entry) (s t : Status) → IsRun base words (Some bytes) h s → IsRun base words (Some bytes) k t → (IsByFault s → ⊥) → (IsByFault t → ⊥) → (s ≡ t) × (h ≡ k) }
+    ensures { (base : Parts) (words : List (List ℕ)) (bytes : List ℕ) (h k a b : List Entry) (x y : List ℕ) (s t : Status) → IsRun base words (Some bytes) h a x s → IsRun base words (Some bytes) k b y t → (IsByFault s → ⊥) → (IsByFault t → ⊥) → (s ≡ t) × (h ≡ k) × (x ≡ y) }
 {}

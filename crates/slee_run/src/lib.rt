@@ -1,11 +1,14 @@
-//! The top call: it reads what the words ask for, plays it, and writes the trace and the status.
+//! The top call: it reads what the words ask for, plays it over the journal, and writes the trace and the status.
 #![tactic(auto)]
 
 mod command;
+mod finishing;
 mod laws;
-mod performing;
 mod playing;
 mod printing;
+mod reading;
+mod running;
+mod showing;
 mod status;
 mod top;
 mod words;

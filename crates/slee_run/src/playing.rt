@@ -1,18 +1,17 @@
-//! Playing signals, a step at a time.
-ghost use Rattle.std.specs.Prelude.{◌≡◌, ◌++◌, ◌∷◌, [], IfOk, IsTrue, OnOk, OnErr, None, length};
-ghost use Rattle.signal_script.specs.Signals.{is_signal};
+//! Playing what a container has to do, a step at a time.
+ghost use Rattle.std.specs.Prelude.{◌≡◌, ◌≤◌, ◌+◌, [], None, Some, IsTrue, length};
 ghost use Rattle.std.specs.List.{list_all};
-ghost use Rattle.trace_history.specs.Histories.{input_of};
-ghost use Rattle.router_model.specs.State.{initial};
-ghost use Rattle.router_rules.specs.Step.{after, step_entry, is_enabled, is_choice};
-ghost use Rattle.router_rules.specs.History.{least_choice};
-ghost use Rattle.slee_run.specs.Playing.{IsNext, IsPlayed};
+ghost use Rattle.signal_script.specs.Signals.{is_signal};
+ghost use Rattle.router_rules.specs.Selection.{next};
+ghost use Rattle.router_rules.specs.Step.{choice_on};
+ghost use Rattle.slee_container.specs.Facts.{base_of};
+ghost use Rattle.slee_run.specs.Playing.{Moves, Advances, IsPlayed, HadRoom, end_of, stop_of};
 
-use router_core::State;
-use signal_script::{Signal, Signals};
-use slee_value::NoMemory;
-use std::alloc::Global;
-use trace_history::{Choice, History};
+use router_rules::Kindred;
+use slee_container::{Container, Redone, StepFault, Work};
+use slee_disk::Disk;
+use slee_value::ActivityId;
+use trace_history::Choice;
 
 /// How playing ended.
 #[derive(Clone, Copy, Debug, PartialEq, Eq)]
@@ -21,117 +20,107 @@ pub enum End {
     Done,
     /// The run may go no further.
     Spent,
+    /// The next record has no room in the journal.
+    Full { length: u64, adding: u64 },
+    /// The disk failed in the last step, which isn't acknowledged.
+    DiskFault,
     /// Memory ran out.
     NoMemory,
 }
 
-/// What was played.
-#[derive(Drop)]
-pub struct Played {
-    pub history: History,
-    pub end: End,
-}
-
-/// Plays the signals, in so many entries at most.
-pub fn play(alloc: Global, signals: &Signals, steps: u64) -> Played
-    ensures { IsPlayed initial steps signals.now result.history.entries result.end }
+/// Plays what is to be done, until nothing is or nothing may be.
+#[tactic(auto, using(crate::proofs::PlayLemmas::begun, crate::proofs::PlayLemmas::nearer, crate::proofs::PlayLemmas::stopped, crate::proofs::PlayLemmas::most, crate::proofs::PlayLemmas::roomy))]
+pub fn play<'d, D: Disk>(container: &mut Container<'d, D>) -> End
+    requires history { container.old.history ≡ [] }
+    requires state { container.old.state ≡ base_of container.old.setup.origin }
+    requires taken { container.old.taken ≡ 0 }
+    requires acked { container.old.acked ≡ 0 }
+    requires claims { container.old.claims ≡ [] }
+    requires live { container.old.stop ≡ None }
+    requires valid { IsTrue (list_all is_signal container.old.setup.lines) }
+    ensures setup { container.new.setup ≡ container.old.setup }
+    ensures played { IsPlayed container.old.setup.journal (base_of container.old.setup.origin) container.old.setup.steps container.old.setup.lines container.new.history result }
+    ensures stop { container.new.stop ≡ stop_of result }
+    ensures most { length container.new.history ≤ container.new.acked + 1 }
+    ensures room { HadRoom container.old.setup.origin container.old.setup.journal container.new.history }
 {
-    let mut history = History::new(alloc);
-    let end = play_all(alloc, &mut history, signals.as_slice(), steps);
-    Played { history, end }
-}
-
-/// Makes the initial state, and plays the signals from there.
-#[tactic(auto, using(crate::proofs::PlayLemmas::unplayed))]
-fn play_all(alloc: Global, history: &mut History, signals: &[Signal], steps: u64) -> End
-    requires history { history.old.entries ≡ [] }
-    requires valid { IsTrue (list_all is_signal signals.now) }
-    ensures { IsPlayed initial steps signals.now history.new.entries result }
-{
-    let Ok(mut state) = State::initial(alloc) else {
-        return End::NoMemory;
-    };
-    play_from(alloc, &mut state, history, signals, steps)
-}
-
-/// Plays the signals from the initial state on.
-fn play_from(
-    alloc: Global,
-    state: &mut State,
-    history: &mut History,
-    signals: &[Signal],
-    steps: u64,
-) -> End
-    requires state { state.old.parts ≡ initial }
-    requires history { history.old.entries ≡ [] }
-    requires valid { IsTrue (list_all is_signal signals.now) }
-    ensures { IsPlayed initial steps signals.now history.new.entries result }
-{
-    let mut taken: usize = 0;
     'entries: loop {
-        if state.used_up() {
-            return End::Spent;
+        match advance(container) {
+            Some(end) => return end,
+            None => {}
         }
-        let choice = match next_choice(alloc, state, &signals[taken..]) {
-            Ok(Some(choice)) => choice,
-            Ok(None) => return End::Done,
-            Err(_) => return End::NoMemory,
-        };
-        if history.len() == steps {
-            return End::Spent;
-        }
-        taken += inputs_of(&choice);
-        let Ok(()) = make(alloc, state, history, choice) else {
-            return End::NoMemory;
-        };
     }
 }
 
-/// What one worker does next: the choice of the least activity that has one, else the next line is taken.
-fn next_choice(alloc: Global, state: &State, lines: &[Signal]) -> Result<Option<Choice>, NoMemory>
-    ensures { IfOk result (IsNext (least_choice state.now.parts) lines.now) }
+/// Does what is to be done next.
+fn advance<'d, D: Disk>(container: &mut Container<'d, D>) -> Option<End>
+    requires live { container.old.stop ≡ None }
+    requires claims { container.old.claims ≡ [] }
+    ensures setup { container.new.setup ≡ container.old.setup }
+    ensures advances { Advances container.old result container.new }
 {
-    match state.next_choice() {
-        Some(choice) => Ok(Some(choice)),
-        None => next_line(alloc, lines),
+    match container.next_work() {
+        Work::Done => Some(End::Done),
+        Work::Spent => Some(End::Spent),
+        Work::Line => end_of(container.take_input()),
+        Work::Step(activity, kindred) => end_of(step(container, activity, kindred)),
+        Work::Stopped(_) => unreachable!(),
+        Work::Idle { claims: _ } => unreachable!(),
     }
 }
 
-fn next_line(alloc: Global, lines: &[Signal]) -> Result<Option<Choice>, NoMemory>
-    ensures { IfOk result (IsNext None lines.now) }
+/// What playing ends with after a step.
+fn end_of(moved: Result<u64, StepFault>) -> Option<End>
+    ensures { result ≡ end_of moved }
 {
-    match lines {
-        [] => Ok(None),
-        [line, ..] => Ok(Some(Choice::Input(line.copy(alloc)?))),
+    match moved {
+        Ok(_) => None,
+        Err(StepFault::DiskFault) => Some(End::DiskFault),
+        Err(StepFault::Full { length, adding }) => Some(End::Full { length, adding }),
+        Err(StepFault::Spent) => Some(End::Spent),
+        Err(StepFault::NoMemory) => Some(End::NoMemory),
     }
 }
 
-/// How many lines the choice takes.
-fn inputs_of(choice: &Choice) -> usize
-    ensures { result ≡ length (input_of choice.now) }
+/// Makes the step that is next on an activity.
+fn step<'d, D: Disk>(
+    container: &mut Container<'d, D>,
+    activity: ActivityId,
+    kindred: Kindred,
+) -> Result<u64, StepFault>
+    requires live { container.old.stop ≡ None }
+    requires claims { container.old.claims ≡ [] }
+    requires next { next container.old.state activity.0 ≡ Some kindred }
+    ensures setup { container.new.setup ≡ container.old.setup }
+    ensures moves { Moves container.old (choice_on activity.0 kindred) result container.new }
 {
-    match choice {
-        Choice::Input(_) => 1,
-        Choice::Initial(_) | Choice::Deliver(_) | Choice::Finish(_) => 0,
+    match kindred {
+        Kindred::Initial => container.initial(activity),
+        Kindred::Deliver => deliver(container, activity),
+        Kindred::Finish => container.finish(activity),
     }
 }
 
-/// Makes a step: it is planned, its memory is reserved, and then nothing refuses it.
-fn make(
-    alloc: Global,
-    state: &mut State,
-    history: &mut History,
-    choice: Choice,
-) -> Result<(), NoMemory>
-    requires valid { IsTrue (is_choice choice) }
-    requires enabled { IsTrue (is_enabled state.old.parts choice) }
-    ensures state { OnOk result (state.new.parts ≡ after state.old.parts choice) }
-    ensures history { OnOk result (history.new.entries ≡ history.old.entries ++ step_entry state.old.parts choice ∷ []) }
-    ensures kept { OnErr result (history.new.entries ≡ history.old.entries) }
+/// Makes the delivery that is next on an activity: it is claimed, and done at once.
+fn deliver<'d, D: Disk>(
+    container: &mut Container<'d, D>,
+    activity: ActivityId,
+) -> Result<u64, StepFault>
+    requires live { container.old.stop ≡ None }
+    requires claims { container.old.claims ≡ [] }
+    requires next { next container.old.state activity.0 ≡ Some Kindred.Deliver }
+    ensures setup { container.new.setup ≡ container.old.setup }
+    ensures moves { Moves container.old (Choice.Deliver activity) result container.new }
 {
-    let plan = state.plan(alloc, choice)?;
-    state.reserve(&plan)?;
-    history.reserve(1)?;
-    history.push(state.apply(plan));
-    Ok(())
+    let Ok(prepared) = container.prepare(activity) else {
+        return Err(StepFault::NoMemory);
+    };
+    let Some(ticket) = prepared else {
+        unreachable!()
+    };
+    match container.redo(&ticket) {
+        Ok(Redone::Entry(number)) => Ok(number),
+        Ok(Redone::Released) => unreachable!(),
+        Err(fault) => Err(fault),
+    }
 }

@@ -2,12 +2,13 @@
 ghost use Rattle.std.specs.Prelude.{◌≡◌, ◌+◌, ◌++◌, ◌<◌, ◌≤◌, ◌^◌, OnOk, decimal, length, take};
 ghost use Rattle.slee_disk.specs.Writes.{Writes};
 ghost use Rattle.trace_history.specs.Trace.{trace_text, trace_from, entry_text, line_text, line_texts};
-ghost use Rattle.slee_run.specs.Status.{status_line, given_word};
+ghost use Rattle.slee_run.specs.Status.{status_line, given_word, side_word, kind_word, pair_text, place_text};
 ghost use Rattle.slee_run.specs.Text.{output_text};
 
 use crate::{Given, Status};
+use commit_journal::JournalBad;
 use itoa::Buffer;
-use slee_disk::{Failed, Sink, write_whole};
+use slee_disk::{Failed, Side, Sink, write_whole};
 use slee_value::{NoMemory, Text};
 use std::alloc::Global;
 use trace_history::Entry;
@@ -114,7 +115,8 @@ fn write_line<K: Sink>(out: &mut K, line: &Text) -> Result<(), Failed>
     write_whole(out, b"\n")
 }
 
-fn write_status<K: Sink>(out: &mut K, status: Status) -> Result<(), Failed>
+/// Writes the last line.
+pub fn write_status<K: Sink>(out: &mut K, status: Status) -> Result<(), Failed>
     ensures { Writes K.contents K.faults out.old out.new (status_line status) result }
 {
     match status {
@@ -122,6 +124,13 @@ fn write_status<K: Sink>(out: &mut K, status: Status) -> Result<(), Failed>
         Status::BadWords => write_whole(out, b"status 2 bad-words\n"),
         Status::ReadFault => write_whole(out, b"status 3 read-fault\n"),
         Status::WriteFault => write_whole(out, b""),
+        Status::DiskFault => write_whole(out, b"status 7 disk-fault\n"),
+        Status::BadJournal { side, at, kind } => write_bad_journal(out, side, at, kind),
+        Status::OtherDeployment {
+            kept_len,
+            first_difference,
+        } => write_other_deployment(out, kept_len, first_difference),
+        Status::Full { length, adding } => write_full(out, length, adding),
         Status::StepsSpent { entries } => write_steps_spent(out, entries),
         Status::NoMemory => write_whole(out, b"status 12 no-memory\n"),
         Status::TooLarge {
@@ -132,6 +141,69 @@ fn write_status<K: Sink>(out: &mut K, status: Status) -> Result<(), Failed>
         } => { write_whole(out, b"status 13 too-large signals\n") }
         Status::NotBuilt => write_whole(out, b"status 14 not-built\n"),
     }
+}
+
+fn write_bad_journal<K: Sink>(
+    out: &mut K,
+    side: Side,
+    at: u64,
+    kind: JournalBad,
+) -> Result<(), Failed>
+    ensures { Writes K.contents K.faults out.old out.new (status_line (Status.BadJournal side at kind)) result }
+{
+    write_whole(out, b"status 8 bad-journal ")?;
+    write_side(out, side)?;
+    write_whole(out, b" ")?;
+    write_number(out, at)?;
+    write_whole(out, b" ")?;
+    write_kind(out, kind)?;
+    write_whole(out, b"\n")
+}
+
+fn write_side<K: Sink>(out: &mut K, side: Side) -> Result<(), Failed>
+    ensures { Writes K.contents K.faults out.old out.new (side_word side) result }
+{
+    match side {
+        Side::A => write_whole(out, b"a"),
+        Side::B => write_whole(out, b"b"),
+    }
+}
+
+fn write_kind<K: Sink>(out: &mut K, kind: JournalBad) -> Result<(), Failed>
+    ensures { Writes K.contents K.faults out.old out.new (kind_word kind) result }
+{
+    match kind {
+        JournalBad::Header => write_whole(out, b"header"),
+        JournalBad::Length => write_whole(out, b"length"),
+        JournalBad::Sides => write_whole(out, b"sides"),
+        JournalBad::Snapshot => write_whole(out, b"snapshot"),
+        JournalBad::Record => write_whole(out, b"record"),
+        JournalBad::Replay => write_whole(out, b"replay"),
+    }
+}
+
+fn write_other_deployment<K: Sink>(out: &mut K, kept: u64, place: u64) -> Result<(), Failed>
+    ensures { Writes K.contents K.faults out.old out.new (status_line (Status.OtherDeployment kept place)) result }
+{
+    write_whole(out, b"status 9 other-deployment ")?;
+    write_pair(out, kept, place)
+}
+
+fn write_full<K: Sink>(out: &mut K, size: u64, adding: u64) -> Result<(), Failed>
+    ensures { Writes K.contents K.faults out.old out.new (status_line (Status.Full size adding)) result }
+{
+    write_whole(out, b"status 10 full ")?;
+    write_pair(out, size, adding)
+}
+
+/// Writes two numbers, and ends the line.
+fn write_pair<K: Sink>(out: &mut K, first: u64, second: u64) -> Result<(), Failed>
+    ensures { Writes K.contents K.faults out.old out.new (pair_text first second) result }
+{
+    write_number(out, first)?;
+    write_whole(out, b" ")?;
+    write_number(out, second)?;
+    write_whole(out, b"\n")
 }
 
 fn write_steps_spent<K: Sink>(out: &mut K, entries: u64) -> Result<(), Failed>

@@ -1,3 +1,6 @@
+use commit_journal::JournalBad;
+use slee_disk::Side;
+
 /// Of which source something is said.
 #[derive(Clone, Copy, Debug, PartialEq, Eq)]
 pub enum Given {
@@ -16,12 +19,34 @@ pub enum Status {
     ReadFault,
     /// The text couldn't be written whole.
     WriteFault,
+    /// The disk failed. What it keeps is known once it is opened again.
+    DiskFault,
+    /// The disk has no journal: this is wrong at this place.
+    BadJournal {
+        side: Side,
+        at: u64,
+        kind: JournalBad,
+    },
+    /// The journal was written for a deployment of so many bytes, which differs at this place.
+    OtherDeployment {
+        kept_len: u64,
+        first_difference: u64,
+    },
+    /// A side of this length has no room for so many bytes more.
+    Full {
+        length: u64,
+        adding: u64,
+    },
     /// So many entries were made, as many as the words allow, and more would be left; or the state is used up.
-    StepsSpent { entries: u64 },
+    StepsSpent {
+        entries: u64,
+    },
     /// Memory ran out.
     NoMemory,
     /// A source gave more than its limit.
-    TooLarge { what: Given },
+    TooLarge {
+        what: Given,
+    },
     /// The words or the lines ask what isn't built yet.
     NotBuilt,
 }
@@ -39,6 +64,10 @@ impl Status {
             Status::BadWords => 2,
             Status::ReadFault => 3,
             Status::WriteFault => 6,
+            Status::DiskFault => 7,
+            Status::BadJournal { .. } => 8,
+            Status::OtherDeployment { .. } => 9,
+            Status::Full { .. } => 10,
             Status::StepsSpent { .. } => 11,
             Status::NoMemory => 12,
             Status::TooLarge { .. } => 13,

@@ -3,13 +3,16 @@ ghost use Rattle.std.specs.Prelude.{◌≡◌, ◌⊎◌, ◌+◌, ℕ};
 ghost use Rattle.std.specs.Io.KnownBytes.{IsAtEnd};
 ghost use Rattle.slee_disk.specs.Causes.{Rose};
 ghost use Rattle.slee_disk.specs.Taken.{ConsumesSome};
-ghost use Rattle.router_model.specs.State.{initial};
 ghost use Rattle.slee_run.specs.Words.{texts};
-ghost use Rattle.slee_run.specs.Headline.{IsLegalRun, IsComplete, Plays, signals_limit};
+ghost use Rattle.slee_run.specs.Headline.{IsLegalRun, IsComplete, IsShown, Plays, Shows, signals_limit};
+ghost use Rattle.slee_run.specs.Opening.{IsBeforeOpening};
+ghost use Rattle.slee_run.specs.Answers.{IsFormOf};
 
-use crate::performing::perform;
-use crate::printing::write_text;
-use crate::{Given, Status};
+use crate::finishing::refuse;
+use crate::running::play_source;
+use crate::showing::show;
+use crate::words::command_of;
+use crate::{Command, Given, Status};
 use slee_disk::{Disk, Sink, Source};
 use std::alloc::Global;
 
@@ -22,29 +25,56 @@ pub fn run_one<S: Source, T: Source, K: Sink, D: Disk>(
     out: &mut K,
     disk: D,
 ) -> (Status, D)
-    // One legal history on the signals, the run of one worker, and its text; each status with its cause.
-    ensures headline { IsLegalRun initial (texts words.now) (T.left signals.old) (K.contents out.old) (K.contents out.new) result.0 }
+    // One legal history on the signals, the run of one worker, its text and its journal; each status with its cause.
+    ensures headline { IsLegalRun (texts words.now) (T.left signals.old) (K.contents out.old) (K.contents out.new) (D.disk disk) (D.disk result.1) result.0 }
 
-    // On good lines, and without a fault, there is no other status than these three.
-    ensures complete { IsComplete (texts words.now) (T.left signals.old) (Rose (T.faults signals.old) (T.faults signals.new) ⊎ Rose (K.faults out.old) (K.faults out.new)) result.0 }
+    // On good lines and an honest journal, and without a fault, there is no other status than these.
+    ensures complete { IsComplete (texts words.now) (T.left signals.old) (D.disk disk)
+        (Rose (T.faults signals.old) (T.faults signals.new) ⊎ Rose (K.faults out.old) (K.faults out.new) ⊎ Rose (D.disk disk).faults (D.disk result.1).faults) result.0 }
+    ensures shown { IsShown (texts words.now) (D.disk disk)
+        (Rose (K.faults out.old) (K.faults out.new) ⊎ Rose (D.disk disk).faults (D.disk result.1).faults) result.0 }
 
     // Faults come only where the object's count rose.
     ensures read { result.0 ≡ Status.ReadFault → Rose (T.faults signals.old) (T.faults signals.new) }
     ensures write { result.0 ≡ Status.WriteFault → Rose (K.faults out.old) (K.faults out.new) }
+    ensures disk { result.0 ≡ Status.DiskFault → Rose (D.disk disk).faults (D.disk result.1).faults }
 
-    // What was read of the signals: at Ok all, at TooLarge one byte more than the limit, and nothing where the words don't play.
-    ensures end { result.0 ≡ Status.Ok → IsAtEnd (T.left signals.new) }
+    // What was read of the signals: at Ok of playing all, at TooLarge one byte more than the limit, and nothing where the words don't play.
+    ensures end { (steps : ℕ) → Plays (texts words.now) steps → result.0 ≡ Status.Ok → IsAtEnd (T.left signals.new) }
     ensures too_large { result.0 ≡ Status.TooLarge Given.Signals → ConsumesSome (T.left signals.old) (T.left signals.new) (signals_limit + 1) }
     ensures unread { ((steps : ℕ) → Plays (texts words.now) steps → ⊥) → signals.new ≡ signals.old }
 
-    // The deployment isn't read, and the disk isn't touched.
+    // The deployment isn't read, and the disk isn't touched before all is read and understood.
     ensures deploy { deploy.new ≡ deploy.old }
-    ensures disk { result.1 ≡ disk }
+    ensures untouched { IsBeforeOpening result.0 → result.1 ≡ disk }
+    ensures idle { ((steps : ℕ) → Plays (texts words.now) steps → ⊥) → (Shows (texts words.now) → ⊥) → result.1 ≡ disk }
 {
-    let performed = perform(alloc, words, signals);
-    let status = match write_text(alloc, out, performed.history.as_slice(), performed.status) {
-        Ok(()) => performed.status,
-        Err(_) => Status::WriteFault,
+    let command = match command_of(words) {
+        Some(command) => command,
+        None => return (refuse(out, Status::BadWords), disk),
     };
-    (status, disk)
+    match form_of(command) {
+        Form::Play(steps) => play_source(alloc, signals, out, disk, steps),
+        Form::Show => show(alloc, out, disk),
+        Form::Later => (refuse(out, Status::NotBuilt), disk),
+    }
+}
+
+/// What a command asks of this program.
+enum Form {
+    /// One worker plays, in so many entries at most.
+    Play(u64),
+    Show,
+    /// It isn't built yet.
+    Later,
+}
+
+fn form_of(command: Command) -> Form
+    ensures { IsFormOf command result }
+{
+    match command {
+        Command::Play { workers: 1, steps } => Form::Play(steps),
+        Command::Show => Form::Show,
+        _ => Form::Later,
+    }
 }

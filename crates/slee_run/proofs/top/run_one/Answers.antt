@@ -1,9 +1,19 @@
-use Rattle.std.proofs.Common.{inl, inr}
-use Rattle.slee_run.proofs.RunLemmas.{complete}
+use Rattle.std.proofs.Common.{◌≡◌, inl, inr, sym}
+use Rattle.slee_run.specs.Words.{texts}
+use Rattle.slee_run.proofs.RunLemmas.{run_of_bad, run_of_later, run_of_play, complete}
 use Rattle.slee_run.proofs.top.run_one.Goals as goal
-use Rattle.slee_run.proofs.top.run_one.Goals.{in-Ok, in-Err}
 
-pub returns-clause-complete : goal.returns-clause-complete
-returns-clause-complete g c =
-    complete _ _ _ _ _ _ _ c.perform-performed.ensures.run (λ is. inl (c.perform-performed.ensures.read is))
-    (elim c.match-write_text.branch [ in-Ok w ↦ inl w.status-is | in-Err w ↦ inr (inr w.in-Err.ensures.failed) ])
+pub returns-in-None-clause-headline : goal.returns-in-None-clause-headline
+returns-in-None-clause-headline g c = run_of_bad _ _ _ _ (g.D.Disk.disk c.args.disk) _ (sym c.in-None.ensures) c.refuse.ensures.output
+
+pub returns-in-Later-clause-headline : goal.returns-in-Later-clause-headline
+returns-in-Later-clause-headline g c =
+    run_of_later _ _ _ _ (g.D.Disk.disk c.args.disk) _ c.in-Some.command (sym c.in-Some.ensures) c.in-Later.ensures c.refuse-in-Later.ensures.output
+
+pub returns-in-Play-clause-complete : goal.returns-in-Play-clause-complete
+returns-in-Play-clause-complete g c =
+    let p = c.play_source.ensures in
+    let words = texts c.args.words.now in
+    complete words _ _ _ (g.D.Disk.disk c.args.disk) (g.D.Disk.disk c.play_source.result.1) _ _
+    (run_of_play words _ _ _ (g.D.Disk.disk c.args.disk) (g.D.Disk.disk c.play_source.result.1) _ c.in-Some.command c.in-Play.steps (sym c.in-Some.ensures) c.in-Play.ensures p.played)
+    (λ is. inl (p.read is)) (λ is. inr (inl (p.write is))) (λ is. inr (inr (p.disk is)))

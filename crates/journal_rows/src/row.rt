@@ -1,0 +1,128 @@
+//! One row: two sides, calls, and what they leave.
+ghost use Rattle.std.specs.Prelude.{◌≤◌};
+
+use crate::act::{Act, Answer};
+use crate::played::play;
+use crate::rows::Trouble;
+use commit_journal::{JournalBad, JournalFault};
+use slee_disk::{MemoryDisk, Side};
+use slee_value::Blob;
+use std::alloc::Global;
+
+/// The most bytes that a side may have.
+pub(crate) const LIMIT: u64 = 268_435_456;
+
+/// What a row begins with.
+#[derive(Debug, Drop)]
+pub(crate) struct Row {
+    deployment: Vec<u8>,
+    limit: u64,
+    a: Vec<u8>,
+    b: Vec<u8>,
+}
+
+/// The bytes that a word stands for.
+pub(crate) fn bytes_of(alloc: Global, word: &str) -> Result<Vec<u8>, Trouble> {
+    if word == "-" {
+        return Ok(Vec::new(alloc));
+    }
+    match hex::decode(alloc, word) {
+        Ok(bytes) => Ok(bytes),
+        Err(hex::FromHexError::OutOfMemory) => Err(Trouble::Memory),
+        Err(_) => Err(Trouble::Row),
+    }
+}
+
+impl Row {
+    pub(crate) fn of_words(
+        alloc: Global,
+        deployment: &str,
+        limit: &str,
+        a: &str,
+        b: &str,
+    ) -> Result<Self, Trouble> {
+        let Ok(limit) = limit.parse::<u64>() else {
+            return Err(Trouble::Row);
+        };
+        Ok(Row {
+            deployment: bytes_of(alloc, deployment)?,
+            limit,
+            a: bytes_of(alloc, a)?,
+            b: bytes_of(alloc, b)?,
+        })
+    }
+
+    /// Makes the calls, and prints the answers and the sides.
+    pub(crate) fn print(&self, rt: &HostRuntime, acts: &[Act]) -> Result<(), Trouble> {
+        if self.limit > LIMIT {
+            return Err(Trouble::Row);
+        }
+        let alloc = rt.alloc();
+        let disk = MemoryDisk::new(
+            alloc,
+            Blob::from_slice(alloc, &self.a)?,
+            Blob::from_slice(alloc, &self.b)?,
+            Blob::new(alloc),
+        )?;
+        let played = play(alloc, disk, &self.deployment, self.limit, acts)?;
+        print_opened(rt, played.opened)?;
+        for answer in played.answers.iter() {
+            print_answer(rt, *answer)?;
+        }
+        let a = hex::encode(alloc, played.disk.side(Side::A))?;
+        let b = hex::encode(alloc, played.disk.side(Side::B))?;
+        println!(rt; "a={a} b={b}")?;
+        Ok(())
+    }
+}
+
+fn print_opened(rt: &HostRuntime, opened: Result<usize, JournalFault>) -> Result<(), Trouble> {
+    match opened {
+        Ok(count) => print!(rt; "records {count}, ")?,
+        Err(JournalFault::DiskFault) => print!(rt; "disk-fault, ")?,
+        Err(JournalFault::BadJournal { side, at, kind }) => {
+            print!(rt;
+                "bad-journal {} {at} {}, ",
+                side_word(side),
+                kind_word(kind)
+            )?
+        }
+        Err(
+            JournalFault::OtherDeployment {
+                kept_len,
+                first_difference,
+            },
+        ) => print!(rt; "other-deployment {kept_len} {first_difference}, ")?,
+        Err(JournalFault::NoMemory) => print!(rt; "no-memory, ")?,
+    }
+    Ok(())
+}
+
+fn print_answer(rt: &HostRuntime, answer: Answer) -> Result<(), Trouble> {
+    match answer {
+        Answer::Done => print!(rt; "done, ")?,
+        Answer::Renewed(generation) => print!(rt; "generation {generation}, ")?,
+        Answer::Full { length, adding } => print!(rt; "full {length} {adding}, ")?,
+        Answer::NoMemory => print!(rt; "no-memory, ")?,
+        Answer::NotBegun => print!(rt; "not-begun, ")?,
+    }
+    Ok(())
+}
+
+fn side_word(side: Side) -> &'static str {
+    match side {
+        Side::A => "a",
+        Side::B => "b",
+    }
+}
+
+fn kind_word(kind: JournalBad) -> &'static str {
+    match kind {
+        JournalBad::Header => "header",
+        JournalBad::Length => "length",
+        JournalBad::Sides => "sides",
+        JournalBad::Snapshot => "snapshot",
+        JournalBad::Record => "record",
+        JournalBad::Replay => "replay",
+    }
+}

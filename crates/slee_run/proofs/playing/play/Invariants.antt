@@ -1,0 +1,9 @@
+use Rattle.std.proofs.Common.{ℕ, ◌-◌, length}
+use Rattle.slee_run.proofs.PlayLemmas.{IsUnderWay}
+use Rattle.slee_run.proofs.playing.play.Given as goal
+
+abbrev pub invariant-entries : goal.invariant-entries
+invariant-entries g l = IsUnderWay l.fn.container l.container
+
+abbrev pub decreases-entries : goal.decreases-entries
+decreases-entries g l = l.fn.container.setup.steps - length l.container.history

@@ -1,0 +1,72 @@
+-- What the parts of a run answer, before it is known what the words were.
+use Rattle.std.specs.Prelude.{◌≡◌, ◌≢◌, ◌⊎◌, ℕ, List, [], Option}
+use Rattle.slee_disk.specs.Disk.{DiskState}
+use Rattle.trace_history.specs.declared.entry.Entry.{Entry}
+use Rattle.router_model.specs.State.{Parts}
+use Rattle.slee_container.specs.declared.fault.OpenFault.{OpenFault}
+use Rattle.slee_container.specs.declared.fault.OpenFault.TheVariants as faults
+use Rattle.slee_run.specs.Text.{output_text, shown_text}
+use Rattle.slee_run.specs.Headline.{IsHistory, IsShownAt, IsWritten}
+use Rattle.slee_run.specs.Stops.{KeepsJournal}
+use Rattle.slee_run.specs.declared.command.Command.{Command}
+use Rattle.slee_run.specs.declared.command.Command.TheVariants as commands
+use Rattle.slee_run.specs.declared.top.Form.{Form}
+use Rattle.slee_run.specs.declared.top.Form.TheVariants as forms
+use Rattle.slee_run.specs.declared.status.Status.{Status}
+use Rattle.slee_run.specs.declared.status.Status.TheVariants as statuses
+
+-- a history that came so, was written and is kept
+pub record IsPlayedBy (Comes : Parts → List Entry → Status → Type 0) (before after : Option (List ℕ)) (old new : DiskState) (status : Status) : Type 0 where
+  pub base : Parts
+  pub history : List Entry
+  pub acked : List Entry
+  pub stood : Status
+  pub legal : IsHistory base history acked stood
+  pub comes : Comes base history stood
+  pub words : stood ≢ statuses.BadWords
+  pub unwritten : stood ≢ statuses.WriteFault
+  pub journal : KeepsJournal base history acked old new stood
+  pub output : IsWritten before after (output_text acked stood) stood status
+
+-- a state that was shown
+pub record IsShownBy (before after : Option (List ℕ)) (old new : DiskState) (status : Status) : Type 0 where
+  pub base : Parts
+  pub stood : Status
+  pub comes : IsShownAt stood
+  pub journal : KeepsJournal base [] [] old new stood
+  pub output : IsWritten before after (shown_text base stood) stood status
+
+-- the status of a fault of opening
+abbrev pub status_of : OpenFault → Status
+status_of faults.DiskFault = statuses.DiskFault
+status_of (faults.BadJournal side at kind) = statuses.BadJournal side at kind
+status_of (faults.OtherDeployment kept_len place) = statuses.OtherDeployment kept_len place
+status_of (faults.Full size adding) = statuses.Full size adding
+status_of faults.NoMemory = statuses.NoMemory
+
+-- a status that comes before the journal is opened, or for want of memory
+abbrev pub IsEarly : Status → Type 0
+IsEarly statuses.Ok = ⊥
+IsEarly statuses.BadWords = Unit {0}
+IsEarly statuses.ReadFault = Unit {0}
+IsEarly statuses.WriteFault = ⊥
+IsEarly statuses.DiskFault = ⊥
+IsEarly (statuses.BadJournal side at kind) = ⊥
+IsEarly (statuses.OtherDeployment kept_len place) = ⊥
+IsEarly (statuses.Full size adding) = ⊥
+IsEarly (statuses.StepsSpent entries) = ⊥
+IsEarly statuses.NoMemory = Unit {0}
+IsEarly (statuses.TooLarge what) = Unit {0}
+IsEarly statuses.NotBuilt = Unit {0}
+
+-- what was shown of a state, or memory ran out
+pub record IsShownAs (state : Parts) (before after : Option (List ℕ)) (status : Status) : Type 0 where
+  pub stood : Status
+  pub which : (stood ≡ statuses.Ok) ⊎ (stood ≡ statuses.NoMemory)
+  pub output : IsWritten before after (shown_text state stood) stood status
+
+-- what a command asks of this program
+abbrev pub IsFormOf : Command → Form → Type 0
+IsFormOf command (forms.Play steps) = command ≡ commands.Play 1 steps
+IsFormOf command forms.Show = command ≡ commands.Show
+IsFormOf command forms.Later = ((steps : ℕ) → command ≢ commands.Play 1 steps) × (command ≢ commands.Show)

@@ -1,0 +1,50 @@
+-- What a run leaves on the disk, and what a stop of it may leave.
+use Rattle.std.specs.Prelude.{◌≡◌, ◌≢◌, ◌⊎◌, ℕ, ◌+◌, ◌≤◌, List, [], ◌++◌, length, IsTrue, Ok}
+use mathlib.Core.List.{IsPrefix}
+use Rattle.slee_disk.specs.Sides.{Sides}
+use Rattle.slee_disk.specs.Disk.{DiskState, Only, is_clean}
+use Rattle.commit_journal.specs.Spelling.{records_size}
+use Rattle.trace_history.specs.Histories.{choices_of}
+use Rattle.trace_history.specs.declared.entry.Entry.{Entry}
+use Rattle.router_model.specs.State.{Parts}
+use Rattle.router_rules.specs.History.{replay}
+use Rattle.router_rules.specs.Payload.{payloads}
+use Rattle.slee_container.specs.Recovery.{restart, records}
+use Rattle.slee_run.specs.Opening.{kept_deployment, journal_limit, found, IsOpened, IsUntouchedAt}
+use Rattle.slee_run.specs.declared.status.Status.{Status}
+use Rattle.slee_run.specs.declared.status.Status.TheVariants as statuses
+
+-- The records that stand, and behind them those of a history.
+abbrev pub records_behind : DiskState → Parts → List Entry → List (List ℕ)
+records_behind disk base history = records kept_deployment disk.seen ++ payloads base (choices_of history)
+
+-- how many bytes a side with them has: its header has none for a deployment or a snapshot
+abbrev pub size_behind : DiskState → Parts → List Entry → ℕ
+size_behind disk base history = 24 + records_size (records_behind disk base history)
+
+-- A restart of these sides has the state after so many entries of the history at least.
+pub record RestartsAfter (base : Parts) (history : List Entry) (least : ℕ) (image : Sides) : Type 0 where
+  pub part : List Entry
+  pub front : IsPrefix part history
+  pub some : least ≤ length part
+  pub state : restart kept_deployment image ≡ Ok (replay base part)
+
+-- On a disk that told its bytes, and on which nothing was pending:
+pub record IsSafe (base : Parts) (history acked : List Entry) (old new : DiskState) (status : Status) : Type 0 where
+  -- stopped at any moment of the run, a restart has the state after some entries; now, after the acknowledged ones at least
+  pub moments : (image : Sides) → new.since old.moment image → RestartsAfter base history 0 image
+  pub now : (image : Sides) → new.images image → RestartsAfter base history (length acked) image
+  -- unless the disk failed, the journal has the records that stood and those of the acknowledged entries, a restart goes on
+  -- from there, and nothing is pending
+  pub kept : status ≢ statuses.DiskFault → records kept_deployment new.seen ≡ records_behind old base acked
+  pub again : status ≢ statuses.DiskFault → found new ≡ Ok (replay base acked)
+  pub rest : status ≢ statuses.DiskFault → Only new.seen new
+  -- full is the side that has them; each entry that was made had room
+  pub full : (size adding : ℕ) → status ≡ statuses.Full size adding → size ≡ size_behind old base history
+  pub room : (history ≡ []) ⊎ (size_behind old base history ≤ journal_limit)
+
+-- what is said of the journal and of its disk, before and after a run
+pub record KeepsJournal (base : Parts) (history acked : List Entry) (old new : DiskState) (status : Status) : Type 0 where
+  pub opened : IsTrue old.told → IsOpened (found old) base history status
+  pub untouched : IsUntouchedAt status old new
+  pub safe : IsTrue (is_clean old) → found old ≡ Ok base → IsSafe base history acked old new status

@@ -1,0 +1,51 @@
+//! Writing what a run came to, and its status.
+ghost use Rattle.std.specs.Prelude.{◌≡◌, ◌≢◌, ◌≤◌, take, length, OnOk, OnErr};
+ghost use Rattle.slee_disk.specs.Causes.{Rose};
+ghost use Rattle.router_rules.specs.Show.{show_text};
+ghost use Rattle.slee_run.specs.Status.{status_line};
+ghost use Rattle.slee_run.specs.Text.{output_text, shown_text};
+ghost use Rattle.slee_run.specs.Headline.{IsWritten, IsShownAt};
+ghost use Rattle.slee_run.specs.Answers.{status_of};
+
+use crate::Status;
+use crate::printing::{write_status, write_text};
+use slee_container::{Container, OpenFault, OutFault};
+use slee_disk::{Disk, Failed, Sink};
+use std::alloc::Global;
+
+/// Writes the status alone.
+#[tactic(auto, using(crate::proofs::EndLemmas::written))]
+pub fn refuse<K: Sink>(out: &mut K, stood: Status) -> Status
+    ensures output { IsWritten (K.contents out.old) (K.contents out.new) (status_line stood) stood result }
+    ensures write { stood ≢ Status.WriteFault → result ≡ Status.WriteFault → Rose (K.faults out.old) (K.faults out.new) }
+{
+    status_written(write_status(out, stood), stood)
+}
+
+/// Writes the acknowledged entries of a container and the status.
+#[tactic(auto, using(crate::proofs::EndLemmas::written))]
+pub fn finish<'d, K: Sink, D: Disk>(
+    alloc: Global,
+    out: &mut K,
+    container: &Container<'d, D>,
+    stood: Status,
+) -> Status
+    requires { container.now.acked ≤ length container.now.history }
+    ensures output { IsWritten (K.contents out.old) (K.contents out.new) (output_text (take container.now.acked container.now.history) stood) stood result }
+    ensures write { stood ≢ Status.WriteFault → result ≡ Status.WriteFault → Rose (K.faults out.old) (K.faults out.new) }
+{
+    let acked = container.acked() as usize;
+    let entries = container.history().as_slice();
+    status_written(write_text(alloc, out, &entries[..acked], stood), stood)
+}
+
+/// The status that stood, unless writing it failed.
+fn status_written(written: Result<(), Failed>, stood: Status) -> Status
+    ensures ok { OnOk written (result ≡ stood) }
+    ensures err { OnErr written (result ≡ Status.WriteFault) }
+{
+    match written {
+        Ok(()) => stood,
+        Err(_) => Status::WriteFault,
+    }
+}

@@ -1,0 +1,51 @@
+//! Reading the signal lines of a run.
+ghost use Rattle.std.specs.Prelude.{◌≡◌, ◌≢◌, ◌≤◌, ◌+◌, ℕ, [], Some, None, IfOk, IfErr, IfSome, OnOk, length};
+ghost use Rattle.std.specs.Io.KnownBytes.{IsAtEnd};
+ghost use Rattle.slee_disk.specs.Causes.{Rose};
+ghost use Rattle.slee_disk.specs.Taken.{ConsumesSome};
+ghost use Rattle.router_model.specs.State.{Parts};
+ghost use Rattle.slee_run.specs.Headline.{ComesOn, lines_given, signals_limit};
+ghost use Rattle.slee_run.specs.Answers.{IsEarly};
+
+use crate::{Given, Status};
+use signal_script::{SignalFault, Signals, read_signals};
+use slee_disk::{ReadFault, Source, read_whole};
+use std::alloc::Global;
+
+/// The most bytes of signals.
+const SIGNALS_LIMIT: usize = 16_777_216;
+
+/// Reads all lines of a source, or answers the status of the refusal.
+pub fn read_lines<T: Source>(alloc: Global, signals: &mut T) -> Result<Signals, Status>
+    ensures lines { IfOk result (λ lines. IfSome (T.left signals.old) (λ bytes. lines_given bytes ≡ Some lines)) }
+    ensures refused { IfErr result (λ status. IfSome (T.left signals.old) (λ bytes. (base : Parts) → (steps : ℕ) → ComesOn base steps bytes [] status)) }
+    ensures early { IfErr result (λ status. IsEarly status) }
+    ensures words { IfErr result (λ status. status ≢ Status.BadWords) }
+    ensures read { IfErr result (λ status. status ≡ Status.ReadFault → Rose (T.faults signals.old) (T.faults signals.new)) }
+    ensures too_large { IfErr result (λ status. status ≡ Status.TooLarge Given.Signals → ConsumesSome (T.left signals.old) (T.left signals.new) (signals_limit + 1)) }
+    ensures end { OnOk result (IsAtEnd (T.left signals.new)) }
+{
+    match read_whole(alloc, signals, SIGNALS_LIMIT) {
+        Ok(bytes) => lines_of(alloc, bytes.as_slice()),
+        Err(ReadFault::Failed) => Err(Status::ReadFault),
+        Err(ReadFault::TooLarge) => Err(Status::TooLarge {
+            what: Given::Signals,
+        }),
+        Err(ReadFault::NoMemory) => Err(Status::NoMemory),
+    }
+}
+
+/// The lines that these bytes spell.
+fn lines_of(alloc: Global, bytes: &[u8]) -> Result<Signals, Status>
+    requires { length bytes.now ≤ signals_limit }
+    ensures lines { IfOk result (λ lines. lines_given bytes.now ≡ Some lines) }
+    ensures refused { IfErr result (λ status. (base : Parts) → (steps : ℕ) → ComesOn base steps bytes.now [] status) }
+    ensures early { IfErr result (λ status. IsEarly status) }
+    ensures quiet { IfErr result (λ status. (status ≢ Status.BadWords) × (status ≢ Status.ReadFault) × (status ≢ Status.TooLarge Given.Signals)) }
+{
+    match read_signals(alloc, bytes) {
+        Ok(lines) => Ok(lines),
+        Err(SignalFault::NotBuilt) => Err(Status::NotBuilt),
+        Err(SignalFault::NoMemory) => Err(Status::NoMemory),
+    }
+}

@@ -1,0 +1,111 @@
+//! Playing lines over a journal, from a disk to a disk.
+ghost use Rattle.std.specs.Prelude.{◌≡◌, ◌≢◌, ◌≤◌, ◌+◌, IfSome, IfOk, IfErr, OnOk, take, length};
+ghost use Rattle.std.specs.Io.KnownBytes.{IsAtEnd};
+ghost use Rattle.slee_disk.specs.Causes.{Rose};
+ghost use Rattle.slee_disk.specs.Taken.{ConsumesSome};
+ghost use Rattle.slee_run.specs.Headline.{ComesOn, EndsOn, signals_limit};
+ghost use Rattle.slee_run.specs.Opening.{IsBeforeOpening};
+ghost use Rattle.slee_run.specs.Playing.{status_after};
+ghost use Rattle.slee_run.specs.Answers.{IsPlayedBy, status_of};
+
+use crate::finishing::{finish, refuse};
+use crate::playing::{End, play};
+use crate::reading::read_lines;
+use crate::{Given, Status};
+use signal_script::Signals;
+use slee_container::{Container, Limits, OpenFault};
+use slee_disk::{Disk, Sink, Source};
+use std::alloc::Global;
+
+/// The text of the deployment that the journal keeps: it is built in.
+pub const KEPT_DEPLOYMENT: &[u8] = b"";
+
+/// The most bytes of a side of the journal.
+pub const JOURNAL_LIMIT: u64 = 268_435_456;
+
+/// Reads the lines, plays them and writes the trace.
+pub fn play_source<T: Source, K: Sink, D: Disk>(
+    alloc: Global,
+    signals: &mut T,
+    out: &mut K,
+    disk: D,
+    steps: u64,
+) -> (Status, D)
+    ensures played { IsPlayedBy (λ base history stood. IfSome (T.left signals.old) (λ bytes. ComesOn base steps bytes history stood))
+        (K.contents out.old) (K.contents out.new) (D.disk disk) (D.disk result.1) result.0 }
+    ensures read { result.0 ≡ Status.ReadFault → Rose (T.faults signals.old) (T.faults signals.new) }
+    ensures write { result.0 ≡ Status.WriteFault → Rose (K.faults out.old) (K.faults out.new) }
+    ensures disk { result.0 ≡ Status.DiskFault → Rose (D.disk disk).faults (D.disk result.1).faults }
+    ensures end { result.0 ≡ Status.Ok → IsAtEnd (T.left signals.new) }
+    ensures too_large { result.0 ≡ Status.TooLarge Given.Signals → ConsumesSome (T.left signals.old) (T.left signals.new) (signals_limit + 1) }
+    ensures untouched { IsBeforeOpening result.0 → result.1 ≡ disk }
+{
+    match read_lines(alloc, signals) {
+        Ok(lines) => play_lines(alloc, &lines, out, disk, steps),
+        Err(stood) => (refuse(out, stood), disk),
+    }
+}
+
+/// Plays lines on what the disk keeps.
+fn play_lines<K: Sink, D: Disk>(
+    alloc: Global,
+    lines: &Signals,
+    out: &mut K,
+    disk: D,
+    steps: u64,
+) -> (Status, D)
+    ensures played { IsPlayedBy (λ base history stood. EndsOn base steps lines.now history stood)
+        (K.contents out.old) (K.contents out.new) (D.disk disk) (D.disk result.1) result.0 }
+    ensures write { result.0 ≡ Status.WriteFault → Rose (K.faults out.old) (K.faults out.new) }
+    ensures disk { result.0 ≡ Status.DiskFault → Rose (D.disk disk).faults (D.disk result.1).faults }
+    ensures late { IsBeforeOpening result.0 → ⊥ }
+{
+    let limits = Limits {
+        journal: JOURNAL_LIMIT,
+        steps,
+    };
+    let mut container = match Container::open(alloc, disk, KEPT_DEPLOYMENT, lines, limits) {
+        Ok(container) => container,
+        Err((fault, disk)) => return (refuse(out, status_of(fault)), disk),
+    };
+    let valid = lines.as_slice();
+    let _ = valid;
+    container.kept();
+    let end = play(&mut container);
+    container.kept();
+    let stood = status_after(container.history().len(), end);
+    let status = finish(alloc, out, &container, stood);
+    (status, container.into_disk())
+}
+
+/// The status of a fault of opening.
+pub fn status_of(fault: OpenFault) -> Status
+    ensures { result ≡ status_of fault }
+{
+    match fault {
+        OpenFault::DiskFault => Status::DiskFault,
+        OpenFault::BadJournal { side, at, kind } => Status::BadJournal { side, at, kind },
+        OpenFault::OtherDeployment {
+            kept_len,
+            first_difference,
+        } => Status::OtherDeployment {
+            kept_len,
+            first_difference,
+        },
+        OpenFault::Full { length, adding } => Status::Full { length, adding },
+        OpenFault::NoMemory => Status::NoMemory,
+    }
+}
+
+/// The status of an end, after so many entries.
+fn status_after(entries: u64, end: End) -> Status
+    ensures { result ≡ status_after entries end }
+{
+    match end {
+        End::Done => Status::Ok,
+        End::Spent => Status::StepsSpent { entries },
+        End::Full { length, adding } => Status::Full { length, adding },
+        End::DiskFault => Status::DiskFault,
+        End::NoMemory => Status::NoMemory,
+    }
+}
