@@ -272,8 +272,13 @@ fn timers_and_names_written_and_read(rt: HostRuntime) -> Result<(), Fail> {
 #[test]
 fn faults_by_hand(rt: HostRuntime) -> Result<(), Fail> {
     let alloc = rt.alloc();
-    let cases: [(&[u8], Option<usize>); 9] = [
+    let cases: [(&[u8], Option<usize>); 13] = [
         (&[0, 0, 0, 0], None),
+        (&[], Some(0)),
+        // more effects are counted than there are, and more bytes than there are
+        (&[255, 255, 255, 255], Some(4)),
+        (&[255, 255, 255, 255, 10], Some(5)),
+        (&[1, 0, 0, 0, 15, 255, 255, 255, 255, 0x68], Some(10)),
         (&[1, 0, 0, 0, 0x12], Some(4)),
         (&[1, 0, 0, 0, 0], Some(4)),
         (&[0, 0, 0, 0, 7], Some(4)),
@@ -353,5 +358,33 @@ fn numbers_for_what_is_created(rt: HostRuntime) -> Result<(), Fail> {
         shown.as_str(),
         format!(in alloc; "{:?}", wanted.as_slice())?.as_str()
     );
+    Ok(())
+}
+
+#[test]
+fn lists_are_copied(rt: HostRuntime) -> Result<(), Fail> {
+    let alloc = rt.alloc();
+    let lists: [&[u8]; 3] = [
+        &ONE_FIELD,
+        &[
+            2, 0, 0, 0, 14, 1, 0, 0, 0, 0x68, 1, 0, 0, 0, 0, 15, 1, 0, 0, 0, 0x68,
+        ],
+        // a fire with the fields `a` and `b`
+        &[
+            1, 0, 0, 0, 9, 0, 1, 0, 0, 0, 0, 0, 0, 0, 1, 0, 0, 0, 0x65, 0, 2, 0, 0, 0, 1, 0, 0, 0,
+            0x61, 0, 2, 1, 1, 0, 0, 0, 0x62, 1, 3, 0, 0, 0,
+        ],
+    ];
+    for bytes in lists {
+        let list = read_effects(alloc, bytes)
+            .ok()
+            .ok_or("the bytes are a list")?;
+        let copied = list.copy(alloc)?;
+        assert_eq!(rt; copied.len(), list.len());
+        assert_eq!(rt;
+            format!(in alloc; "{:?}", copied.as_slice())?.as_str(),
+            format!(in alloc; "{:?}", list.as_slice())?.as_str()
+        );
+    }
     Ok(())
 }
