@@ -84,8 +84,8 @@ pub record IsFullOn (base : Parts) (steps : ℕ) (lines : List Signal) (history 
   pub front : IsFrontOn base steps lines history
   pub full : HasNoRoom journal_limit base steps history front.left size adding
 
--- When a run on these lines, in so many entries at most, comes to a status, and what its history is then. No two of these
--- lines go together, but for faults of the outside, what the disk keeps, and want of memory.
+-- When a run on these lines, in so many entries at most, comes to a status, and what its history is then. The lines and the
+-- state leave one status, but for faults of the outside, what the journal has or has room for, and want of memory.
 abbrev pub EndsOn : Parts → ℕ → List Signal → List Entry → Status → Type 0
 EndsOn base steps lines history statuses.Ok = IsDoneOn base steps lines history
 EndsOn base steps lines history statuses.BadWords = ⊥
