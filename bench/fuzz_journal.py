@@ -4,7 +4,8 @@
     python3 bench/fuzz_journal.py                     10,000 pairs of files, with ./slee show
     python3 bench/fuzz_journal.py --count 500         so many
     python3 bench/fuzz_journal.py --seed 8            others
-    python3 bench/fuzz_journal.py --deploy FILE       with the deployment of a file in place of a made-up one
+    python3 bench/fuzz_journal.py --deploy FILE       with the deployment of a file, in place of the one that is built in
+                                                      (and of `bench` for journal_bench)
     python3 bench/fuzz_journal.py --cmd PROGRAM..     with another program and its words, as
                                                       --cmd crates/journal_bench/out/journal_bench open bench
 
@@ -175,9 +176,10 @@ def main():
     words.add_argument("--cmd", nargs="+", default=[os.path.join(TOP, "slee"), "show"])
     words.add_argument("--deploy", type=argparse.FileType("rb"))
     given = words.parse_args()
-    own = given.deploy.read() if given.deploy else b"bench"
     program = os.path.abspath(given.cmd[0])
     kind = JOURNAL_BENCH if os.path.basename(program) == JOURNAL_BENCH else SLEE
+    # the deployment that is built in is kept as the empty text
+    own = given.deploy.read() if given.deploy else (b"bench" if kind == JOURNAL_BENCH else b"")
     chance = random.Random(given.seed)
     seen = {}
     begun = time.perf_counter()
