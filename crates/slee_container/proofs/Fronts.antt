@@ -1,5 +1,5 @@
 -- A step leaves the front event of each activity but the one that it finishes.
-use Rattle.std.proofs.Common.{◌≡◌, ℕ, ◌==◌, Bool, true, false, not, if◌then◌else◌, List, [], ◌∷◌, ◌++◌, inl, inr, refl, sym, ◌∙◌, ap, subst, Option, Some, None, IsTrue, arith}
+use Rattle.std.proofs.Common.{◌≡◌, ℕ, ◌==◌, false, List, [], ◌∷◌, ◌++◌, inl, inr, refl, ◌∙◌, ap, Option, Some, None}
 use Rattle.std.specs.Bool.{⊤}
 use Rattle.std.specs.Option.{option_map_or}
 use Rattle.std.specs.Str.{bytes_eq}
@@ -17,13 +17,12 @@ use Rattle.router_model.specs.declared.rows.Event.{Event}
 use Rattle.router_model.specs.declared.rows.Queued.{Queued}
 use Rattle.router_model.specs.declared.rows.RootName.{RootName}
 use Rattle.router_model.specs.declared.change.Change.TheVariants as changes
-use Rattle.slee_value.specs.declared.ids.ActivityId.{ActivityId}
 use Rattle.router_rules.specs.BuiltIn.{activity_end}
 use Rattle.router_rules.specs.Closing.{closing, close_roots, close_root, removed_all, tree_of, count_of}
 use Rattle.router_rules.specs.Delivery.{selected, selected_with, delivered, finished}
 use Rattle.router_rules.specs.Selection.{due_service, first}
 use Rattle.router_rules.specs.Step.{after, did}
-use Rattle.router_rules.specs.Taking.{taken, after_taking, refusal}
+use Rattle.router_rules.specs.Taking.{after_taking, refusal}
 use Rattle.router_model.specs.Trees.{roots}
 
 -- the choice doesn't finish an event of this activity

@@ -1,10 +1,9 @@
 -- What is to be done next may be done.
-use Rattle.std.proofs.Common.{◌≡◌, ℕ, ◌<◌, ◌≤◌, ◌==◌, nat_le, nat_lt, Bool, true, false, not, ◌||◌, ◌&&◌, if◌then◌else◌, List, [], ◌∷◌, length, filter, inl, inr, refl, sym, ◌∙◌, ap, subst, Option, Some, None, IsTrue, arith}
-use Rattle.std.specs.Bool.{⊤}
+use Rattle.std.proofs.Common.{◌≡◌, ℕ, ◌==◌, nat_le, nat_lt, Bool, true, false, ◌||◌, ◌&&◌, if◌then◌else◌, List, [], ◌∷◌, length, inl, inr, refl, sym, subst, Option, Some, None}
 use Rattle.std.specs.List.{AllByRecursion}
 use Rattle.std.specs.Option.{option_map_or}
-use Rattle.std.proofs.lemmas.Bool.{cases_Bool, leb-false, not-true}
-use Rattle.router_model.specs.State.{Parts, is_used_up}
+use Rattle.std.proofs.lemmas.Bool.{cases_Bool, leb-false}
+use Rattle.router_model.specs.State.{is_used_up}
 use Rattle.router_model.specs.Activities.{lesser, least_waiting}
 use Rattle.router_model.specs.declared.rows.Queued.{Queued}
 use Rattle.router_rules.specs.Selection.{next}

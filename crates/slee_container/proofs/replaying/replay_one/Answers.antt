@@ -1,4 +1,4 @@
-use Rattle.std.proofs.Common.{◌≡◌, sym, ◌∙◌}
+use Rattle.std.proofs.Common.{sym, ◌∙◌}
 use Rattle.router_rules.specs.Payload.{choice_in}
 use Rattle.slee_container.proofs.Recovers.{wrong_same, wrong_other}
 use Rattle.slee_container.proofs.replaying.replay_one.Goals as goal

@@ -1,4 +1,4 @@
-use Rattle.std.proofs.Common.{◌≡◌, ap, sym, ◌∙◌, subst, refl, true, false}
+use Rattle.std.proofs.Common.{◌≡◌, sym, ◌∙◌, subst, refl, true}
 use Rattle.router_rules.specs.Step.{is_enabled}
 use Rattle.trace_history.specs.declared.choice.Choice.TheVariants as choices
 use Rattle.slee_container.proofs.Lines.{steady_step, anywhere, enabled_of}

@@ -1,4 +1,4 @@
-use Rattle.std.proofs.Common.{◌≡◌, ◌==◌, ap, ◌∙◌, List, length}
+use Rattle.std.proofs.Common.{◌==◌, ap, ◌∙◌, List, length}
 use Rattle.router_model.specs.State.{Parts}
 use Rattle.router_model.specs.declared.rows.Queued.{Queued}
 use Rattle.slee_container.proofs.Lines.{left_waiting}

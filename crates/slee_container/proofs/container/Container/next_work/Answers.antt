@@ -1,4 +1,4 @@
-use Rattle.std.proofs.Common.{◌≡◌, ap, sym, ◌∙◌}
+use Rattle.std.proofs.Common.{ap, sym, ◌∙◌}
 use Rattle.slee_container.proofs.Works.{left_offers}
 use Rattle.slee_container.proofs.container.Container.next_work.Goals as goal
 

@@ -1,4 +1,4 @@
-use Rattle.std.proofs.Common.{◌≡◌, ap, sym, ◌∙◌, subst, List, [], ◌∷◌, ◌++◌, length, false}
+use Rattle.std.proofs.Common.{◌≡◌, ap, sym, ◌∙◌, subst, List, [], ◌∷◌, ◌++◌, length}
 use Rattle.slee_container.specs.declared.ticket.Ticket.{Ticket}
 use Rattle.router_rules.specs.Selection.{next}
 use Rattle.router_rules.specs.Step.{is_deliver_next}

@@ -1,4 +1,4 @@
-use Rattle.std.proofs.Common.{◌≡◌, sym, subst, refl, List}
+use Rattle.std.proofs.Common.{sym, subst, refl, List}
 use Rattle.trace_history.specs.declared.choice.Choice.TheVariants as choices
 use Rattle.slee_container.specs.declared.ticket.Ticket.{Ticket}
 use Rattle.slee_container.specs.Container.{IsSteady}

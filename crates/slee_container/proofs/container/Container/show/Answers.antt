@@ -1,4 +1,4 @@
-use Rattle.std.proofs.Common.{◌≡◌, ap, ◌∙◌, subst}
+use Rattle.std.proofs.Common.{ap, ◌∙◌, subst}
 use Rattle.router_model.specs.State.{Parts}
 use Rattle.router_rules.specs.Show.{show_text}
 use Rattle.slee_disk.specs.Writes.{Writes}

@@ -1,5 +1,5 @@
-use Rattle.std.proofs.Common.{◌≡◌, ap, sym, refl, ◌∙◌, subst, map, length, IsTrue, Ok, None, ℕ, List, [], ◌∷◌, ◌++◌}
-use Rattle.router_model.specs.State.{Parts, initial}
+use Rattle.std.proofs.Common.{◌≡◌, ap, sym, ◌∙◌, subst, map, Ok}
+use Rattle.router_model.specs.State.{Parts}
 use Rattle.commit_journal.specs.Views.{payload_of}
 use Rattle.slee_container.proofs.Opens.{Opened, Begins, IsBegun, plain_of, opened_sound, same_origin, with_fields, state_by, records_by, counting_by, state_leaves}
 use Rattle.slee_container.specs.Facts.{told_on}

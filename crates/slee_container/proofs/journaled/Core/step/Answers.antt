@@ -1,4 +1,4 @@
-use Rattle.std.proofs.Common.{◌≡◌, ap, sym, refl, ◌∙◌, subst, length, ◌≤◌, IsTrue, ℕ, List, [], ◌∷◌, ◌++◌}
+use Rattle.std.proofs.Common.{ap, sym, refl, ◌∙◌, subst, length, ◌≤◌, ℕ, List, [], ◌∷◌, ◌++◌}
 use Rattle.router_model.specs.State.{Parts}
 use Rattle.router_rules.specs.Step.{after, step_entry}
 use Rattle.router_rules.proofs.StepLemmas.{payload_fits}
