@@ -60,7 +60,7 @@ impl<'d, D: Disk> Core<'d, D> {
     ghost use Rattle.router_rules.specs.History.{Legal, replay};
     ghost use Rattle.router_core.specs.Plans.{IsPlanOf};
     ghost use Rattle.slee_container.specs.Recovery.{restart, records, counting_side};
-    ghost use Rattle.slee_container.specs.Opening.{IsOpenCause, IsSmall, IsUntouchedFor};
+    ghost use Rattle.slee_container.specs.Opening.{IsOpenCause, IsSmall, IsUntouchedFor, StandsFor};
     ghost use Rattle.slee_container.specs.Facts.{RestartsIn, IsCrashSafe, HasRecords, base_of};
     ghost use Rattle.slee_container.specs.Core.{Stepped, is_down, IsStopOf};
 
@@ -84,11 +84,11 @@ impl<'d, D: Disk> Core<'d, D> {
         ensures failed { IfErr result (λ e. e.0 ≡ OpenFault.DiskFault → Rose (D.disk disk).faults (D.disk e.1).faults) }
         ensures untouched { IfErr result (λ e. IsUntouchedFor e.0 (D.disk disk) (D.disk e.1)) }
 
-        // A crash at any moment leaves the state that was there.
+        // A crash at any moment leaves the state and the records that were there.
         ensures any_moment { IsTrue (is_clean (D.disk disk)) → (s : Parts) → restart deployment.now (D.disk disk).seen ≡ Ok s
-            → IfOk result (λ c. LeavesOnly (D.disk disk) (D.disk c.disk) (λ image. restart deployment.now image ≡ Ok s)) }
+            → IfOk result (λ c. LeavesOnly (D.disk disk) (D.disk c.disk) (StandsFor deployment.now s (D.disk disk).seen)) }
         ensures any_moment_err { IsTrue (is_clean (D.disk disk)) → (s : Parts) → restart deployment.now (D.disk disk).seen ≡ Ok s
-            → IfErr result (λ e. LeavesOnly (D.disk disk) (D.disk e.1) (λ image. restart deployment.now image ≡ Ok s)) }
+            → IfErr result (λ e. LeavesOnly (D.disk disk) (D.disk e.1) (StandsFor deployment.now s (D.disk disk).seen)) }
     {
         let opened = Snapshot::of(&disk);
         let mut journal = match Journal::open(alloc, disk, deployment, limit) {

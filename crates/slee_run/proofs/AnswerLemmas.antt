@@ -13,7 +13,7 @@ use Rattle.slee_container.specs.declared.fault.OpenFault.{OpenFault}
 use Rattle.slee_container.specs.declared.fault.OpenFault.TheVariants as faults
 use Rattle.commit_journal.specs.Reading.{Wrong}
 use Rattle.slee_container.specs.Recovery.{restart, records}
-use Rattle.slee_container.specs.Opening.{IsOpenCause, IsSmall, IsUntouchedFor}
+use Rattle.slee_container.specs.Opening.{IsOpenCause, IsSmall, IsUntouchedFor, StandsFor}
 use Rattle.slee_container.specs.Facts.{base_of}
 use Rattle.slee_container.specs.Core.{is_down}
 use Rattle.slee_container.specs.Container.{View, Setup, IsKept}
@@ -91,7 +91,7 @@ refused_text base faults.NoMemory = refl
 
 module _ (before after : Option (List ℕ)) (old new : DiskState) (fault : OpenFault) (stood status : Status) (is : stood ≡ status_of fault)
     (small : IsSmall journal_limit kept_deployment fault) (cause : IsTrue old.told → IsOpenCause journal_limit kept_deployment old.seen fault) (for : IsUntouchedFor fault old new)
-    (leaves : IsTrue (is_clean old) → (s : Parts) → restart kept_deployment old.seen ≡ Ok s → LeavesOnly old new (λ image. restart kept_deployment image ≡ Ok s))
+    (leaves : IsTrue (is_clean old) → (s : Parts) → restart kept_deployment old.seen ≡ Ok s → LeavesOnly old new (StandsFor kept_deployment s old.seen))
     (out : IsWritten before after (status_line stood) stood status) where
   told_out : IsWritten before after (status_line (status_of fault)) (status_of fault) status
   told_out = subst (λ (s : Status). IsWritten before after (status_line s) s status) is out

@@ -20,7 +20,7 @@ use Rattle.slee_container.specs.declared.fault.Stop.TheVariants as stops
 use Rattle.slee_container.specs.declared.fault.OpenFault.{OpenFault}
 use Rattle.slee_container.specs.declared.fault.OpenFault.TheVariants as faults
 use Rattle.slee_container.specs.Recovery.{restart, records, state_of, past}
-use Rattle.slee_container.specs.Opening.{IsOpenCause, IsSmall, IsUntouched, IsUntouchedFor}
+use Rattle.slee_container.specs.Opening.{IsOpenCause, IsSmall, IsUntouched, IsUntouchedFor, StandsFor}
 use Rattle.slee_container.specs.Core.{is_down, IsStopOf}
 use Rattle.slee_container.specs.Facts.{Origin, base_of, records_since, size_after, RestartsIn, IsFull}
 use Rattle.slee_container.specs.Container.{View, Setup, IsKept}
@@ -44,20 +44,29 @@ or_initial (Err wrong) = initial
 pub no_history : (base : Parts) (status : Status) → IsHistory base [] [] status
 no_history base status = record { legal = tt; front = ([], refl); whole = λ up. refl; most = omega arith }
 
-at_start : (base : Parts) (image : Sides) → restart kept_deployment image ≡ Ok base → RestartsAfter base [] 0 image
-at_start base image is = record { part = []; front = ([], refl); some = omega arith; state = is }
+at_start : (old : DiskState) (base : Parts) (image : Sides) → StandsFor kept_deployment base old.seen image → RestartsAfter old base [] 0 image
+at_start old base image stands = record {
+  part = [];
+  front = ([], refl);
+  some = omega arith;
+  state = stands.state;
+  records = stands.records ∙ sym (append-nil (records kept_deployment old.seen));
+}
 
 nothing_done : (base : Parts) (old new : DiskState) (status : Status) → ((size adding : ℕ) → status ≡ statuses.Full size adding → ⊥) → found old ≡ Ok base
-    → IsTrue (is_clean old) → LeavesOnly old new (λ image. restart kept_deployment image ≡ Ok base) → (status ≢ statuses.DiskFault → IsUntouched old new) → IsSafe base [] [] old new status
+    → IsTrue (is_clean old) → LeavesOnly old new (StandsFor kept_deployment base old.seen) → (status ≢ statuses.DiskFault → IsUntouched old new) → IsSafe base [] [] old new status
 nothing_done base old new status fits is clean leaves untouched = record {
-  moments = λ image left. at_start base image (leaves.each image left);
-  now = λ image left. at_start base image (now_since old new _ leaves image left);
+  moments = λ image left. at_start old base image (leaves.each image left);
+  now = λ image left. at_start old base image (now_since old new _ leaves image left);
   kept = λ up. ap (records kept_deployment) (untouched up).seen ∙ sym (append-nil (records kept_deployment old.seen));
   again = λ up. ap (restart kept_deployment) (untouched up).seen ∙ is;
   rest = λ up image left. clean_only old clean image ((untouched up).images image left) ∙ sym (untouched up).seen;
   full = λ size adding full. absurd (fits size adding full);
   room = inl refl;
 }
+
+seen_stands : (d : DiskState) (base : Parts) (image : Sides) → found d ≡ Ok base → image ≡ d.seen → StandsFor kept_deployment base d.seen image
+seen_stands d base image is same = record { state = ap (restart kept_deployment) same ∙ is; records = ap (records kept_deployment) same }
 
 still : (d : DiskState) → IsUntouched d d
 still d = record { seen = refl; images = λ image now. now }
@@ -102,7 +111,7 @@ untouched d status early = record {
   opened = λ told. begins (found d) status (early_answer (found d) status early);
   untouched = early_untouched d status early;
   safe = λ clean is. nothing_done (or_initial (found d)) d d status (early_fits status early) is clean
-      (leaves_start d (λ image. restart kept_deployment image ≡ Ok (or_initial (found d))) (λ image now. ap (restart kept_deployment) (clean_only d clean image now) ∙ is)) (λ up. still d);
+      (leaves_start d (StandsFor kept_deployment (or_initial (found d)) d.seen) (λ image now. seen_stands d (or_initial (found d)) image is (clean_only d clean image now))) (λ up. still d);
 }
 
 -- opening was refused
@@ -136,7 +145,7 @@ refused_fits faults.NoMemory small size adding is = cc
 
 pub refused : (old new : DiskState) (fault : OpenFault) → IsSmall journal_limit kept_deployment fault → (IsTrue old.told → IsOpenCause journal_limit kept_deployment old.seen fault)
     → IsUntouchedFor fault old new
-    → (IsTrue (is_clean old) → (s : Parts) → restart kept_deployment old.seen ≡ Ok s → LeavesOnly old new (λ image. restart kept_deployment image ≡ Ok s))
+    → (IsTrue (is_clean old) → (s : Parts) → restart kept_deployment old.seen ≡ Ok s → LeavesOnly old new (StandsFor kept_deployment s old.seen))
     → KeepsJournal (or_initial (found old)) [] [] old new (status_of fault)
 refused old new fault small cause for leaves = record {
   opened = λ told. begins (found old) (status_of fault) (refused_answer old fault small (cause told));
@@ -194,16 +203,21 @@ module _ {D : Type 0} (disk_of : D → DiskState) (old : DiskState) (first last 
   least : length acked ≡ last.acked
   least = length-take-le last.acked last.history kept.acked
 
-  after : (m n : ℕ) (image : Sides) → n ≤ m → RestartsIn origin last.history m image → RestartsAfter (base_of origin) last.history n image
-  after m n image fewer r = record {
+  stood_found : IsTrue (is_clean old) → origin.found ≡ records kept_deployment old.seen
+  stood_found is = ap (λ (u : Setup). u.origin.found) same ∙ sym (stood (clean_told old is))
+
+  after : IsTrue (is_clean old) → (m n : ℕ) (image : Sides) → n ≤ m → RestartsIn origin last.history m image → RestartsAfter old (base_of origin) last.history n image
+  after is m n image fewer r = record {
     part = r.part;
     front = r.front;
     some = omega (arith, fewer, r.some);
     state = subst (λ (d : List ℕ). restart d image ≡ Ok (replay (base_of origin) r.part)) deployed r.state;
+    records = subst (λ (d : List ℕ). records d image ≡ origin.found ++ records_since origin r.part) deployed r.records
+        ∙ ap (λ (ps : List (List ℕ)). ps ++ records_since origin r.part) (stood_found is);
   }
 
   counted : IsTrue (is_clean old) → payloads_on origin.counting ≡ records kept_deployment old.seen
-  counted is = kept.counted (is_cleaned is) ∙ ap (λ (u : Setup). u.origin.found) same ∙ sym (stood (clean_told old is))
+  counted is = kept.counted (is_cleaned is) ∙ stood_found is
 
   again_from : RestartsIn origin last.history last.acked (disk_of last.disk).seen → last.acked ≡ length last.history → found (disk_of last.disk) ≡ Ok (replay (base_of origin) acked)
   again_from r all =
@@ -231,9 +245,9 @@ module _ {D : Type 0} (disk_of : D → DiskState) (old : DiskState) (first last 
 
   pub safe : IsTrue (is_clean old) → IsSafe (base_of origin) last.history acked old (disk_of last.disk) status
   safe is = record {
-    moments = λ image left. after 0 0 image (omega arith)
+    moments = λ image left. after is 0 0 image (omega arith)
         (kept.safe.since (is_cleaned is) image (subst (λ t. (disk_of last.disk).since t image) (sym (ap (λ (u : Setup). u.origin.moment) same ∙ moment)) left));
-    now = λ image left. after last.acked (length acked) image (omega (arith, least)) (kept.safe.now (is_cleaned is) image left);
+    now = λ image left. after is last.acked (length acked) image (omega (arith, least)) (kept.safe.now (is_cleaned is) image left);
     kept = λ up. subst (λ (d : List ℕ). records d (disk_of last.disk).seen ≡ payloads_on origin.counting ++ records_since origin acked) deployed (kept.records (is_cleaned is) (stands up))
         ∙ ap (λ (ps : List (List ℕ)). ps ++ records_since origin acked) (counted is);
     again = λ up. again_from (kept.again (is_cleaned is) (stands up)) (kept.whole (stands up));

@@ -22,18 +22,21 @@ records_behind disk base history = records kept_deployment disk.seen ++ payloads
 abbrev pub size_behind : DiskState → Parts → List Entry → ℕ
 size_behind disk base history = 24 + records_size (records_behind disk base history)
 
--- A restart of these sides has the state after so many entries of the history at least.
-pub record RestartsAfter (base : Parts) (history : List Entry) (least : ℕ) (image : Sides) : Type 0 where
+-- A restart of these sides has the state after so many entries of the history at least, and the records are those that stood
+-- when the run began and those of these entries.
+pub record RestartsAfter (old : DiskState) (base : Parts) (history : List Entry) (least : ℕ) (image : Sides) : Type 0 where
   pub part : List Entry
   pub front : IsPrefix part history
   pub some : least ≤ length part
   pub state : restart kept_deployment image ≡ Ok (replay base part)
+  pub records : records kept_deployment image ≡ records_behind old base part
 
 -- On a disk that told its bytes, and on which nothing was pending:
 pub record IsSafe (base : Parts) (history acked : List Entry) (old new : DiskState) (status : Status) : Type 0 where
-  -- stopped at any moment of the run, a restart has the state after some entries; now, after the acknowledged ones at least
-  pub moments : (image : Sides) → new.since old.moment image → RestartsAfter base history 0 image
-  pub now : (image : Sides) → new.images image → RestartsAfter base history (length acked) image
+  -- Stopped at any moment of the run, a restart has the state after some entries, and the records are theirs; now, after the
+  -- acknowledged ones at least. A batch that was being written is there or not.
+  pub moments : (image : Sides) → new.since old.moment image → RestartsAfter old base history 0 image
+  pub now : (image : Sides) → new.images image → RestartsAfter old base history (length acked) image
   -- unless the disk failed, the journal has the records that stood and those of the acknowledged entries, a restart goes on
   -- from there, and nothing is pending
   pub kept : status ≢ statuses.DiskFault → records kept_deployment new.seen ≡ records_behind old base acked

@@ -3,7 +3,7 @@ use Rattle.router_model.specs.State.{Parts}
 use Rattle.commit_journal.specs.Views.{payload_of}
 use Rattle.slee_container.proofs.Opens.{Opened, Begins, IsBegun, plain_of, opened_sound, same_origin, with_fields, state_by, records_by, counting_by, state_leaves}
 use Rattle.slee_container.specs.Facts.{told_on}
-use Rattle.slee_container.specs.Recovery.{restart}
+use Rattle.slee_container.specs.Opening.{StandsFor}
 use Rattle.slee_disk.specs.Disk.{LeavesOnly}
 use Rattle.slee_container.proofs.journaled.Core.open.Goals as goal
 
@@ -58,5 +58,5 @@ returns-in-Err-begin-clause-any_moment_err g c =
     let begins : Begins g.D.Disk.disk j c.begin.new.self = record { head = b.still.head; records = b.still.records; told = b.told; rising = b.rising; leaves = b.any_moment } in
     let both = plain_of j.kept.head.snapshot j.records c.in-Ok-replay.ensures.fits in
     λ clean s is.
-    subst (λ (d : g.row.D.Denot). LeavesOnly (g.D.Disk.disk c.args.disk) (g.D.Disk.disk d) (λ image. restart c.args.deployment.now image ≡ Ok s)) (sym c.into_disk-in-Err-begin.ensures)
+    subst (λ (d : g.row.D.Denot). LeavesOnly (g.D.Disk.disk c.args.disk) (g.D.Disk.disk d) (StandsFor c.args.deployment.now s (g.D.Disk.disk c.args.disk).seen)) (sym c.into_disk-in-Err-begin.ensures)
     (state_leaves g.D.Disk.disk (g.D.Disk.disk c.args.disk) c.args.deployment.now j o both.0 both.1 c.begin.new.self begins clean s is)
