@@ -1,5 +1,5 @@
 //! Lines that are of no form, and more bytes than are read.
-use crate::running::{Ran, Wanted, compare, empty_disk, run, source_of, text_of};
+use crate::running::{Ran, SOUND, Wanted, compare, empty_disk, run, run_alone, text_of};
 use slee_disk::{MemorySink, MemorySource};
 use slee_value::Blob;
 use std::alloc::Global;
@@ -18,15 +18,7 @@ const TOO_LARGE: Wanted = Wanted {
 
 fn expect_each(rt: &impl Abort, alloc: Global, rows: &[&[u8]], wanted: Wanted) -> Result<(), Fail> {
     for lines in rows {
-        let signals = source_of(alloc, lines, b"")?;
-        let out = MemorySink::new(alloc, Blob::new(alloc));
-        let ran = run(
-            alloc,
-            &["play", "1", "100"],
-            signals,
-            out,
-            empty_disk(alloc)?,
-        );
+        let ran = run_alone(alloc, &["play", "1", "100"], lines, SOUND)?;
         compare(rt, &ran, wanted);
     }
     Ok(())
@@ -94,9 +86,10 @@ fn doubled(alloc: Global, piece: &[u8], times: u32) -> Result<Vec<u8>, Fail> {
 
 // Plays lines that come in one piece, in one entry.
 fn play_whole(alloc: Global, lines: Vec<u8>) -> Result<Ran, Fail> {
+    let disk = empty_disk(alloc)?;
     let signals = MemorySource::new(Blob::from(lines), 16_777_217, Blob::new(alloc));
     let out = MemorySink::new(alloc, Blob::new(alloc));
-    Ok(run(alloc, &["play", "1", "1"], signals, out, empty_disk(alloc)?))
+    Ok(run(alloc, &["play", "1", "1"], signals, out, disk))
 }
 
 #[test]

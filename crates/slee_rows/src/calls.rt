@@ -1,6 +1,6 @@
 //! Calls of the built-in service, and their traces.
 use crate::one_call::{CALL, CALL_TRACE};
-use crate::running::{Wanted, compare, empty_disk, run_over};
+use crate::running::{SOUND, Wanted, compare, run_alone};
 use std::alloc::Global;
 use std::process::Abort;
 use std::test::Fail;
@@ -15,7 +15,7 @@ struct Row {
 fn play_each(rt: &impl Abort, alloc: Global, rows: &[Row]) -> Result<(), Fail> {
     for row in rows {
         let words = ["play", "1", row.steps];
-        let ran = run_over(alloc, &words, row.lines, empty_disk(alloc)?)?;
+        let ran = run_alone(alloc, &words, row.lines.as_bytes(), SOUND)?;
         compare(rt, &ran, row.wanted);
     }
     Ok(())

@@ -1,10 +1,14 @@
 //! Words of the command line, and what they are taken for.
-use crate::running::{Wanted, compare, empty_disk, run, source_of};
-use slee_disk::MemorySink;
-use slee_value::Blob;
+use crate::running::{Failing, Wanted, compare, run_alone};
 use std::alloc::Global;
 use std::process::Abort;
 use std::test::Fail;
+
+// Words are refused before anything is read.
+const NOTHING_READ: Failing<'static> = Failing {
+    reads: &[1],
+    writes: &[],
+};
 
 const BAD_WORDS: Wanted = Wanted {
     code: 2,
@@ -16,7 +20,6 @@ const NOT_BUILT: Wanted = Wanted {
     printed: "status 14 not-built\n",
 };
 
-// Words are refused before anything is read: each first read fails.
 fn expect_each(
     rt: &impl Abort,
     alloc: Global,
@@ -24,9 +27,7 @@ fn expect_each(
     wanted: Wanted,
 ) -> Result<(), Fail> {
     for words in rows {
-        let signals = source_of(alloc, b"start c1\n", &[1])?;
-        let out = MemorySink::new(alloc, Blob::new(alloc));
-        let ran = run(alloc, words, signals, out, empty_disk(alloc)?);
+        let ran = run_alone(alloc, words, b"start c1\n", NOTHING_READ)?;
         compare(rt, &ran, wanted);
     }
     Ok(())

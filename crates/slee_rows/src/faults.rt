@@ -1,7 +1,5 @@
 //! Reads of the lines and writes of the text that fail.
-use crate::running::{Ran, Wanted, compare, empty_disk, run, source_of};
-use slee_disk::{MemorySink, MemorySource};
-use slee_value::Blob;
+use crate::running::{Failing, Ran, Wanted, compare, run_alone};
 use std::alloc::Global;
 use std::process::Abort;
 use std::test::Fail;
@@ -49,23 +47,11 @@ const ROWS: &[(&[u8], &[u8], Wanted)] = &[
     (&[0, 1], &[0, 1], READ_FAULT),
 ];
 
-// Plays the lines, with these reads and writes failing.
-fn play_failing(alloc: Global, reads: &[u8], writes: &[u8]) -> Result<Ran, Fail> {
-    let signals = source_of(alloc, LINES, reads)?;
-    let out = MemorySink::new(alloc, Blob::from_slice(alloc, writes)?);
-    Ok(run(
-        alloc,
-        &["play", "1", "100"],
-        signals,
-        out,
-        empty_disk(alloc)?,
-    ))
-}
-
 #[test]
 fn a_fault_of_reading_or_writing_is_told(rt: HostRuntime) -> Result<(), Fail> {
     for (reads, writes, wanted) in ROWS {
-        let ran = play_failing(rt.alloc(), reads, writes)?;
+        let failing = Failing { reads, writes };
+        let ran = run_alone(rt.alloc(), &["play", "1", "100"], LINES, failing)?;
         compare(&rt, &ran, *wanted);
     }
     Ok(())
@@ -82,16 +68,9 @@ fn many_lines(alloc: Global) -> Result<Vec<u8>, Fail> {
 }
 
 fn play_many(alloc: Global, writes: &[u8]) -> Result<Ran, Fail> {
-    let lines = Blob::from(many_lines(alloc)?);
-    let signals = MemorySource::new(lines, 4096, Blob::new(alloc));
-    let out = MemorySink::new(alloc, Blob::from_slice(alloc, writes)?);
-    Ok(run(
-        alloc,
-        &["play", "1", "4096"],
-        signals,
-        out,
-        empty_disk(alloc)?,
-    ))
+    let lines = many_lines(alloc)?;
+    let failing = Failing { reads: &[], writes };
+    run_alone(alloc, &["play", "1", "4096"], &lines, failing)
 }
 
 // A front of the whole text is out, and nothing where the first write fails.

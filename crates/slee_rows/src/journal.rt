@@ -1,8 +1,7 @@
 //! Runs that go on from the journal of an earlier one.
-use crate::one_call::{PLAY, SHOW};
-use crate::running::{Ran, Wanted, compare, empty_disk, run, run_over, source_of, text_of};
-use slee_disk::{MemoryDisk, MemorySink, Side};
-use slee_value::Blob;
+use crate::one_call::{PLAY, SHOW, show};
+use crate::running::{Failing, Ran, Wanted, compare, empty_disk, run_alone, run_over, text_of};
+use slee_disk::{MemoryDisk, Side};
 use std::alloc::Global;
 use std::process::Abort;
 use std::test::Fail;
@@ -239,27 +238,25 @@ const REFUSED: &[(&[&str], &str, &[u8], u8)] = &[
 #[test]
 fn a_refusal_before_the_steps_leaves_the_disk(rt: HostRuntime) -> Result<(), Fail> {
     for (words, lines, reads, code) in REFUSED {
-        let signals = source_of(rt.alloc(), lines.as_bytes(), reads)?;
-        let out = MemorySink::new(rt.alloc(), Blob::new(rt.alloc()));
-        let ran = run(rt.alloc(), words, signals, out, empty_disk(rt.alloc())?);
+        let failing = Failing { reads, writes: &[] };
+        let ran = run_alone(rt.alloc(), words, lines.as_bytes(), failing)?;
         assert_eq!(rt; ran.code, *code);
         assert_eq!(rt; ran.disk.calls(), 0);
     }
     Ok(())
 }
 
-// Plays a call that rings, into a sink whose first write fails.
-fn play_unwritten(alloc: Global) -> Result<Ran, Fail> {
-    let signals = source_of(alloc, b"start c1\nfire c1 invite addr=tel:5551\n", b"")?;
-    let out = MemorySink::new(alloc, Blob::from_slice(alloc, &[1])?);
-    Ok(run(alloc, PLAY, signals, out, empty_disk(alloc)?))
-}
+const UNWRITTEN: Failing<'static> = Failing {
+    reads: &[],
+    writes: &[1],
+};
 
 #[test]
 fn a_text_that_is_not_written_is_kept_all_the_same(rt: HostRuntime) -> Result<(), Fail> {
-    let ran = play_unwritten(rt.alloc())?;
+    let lines = b"start c1\nfire c1 invite addr=tel:5551\n";
+    let ran = run_alone(rt.alloc(), PLAY, lines, UNWRITTEN)?;
     assert_eq!(rt; ran.code, 6);
-    let shown = run_over(rt.alloc(), SHOW, "", ran.disk)?;
+    let shown = show(rt.alloc(), &ran.disk)?;
     compare(&rt, &shown, RINGING);
     Ok(())
 }

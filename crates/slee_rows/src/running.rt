@@ -56,16 +56,46 @@ pub fn run(
     }
 }
 
-/// Runs words on lines, where nothing fails but what the disk fails.
+/// Which reads of the lines and which writes of the text fail: the k-th where the k-th is 1.
+#[derive(Clone, Copy)]
+pub struct Failing<'a> {
+    pub reads: &'a [u8],
+    pub writes: &'a [u8],
+}
+
+/// Nothing fails.
+pub const SOUND: Failing<'static> = Failing {
+    reads: &[],
+    writes: &[],
+};
+
+/// Runs words on lines, with these reads and writes failing.
+pub fn run_failing(
+    alloc: Global,
+    words: &[&str],
+    lines: &[u8],
+    failing: Failing<'_>,
+    disk: MemoryDisk,
+) -> Result<Ran, Fail> {
+    let signals = source_of(alloc, lines, failing.reads)?;
+    let out = MemorySink::new(alloc, Blob::from_slice(alloc, failing.writes)?);
+    Ok(run(alloc, words, signals, out, disk))
+}
+
+/// Runs words over an empty disk, with these reads and writes failing.
+pub fn run_alone(
+    alloc: Global,
+    words: &[&str],
+    lines: &[u8],
+    failing: Failing<'_>,
+) -> Result<Ran, Fail> {
+    let disk = empty_disk(alloc)?;
+    run_failing(alloc, words, lines, failing, disk)
+}
+
+/// Runs words on lines over a disk, where nothing fails but what the disk fails.
 pub fn run_over(alloc: Global, words: &[&str], lines: &str, disk: MemoryDisk) -> Result<Ran, Fail> {
-    let signals = source_of(alloc, lines.as_bytes(), b"")?;
-    Ok(run(
-        alloc,
-        words,
-        signals,
-        MemorySink::new(alloc, Blob::new(alloc)),
-        disk,
-    ))
+    run_failing(alloc, words, lines.as_bytes(), SOUND, disk)
 }
 
 /// What has to come of a run.

@@ -1,6 +1,6 @@
 //! A disk that fails, and what a stop in any of its calls leaves.
 use crate::one_call::{CALL, PLAY, SHOW, SHOWN, show};
-use crate::running::{Ran, empty_disk, run_over, text_of};
+use crate::running::{SOUND, run_alone, run_over, text_of};
 use slee_disk::MemoryDisk;
 use slee_value::Blob;
 use std::alloc::Global;
@@ -52,7 +52,7 @@ fn expect_kept(rt: &impl Abort, alloc: Global, call: u64) -> Result<(), Fail> {
 
 #[test]
 fn a_disk_that_fails_keeps_what_was_acknowledged(rt: HostRuntime) -> Result<(), Fail> {
-    let sound = run_over(rt.alloc(), PLAY, CALL, empty_disk(rt.alloc())?)?;
+    let sound = run_alone(rt.alloc(), PLAY, CALL.as_bytes(), SOUND)?;
     for call in 1..=sound.disk.calls() {
         expect_kept(&rt, rt.alloc(), call)?;
     }
@@ -97,7 +97,7 @@ fn expect_images(rt: &impl Abort, alloc: Global, disk: &MemoryDisk, call: u64) -
 
 #[test]
 fn a_stop_at_any_moment_leaves_a_front_of_the_call(rt: HostRuntime) -> Result<(), Fail> {
-    let ran = run_over(rt.alloc(), PLAY, CALL, empty_disk(rt.alloc())?)?;
+    let ran = run_alone(rt.alloc(), PLAY, CALL.as_bytes(), SOUND)?;
     assert_eq!(rt; ran.code, 0);
     for call in 0..=ran.disk.calls() {
         expect_images(&rt, rt.alloc(), &ran.disk, call)?;

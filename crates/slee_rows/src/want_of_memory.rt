@@ -1,6 +1,6 @@
 //! What becomes of the call where an allocation is refused. With ample memory it is played whole.
 use crate::one_call::{CALL, CALL_TRACE, PLAY, SHOWN, show};
-use crate::running::{Ran, empty_disk, run_over, text_of};
+use crate::running::{Ran, SOUND, run_alone, text_of};
 use std::test::Fail;
 
 // Whether the text is a front of the call's trace and then this status.
@@ -33,7 +33,7 @@ fn is_kept(shown: &Ran) -> bool {
 
 #[test]
 fn a_refused_allocation_leaves_a_front_of_the_call(rt: HostRuntime) -> Result<(), Fail> {
-    let ran = run_over(rt.alloc(), PLAY, CALL, empty_disk(rt.alloc())?)?;
+    let ran = run_alone(rt.alloc(), PLAY, CALL.as_bytes(), SOUND)?;
     assert!(rt; is_answered(&ran), "status {}: {}", ran.code, text_of(&ran));
     let shown = show(rt.alloc(), &ran.disk)?;
     assert!(rt;
