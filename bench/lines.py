@@ -6,7 +6,10 @@
     python3 bench/lines.py --small          a tenth of the lines
 
 Tables: `starts`, n, 2n and 4n lines of `start` (all activities stay alive); `calls`, calls of three lines one after
-another; `alive`, the cost of a step while 10, 1,000 and 10,000 calls are alive. Times are the least of three runs.
+another; `alive`, the cost of a step while 10, 1,000 and 10,000 calls are alive; `files`, entries a second over real files
+in the current folder, and how much of that is waiting for the disk; `opening`, the time of `show` as the journal grows.
+Times are the least of three runs. All but `files` run in a folder in memory where there is one, so that the journal's
+syncs cost nothing there.
 """
 import argparse
 import os
@@ -16,9 +19,12 @@ import tempfile
 import time
 
 
-def run(command, words, lines):
+MEMORY = "/dev/shm" if os.path.isdir("/dev/shm") else None
+
+
+def run(command, words, lines, where=MEMORY):
     """Seconds, peak memory in KiB, status and last line of one run in an empty folder."""
-    with tempfile.TemporaryDirectory() as folder:
+    with tempfile.TemporaryDirectory(dir=where) as folder:
         with open(os.path.join(folder, "signals"), "wb") as f:
             f.write(lines)
         with open(os.path.join(folder, "signals"), "rb") as given, open(os.path.join(folder, "out"), "wb") as out:
@@ -34,11 +40,15 @@ def run(command, words, lines):
         return took, usage.ru_maxrss, os.waitstatus_to_exitcode(status), last
 
 
-def best(command, words, lines, times=3):
-    found = min((run(command, words, lines) for _ in range(times)), key=lambda r: r[0])
+def best(command, words, lines, times=3, where=MEMORY):
+    found = min((run(command, words, lines, where) for _ in range(times)), key=lambda r: r[0])
     if found[2] not in (0, 11):
         sys.exit(f"status {found[2]}: {found[3]}")
     return found
+
+
+def calls_of(count):
+    return b"".join(b"start c%d\nfire c%d invite addr=tel:%d\nend c%d\n" % (i, i, i, i) for i in range(1, count + 1))
 
 
 def starts(command, small):
@@ -58,8 +68,7 @@ def calls(command, small):
     print(f"{'lines':>9} {'ms':>9} {'us/line':>9} {'KiB':>9}")
     costs = []
     for n in [s // (10 if small else 1) for s in (3_333, 16_666, 100_000)]:
-        lines = b"".join(b"start c%d\nfire c%d invite addr=tel:%d\nend c%d\n" % (i, i, i, i) for i in range(1, n + 1))
-        took, memory, status, last = best(command, ["play", "1", "1000000"], lines)
+        took, memory, status, last = best(command, ["play", "1", "1000000"], calls_of(n))
         costs.append(took / (3 * n))
         print(f"{3 * n:>9} {took * 1e3:>9.1f} {took / (3 * n) * 1e6:>9.2f} {memory:>9}  {last}")
     print(f"the cost of a line varies {max(costs) / min(costs):.2f} times")
@@ -72,7 +81,7 @@ def alive(command, small):
     for n in (10, 1_000, 10_000):
         begin = b"".join(b"start b%d\nfire b%d invite addr=tel:%d\n" % (i, i, i) for i in range(1, n + 1))
         more = 2_000 if small else 10_000
-        loop = b"".join(b"start c%d\nfire c%d invite addr=tel:%d\nend c%d\n" % (i, i, i, i) for i in range(1, more + 1))
+        loop = calls_of(more)
         words = ["play", "1", "1000000"]
         base = best(command, words, begin)[0]
         took = best(command, words, begin + loop)[0]
@@ -82,16 +91,43 @@ def alive(command, small):
     print(f"with 10,000 alive a step costs {costs[-1] / costs[0]:.2f} times that with 10")
 
 
+def files(command, small):
+    print("files: calls over real files in this folder, each entry synced")
+    print(f"{'entries':>9} {'entries/s':>10} {'in memory':>10} {'waiting':>8}")
+    for n in [s // (10 if small else 1) for s in (125, 1_250)]:
+        words = ["play", "1", "1000000"]
+        took = best(command, words, calls_of(n), where=".")[0]
+        memory = best(command, words, calls_of(n))[0]
+        print(f"{8 * n:>9} {8 * n / took:>10.0f} {8 * n / memory:>10.0f} {1 - memory / took:>8.0%}")
+
+
+def opening(command, small):
+    print("opening: `show` over a journal of so many entries")
+    print(f"{'entries':>9} {'ms':>9} {'us/entry':>9}")
+    for n in [s // (10 if small else 1) for s in (2_000, 10_000, 50_000)]:
+        with tempfile.TemporaryDirectory(dir=MEMORY) as folder:
+            subprocess.run([command, "play", "1", "1000000"], input=calls_of(n), cwd=folder, capture_output=True, check=True)
+            took = []
+            for _ in range(3):
+                begun = time.perf_counter()
+                subprocess.run([command, "show"], cwd=folder, capture_output=True, check=True)
+                took.append(time.perf_counter() - begun)
+        print(f"{8 * n:>9} {min(took) * 1e3:>9.1f} {min(took) / (8 * n) * 1e6:>9.2f}")
+
+
+TABLES = {"starts": starts, "calls": calls, "alive": alive, "files": files, "opening": opening}
+
+
 def main():
     here = os.path.dirname(os.path.abspath(__file__))
     parser = argparse.ArgumentParser()
     parser.add_argument("--cmd", default=os.path.join(here, "..", "slee"))
     parser.add_argument("--small", action="store_true")
-    parser.add_argument("tables", nargs="*", default=["starts", "calls", "alive"])
+    parser.add_argument("tables", nargs="*", default=["starts", "calls", "alive", "files", "opening"])
     given = parser.parse_args()
     command = os.path.abspath(given.cmd)
     for table in given.tables:
-        {"starts": starts, "calls": calls, "alive": alive}[table](command, given.small)
+        TABLES[table](command, given.small)
         print()
 
 

@@ -1,0 +1,143 @@
+#!/usr/bin/env python3
+"""Runs the built program where the system refuses it: a folder that can't be written, a full disk, a full standard
+output, and a standard input that can't be read. Outside the gate.
+
+    python3 bench/host_faults.py                  with ./slee
+    python3 bench/host_faults.py --cmd PROGRAM    with another program
+
+Each line says what was tried, the status, and `ok` or what is wrong. After a fault of the disk, `show` over a copy of the
+files has to give what the acknowledged entries made, or one entry more. The read-only folder and the full disk are small
+file systems of the test's own making; where `mount` isn't allowed they are skipped. It ends with 1 where a line is wrong.
+"""
+import argparse
+import contextlib
+import os
+import re
+import shutil
+import subprocess
+import sys
+import tempfile
+
+CALL = b"start c1\nfire c1 invite addr=tel:5551\nend c1\n"
+MANY = b"".join(b"start c%d\n" % i for i in range(1, 10_001))
+WRONG = []
+
+
+def run(command, words, lines, folder, **streams):
+    streams.setdefault("stdout", subprocess.PIPE)
+    if "stdin" not in streams:
+        streams["input"] = lines
+    done = subprocess.run([command, *words], cwd=folder, timeout=120, **streams)
+    return done.returncode, (done.stdout or b"").decode()
+
+
+def say(what, status, fault):
+    print(f"{what}: status {status}: {fault or 'ok'}")
+    if fault:
+        WRONG.append(what)
+
+
+def entries_of(text):
+    return len(re.findall(r"^[0-9]+ ", text, re.M))
+
+
+def shown_in_copy(command, folder):
+    """What `show` gives over a copy of the journal, in a folder that can be written."""
+    with tempfile.TemporaryDirectory() as copy:
+        for name in ("journal.a", "journal.b"):
+            if os.path.exists(os.path.join(folder, name)):
+                shutil.copy(os.path.join(folder, name), copy)
+        return run(command, ["show"], b"", copy)
+
+
+def shown_fault(shown, entries):
+    """What is wrong about the state behind so many `start` lines, or one more."""
+    status, text = shown
+    if status != 0:
+        return f"show ends with {status}: {text.strip()}"
+    inputs = int(re.search(r"^inputs ([0-9]+)$", text, re.M)[1])
+    alive = re.findall(r"^activity a([0-9]+) active external c([0-9]+)$", text, re.M)
+    if inputs not in (entries, entries + 1):
+        return f"{entries} entries were acknowledged, and show has {inputs} inputs"
+    if alive != [(str(i), str(i)) for i in range(1, inputs + 1)]:
+        return f"show has {inputs} inputs, and its activities are others"
+    return None
+
+
+@contextlib.contextmanager
+def small_disk(options):
+    """A file system in memory of its own, or None where that isn't allowed."""
+    with tempfile.TemporaryDirectory() as folder:
+        made = subprocess.run(["mount", "-t", "tmpfs", "-o", options, "tmpfs", folder], capture_output=True, check=False)
+        if made.returncode != 0:
+            yield None
+            return
+        try:
+            yield folder
+        finally:
+            subprocess.run(["umount", folder], check=True)
+
+
+def read_only_folder(command):
+    what = "a folder that can't be written"
+    with small_disk("size=1m") as folder:
+        if folder is None:
+            print(f"{what}: skipped, mount isn't allowed")
+            return
+        subprocess.run(["mount", "-o", "remount,ro", folder], check=True)
+        status, text = run(command, ["play", "1", "100"], CALL, folder)
+        wrong = status != 7 or text != "status 7 disk-fault\n" or os.listdir(folder)
+        say(what + ", empty", status, f"printed {text!r}, left {os.listdir(folder)}" if wrong else None)
+        subprocess.run(["mount", "-o", "remount,rw", folder], check=True)
+        status, _ = run(command, ["play", "1", "100"], b"start c1\nstart c2\n", folder)
+        say(what + ", while it can", status, None if status == 0 else "played not")
+        subprocess.run(["mount", "-o", "remount,ro", folder], check=True)
+        status, text = run(command, ["play", "1", "100"], b"start c3\n", folder)
+        say(what + ", with a journal", status, f"printed {text!r}" if status != 7 else None)
+        say(what + ", shown", 0, shown_fault(shown_in_copy(command, folder), entries_of(text) + 2))
+
+
+def full_disk(command):
+    what = "a full disk"
+    for size in (4, 8, 64):
+        with small_disk(f"size={size}k") as folder:
+            if folder is None:
+                print(f"{what}: skipped, mount isn't allowed")
+                return
+            status, text = run(command, ["play", "1", "1000000"], MANY, folder)
+            entries = entries_of(text)
+            wrong = status != 7 or not text.endswith("status 7 disk-fault\n")
+            say(f"{what} of {size} KiB, {entries} entries", status, text[-200:] if wrong else None)
+            say(f"{what} of {size} KiB, shown", 0, shown_fault(shown_in_copy(command, folder), entries))
+
+
+def full_output(command):
+    with tempfile.TemporaryDirectory() as folder, open("/dev/full", "wb") as out:
+        status, _ = run(command, ["play", "1", "100"], CALL, folder, stdout=out)
+        say("a full standard output", status, None if status == 6 else "should be 6")
+
+
+def unreadable_input(command):
+    with tempfile.TemporaryDirectory() as folder:
+        given = os.open(folder, os.O_RDONLY)
+        status, text = run(command, ["play", "1", "100"], None, folder, stdin=given)
+        os.close(given)
+        wrong = status != 3 or text != "status 3 read-fault\n" or os.listdir(folder)
+        say("a standard input that can't be read", status, f"printed {text!r}" if wrong else None)
+
+
+def main():
+    here = os.path.dirname(os.path.abspath(__file__))
+    parser = argparse.ArgumentParser()
+    parser.add_argument("--cmd", default=os.path.join(here, "..", "slee"))
+    command = os.path.abspath(parser.parse_args().cmd)
+    unreadable_input(command)
+    full_output(command)
+    read_only_folder(command)
+    full_disk(command)
+    if WRONG:
+        sys.exit(f"wrong: {len(WRONG)}")
+
+
+if __name__ == "__main__":
+    main()

@@ -1,0 +1,23 @@
+//! Tests of the whole program over objects in memory: what is played, and what has to be printed.
+#![tactic(auto)]
+
+#[cfg(test)]
+mod bad_input;
+#[cfg(test)]
+mod calls;
+#[cfg(test)]
+mod command_words;
+#[cfg(test)]
+mod faults;
+#[cfg(test)]
+mod foreign_journals;
+#[cfg(test)]
+mod journal;
+#[cfg(test)]
+mod one_call;
+#[cfg(test)]
+mod running;
+#[cfg(test)]
+mod stops;
+#[cfg(test)]
+mod want_of_memory;

@@ -1,0 +1,112 @@
+//! One run of the program over objects in memory. Its functions are short, since each is proved with all that it drops.
+use slee_disk::{MemoryDisk, MemorySink, MemorySource};
+use slee_run::run_one;
+use slee_value::Blob;
+use std::alloc::Global;
+use std::process::Abort;
+use std::test::Fail;
+
+/// What a run printed, the status that it ended with, and the disk that it left.
+#[derive(Drop)]
+pub struct Ran {
+    pub code: u8,
+    pub out: MemorySink,
+    pub disk: MemoryDisk,
+}
+
+/// What a run printed.
+pub fn text_of(ran: &Ran) -> &str {
+    str::from_utf8(ran.out.bytes()).unwrap_or("no text")
+}
+
+/// A disk with these bytes on its sides.
+pub fn disk_of(alloc: Global, a: &[u8], b: &[u8]) -> Result<MemoryDisk, Fail> {
+    let a = Blob::from_slice(alloc, a)?;
+    let b = Blob::from_slice(alloc, b)?;
+    Ok(MemoryDisk::new(alloc, a, b, Blob::new(alloc))?)
+}
+
+/// A disk on which nothing was written.
+pub fn empty_disk(alloc: Global) -> Result<MemoryDisk, Fail> {
+    disk_of(alloc, b"", b"")
+}
+
+/// Lines that come in pieces of seven bytes. The k-th read fails where the k-th of `fails` is 1.
+pub fn source_of(alloc: Global, lines: &[u8], fails: &[u8]) -> Result<MemorySource, Fail> {
+    let lines = Blob::from_slice(alloc, lines)?;
+    Ok(MemorySource::new(lines, 7, Blob::from_slice(alloc, fails)?))
+}
+
+/// Runs words. There is no deployment.
+pub fn run(
+    alloc: Global,
+    words: &[&str],
+    signals: MemorySource,
+    out: MemorySink,
+    disk: MemoryDisk,
+) -> Ran {
+    let mut deploy = MemorySource::new(Blob::new(alloc), 1, Blob::new(alloc));
+    let mut signals = signals;
+    let mut out = out;
+    let (status, disk) = run_one(alloc, words, &mut deploy, &mut signals, &mut out, disk);
+    Ran {
+        code: status.code(),
+        out,
+        disk,
+    }
+}
+
+/// Which reads of the lines and which writes of the text fail: the k-th where the k-th is 1.
+#[derive(Clone, Copy)]
+pub struct Failing<'a> {
+    pub reads: &'a [u8],
+    pub writes: &'a [u8],
+}
+
+/// Nothing fails.
+pub const SOUND: Failing<'static> = Failing {
+    reads: &[],
+    writes: &[],
+};
+
+/// Runs words on lines, with these reads and writes failing.
+pub fn run_failing(
+    alloc: Global,
+    words: &[&str],
+    lines: &[u8],
+    failing: Failing<'_>,
+    disk: MemoryDisk,
+) -> Result<Ran, Fail> {
+    let signals = source_of(alloc, lines, failing.reads)?;
+    let out = MemorySink::new(alloc, Blob::from_slice(alloc, failing.writes)?);
+    Ok(run(alloc, words, signals, out, disk))
+}
+
+/// Runs words over an empty disk, with these reads and writes failing.
+pub fn run_alone(
+    alloc: Global,
+    words: &[&str],
+    lines: &[u8],
+    failing: Failing<'_>,
+) -> Result<Ran, Fail> {
+    let disk = empty_disk(alloc)?;
+    run_failing(alloc, words, lines, failing, disk)
+}
+
+/// Runs words on lines over a disk, where nothing fails but what the disk fails.
+pub fn run_over(alloc: Global, words: &[&str], lines: &str, disk: MemoryDisk) -> Result<Ran, Fail> {
+    run_failing(alloc, words, lines.as_bytes(), SOUND, disk)
+}
+
+/// What has to come of a run.
+#[derive(Clone, Copy)]
+pub struct Wanted {
+    pub code: u8,
+    pub printed: &'static str,
+}
+
+/// Compares what came of a run.
+pub fn compare(rt: &impl Abort, ran: &Ran, wanted: Wanted) {
+    assert_eq!(rt; text_of(ran), wanted.printed);
+    assert_eq!(rt; ran.code, wanted.code);
+}
