@@ -8,7 +8,8 @@ use Rattle.script_tree.specs.declared.lexeme.Lexeme.{Lexeme}
 use Rattle.script_tree.specs.declared.lexeme.Lexeme.TheVariants as t
 use Rattle.script_tree.specs.Tree.{Bytes}
 use Rattle.script_tree.specs.Lexer.{spots_of}
-use Rattle.script_tree.specs.Reading.{Place, place_of, start_of}
+use Rattle.script_tree.specs.declared.scanning.Place.{Place}
+use Rattle.script_tree.specs.Reading.{place_of, start_of}
 
 abbrev pub is_round : Fixed → Bool
 is_round x.OpenRound = true

@@ -1,5 +1,5 @@
 -- How a text is cut into tokens.
-use Rattle.std.specs.Prelude.{ℕ, zero, suc, ◌+◌, ◌-◌, ◌*◌, Bool, true, false, not, ◌&&◌, ◌||◌, ◌==◌, nat_le, nat_lt, List, [], ◌∷◌, length, map, Option, Some, None, if◌then◌else◌}
+use Rattle.std.specs.Prelude.{◌≡◌, ◌≤◌, ◌<◌, ℕ, zero, suc, ◌+◌, ◌-◌, ◌*◌, Bool, true, false, not, ◌&&◌, ◌||◌, ◌==◌, nat_le, nat_lt, List, [], ◌∷◌, ◌++◌, length, drop, map, slice_index, Option, Some, None, if◌then◌else◌}
 use Rattle.std.specs.List.{take_while, prefix_len}
 use Rattle.slee_value.specs.Name.{is_letter, is_digit, is_byte_of_name}
 use Rattle.script_tree.specs.declared.symbol.Operator.TheVariants as o
@@ -8,6 +8,8 @@ use Rattle.script_tree.specs.declared.symbol.Symbol.{Symbol}
 use Rattle.script_tree.specs.declared.symbol.Symbol.TheVariants as s
 use Rattle.script_tree.specs.declared.lexeme.Lexeme.{Lexeme}
 use Rattle.script_tree.specs.declared.lexeme.Lexeme.TheVariants as t
+use Rattle.script_tree.specs.declared.lexeme.Cut.{Cut}
+use Rattle.script_tree.specs.declared.lexeme.Quote.{Quote}
 use Rattle.script_tree.specs.Words.{reserved, is_number}
 use Rattle.script_tree.specs.Tree.{Bytes}
 
@@ -16,11 +18,6 @@ is_blank b = b == 32 || (b == 9 || (b == 13 || b == 10))
 
 abbrev pub is_in_line : ℕ → Bool
 is_in_line b = not (b == 10)
-
--- a token, and how many bytes it has
-pub record Cut : Type 0 where
-  pub lexeme : Lexeme
-  pub size : ℕ
 
 -- a word: one of the language, else a name
 abbrev pub word_lexeme : Option Symbol → Bytes → Lexeme
@@ -36,32 +33,33 @@ digits_value n [] = n
 digits_value n (b ∷ bs) = digits_value (n * 10 + (b - 48)) bs
 
 -- a number has no zeros in front, and is not above 9223372036854775807
-abbrev pub number_cut : ℕ → Bytes → Cut
-number_cut b bs =
-    let n = digits_value 0 (b ∷ bs) in
-    record { lexeme = (if (length bs == 0 || not (b == 48)) && is_number n then t.Int n else t.Bad); size = length (b ∷ bs) }
+abbrev pub decimal_in : Bytes → Option ℕ
+decimal_in bs = if (nat_le (length bs) 1 || not (slice_index bs 0 == 48)) && is_number (digits_value 0 bs) then Some (digits_value 0 bs) else None
+
+abbrev pub number_lexeme : Option ℕ → Lexeme
+number_lexeme None = t.Bad
+number_lexeme (Some n) = t.Int n
+
+abbrev pub number_cut : Bytes → Cut
+number_cut bs = record { lexeme = number_lexeme (decimal_in bs); size = length bs }
 
 -- the byte that stands behind a backslash
 abbrev pub escape_of : ℕ → Option ℕ
-escape_of b = if b == 34 || b == 92 then Some b else if b == 110 then Some 10 else None
-
--- a text behind its opening quote: its bytes, and how many are written up to the closing quote
-pub record Quote : Type 0 where
-  pub text : Bytes
-  pub size : ℕ
+escape_of b = if b == 34 then Some 34 else if b == 92 then Some 92 else if b == 110 then Some 10 else None
 
 abbrev pub with_byte : ℕ → ℕ → Option Quote → Option Quote
 with_byte b n None = None
 with_byte b n (Some quote) = Some (record { text = b ∷ quote.text; size = n + quote.size })
 
--- escaped: a backslash stands before these bytes
+-- a byte that two bytes write
+abbrev pub escape_then : Option ℕ → Option Quote → Option Quote
+escape_then None rest = None
+escape_then (Some c) rest = with_byte c 2 rest
+
+-- a text behind its opening quote: its bytes, and how many are written up to the closing quote; escaped: a backslash stands before
 abbrev pub quote_of : Bool → Bytes → Option Quote
 quote_of escaped [] = None
 quote_of true (b ∷ bs) = escape_then (escape_of b) (quote_of false bs)
-  where
-    escape_then : Option ℕ → Option Quote → Option Quote
-    escape_then None rest = None
-    escape_then (Some c) rest = with_byte c 2 rest
 quote_of false (b ∷ bs) =
     if b == 34 then Some (record { text = []; size = 0 })
     else if nat_lt b 32 then None
@@ -71,7 +69,7 @@ quote_of false (b ∷ bs) =
 -- a text: at most 4,096 bytes stand between its quotes
 abbrev pub text_cut : Option Quote → Cut
 text_cut None = record { lexeme = t.Bad; size = 1 }
-text_cut (Some quote) = record { lexeme = (if nat_le quote.size 4096 then t.Text quote.text else t.Bad); size = quote.size + 2 }
+text_cut (Some quote) = if nat_le quote.size 4096 then record { lexeme = t.Text quote.text; size = quote.size + 2 } else record { lexeme = t.Bad; size = 1 }
 
 -- a sign of two bytes, and one of one byte
 abbrev pub sign_of_two : ℕ → ℕ → Option Symbol
@@ -115,11 +113,12 @@ abbrev pub sign_cut : ℕ → Bytes → Cut
 sign_cut b [] = cut_of_one (sign_of_one b)
 sign_cut b (c ∷ bs) = cut_of_two (sign_of_two b c) (cut_of_one (sign_of_one b))
 
--- the token that begins with byte b, before bytes bs; words and numbers are longest runs
-abbrev pub cut : ℕ → Bytes → Cut
-cut b bs =
-    if is_letter b then word_cut (b ∷ take_while is_byte_of_name bs)
-    else if is_digit b then number_cut b (take_while is_digit bs)
+-- the token that begins here; words and numbers are longest runs
+abbrev pub cut : Bytes → Cut
+cut [] = record { lexeme = t.Bad; size = 0 }
+cut (b ∷ bs) =
+    if is_letter b then word_cut (take_while is_byte_of_name (b ∷ bs))
+    else if is_digit b then number_cut (take_while is_digit (b ∷ bs))
     else if b == 34 then text_cut (quote_of false bs)
     else sign_cut b bs
 
@@ -128,6 +127,10 @@ pub record Spot : Type 0 where
   pub lexeme : Lexeme
   pub start : ℕ
   pub stop : ℕ
+
+abbrev pub is_bad : Lexeme → Bool
+is_bad t.Bad = true
+is_bad _ = false
 
 abbrev pub unless_bad : Lexeme → List Spot → List Spot
 unless_bad t.Bad spots = []
@@ -143,7 +146,7 @@ lexed at (suc skip) (b ∷ bs) = lexed (at + 1) skip bs
 lexed at zero (b ∷ bs) =
     if is_blank b then lexed (at + 1) 0 bs
     else if b == 35 then lexed (at + 1) (prefix_len is_in_line bs) bs
-    else spotted (cut b bs) at (λ skip. lexed (at + 1) skip bs)
+    else spotted (cut (b ∷ bs)) at (λ skip. lexed (at + 1) skip bs)
 
 abbrev pub spots_of : Bytes → List Spot
 spots_of text = lexed 0 0 text
@@ -153,3 +156,14 @@ lexeme_of spot = spot.lexeme
 
 abbrev pub lexemes_of : Bytes → List Lexeme
 lexemes_of text = map lexeme_of (spots_of text)
+
+-- whether a token begins here
+abbrev pub starts_token : Bytes → Bool
+starts_token [] = false
+starts_token (b ∷ bs) = not (is_blank b) && not (b == 35)
+
+-- so many bytes come before the first token, or the end
+pub record Gap (bs : Bytes) (n : ℕ) : Type 0 where
+  pub within : n ≤ length bs
+  pub passed : (at : ℕ) → lexed at 0 bs ≡ lexed (at + n) 0 (drop n bs)
+  pub stops : n < length bs → starts_token (drop n bs) ≡ true

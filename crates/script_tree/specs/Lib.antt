@@ -4,5 +4,6 @@ pub mod Numbers
 pub mod Grammar
 pub mod Spelling
 pub mod Lexer
+pub mod Quotes
 pub mod Reading
 pub mod Script

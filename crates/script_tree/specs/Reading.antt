@@ -1,5 +1,5 @@
 -- What a text is read as: its tokens, its script, or its first fault. And the text that a script is printed as.
-use Rattle.std.specs.Prelude.{◌≡◌, ℕ, ◌+◌, ◌-◌, Bool, true, false, ◌==◌, List, [], ◌∷◌, ◌++◌, length, take, drop, slice_index, Result, Ok, Err, if◌then◌else◌}
+use Rattle.std.specs.Prelude.{◌≡◌, ℕ, ◌+◌, ◌-◌, Bool, true, false, ◌==◌, List, [], ◌∷◌, ◌++◌, length, take, drop, map, slice_index, Option, Some, None, Result, Ok, Err, if◌then◌else◌}
 use Rattle.std.specs.List.{flat_map}
 use Rattle.std.specs.Fmt.{decimal}
 use Rattle.slee_value.specs.Name.{is_letter}
@@ -12,24 +12,25 @@ use Rattle.script_tree.specs.declared.lexeme.Lexeme.TheVariants as t
 use Rattle.script_tree.specs.declared.token.Token.{Token}
 use Rattle.script_tree.specs.declared.token.TokenKind.{TokenKind}
 use Rattle.script_tree.specs.declared.token.TokenKind.TheVariants as kinds
+use Rattle.script_tree.specs.declared.scanning.Place.{Place}
 use Rattle.script_tree.specs.declared.fault.SyntaxBad.{SyntaxBad}
 use Rattle.script_tree.specs.declared.fault.SyntaxBad.TheVariants as bad
 use Rattle.script_tree.specs.declared.fault.SyntaxFault.{SyntaxFault}
 use Rattle.script_tree.specs.declared.fault.SyntaxFault.TheVariants as faults
-use Rattle.script_tree.specs.Words.{symbol_text, quoted}
+use Rattle.script_tree.specs.Words.{symbol_text, quoted, is_number, is_identifier, is_literal}
 use Rattle.script_tree.specs.Tree.{Bytes, Statements}
 use Rattle.script_tree.specs.Grammar.{Verdict, Fine, Faulty, script_of}
 use Rattle.script_tree.specs.Spelling.{spell_statements}
-use Rattle.script_tree.specs.Lexer.{Spot, spots_of, lexemes_of}
+use Rattle.script_tree.specs.Lexer.{Spot, spots_of, lexemes_of, is_bad}
 
-pub record Place : Type 0 where
-  pub line : ℕ
-  pub column : ℕ
+-- the place of the byte behind this one
+abbrev pub place_after : Place → ℕ → Place
+place_after p b = if b == 10 then record { line = p.line + 1; column = 1 } else record { line = p.line; column = p.column + 1 }
 
 -- the place behind these bytes
 abbrev pub place_behind : Place → Bytes → Place
 place_behind p [] = p
-place_behind p (b ∷ bs) = place_behind (if b == 10 then record { line = p.line + 1; column = 1 } else record { line = p.line; column = p.column + 1 }) bs
+place_behind p (b ∷ bs) = place_behind (place_after p b) bs
 
 -- lines and columns count from 1, columns in bytes
 abbrev pub place_of : Bytes → ℕ → Place
@@ -52,21 +53,22 @@ token_kind t.Bad = kinds.Sign
 abbrev pub token_of : Spot → Token
 token_of spot = record { kind = token_kind spot.lexeme; start = spot.start; end = spot.stop }
 
-abbrev pub is_bad : Lexeme → Bool
-is_bad t.Bad = true
-is_bad _ = false
+abbrev pub with_token : Token → Result (List Token) SyntaxFault → Result (List Token) SyntaxFault
+with_token token (Ok tokens) = Ok (token ∷ tokens)
+with_token token (Err fault) = Err fault
 
 -- the tokens, or the first place at which none begins
 abbrev pub token_list : Bytes → List Spot → Result (List Token) SyntaxFault
 token_list text [] = Ok []
 token_list text (spot ∷ spots) = if is_bad spot.lexeme then Err (fault_at text spot.start bad.Token) else with_token (token_of spot) (token_list text spots)
-  where
-    with_token : Token → Result (List Token) SyntaxFault → Result (List Token) SyntaxFault
-    with_token token (Ok tokens) = Ok (token ∷ tokens)
-    with_token token (Err fault) = Err fault
 
 abbrev pub tokens_of : Bytes → Result (List Token) SyntaxFault
 tokens_of text = token_list text (spots_of text)
+
+-- the same, where it is known whether a bad token is the last, and where it begins
+abbrev pub token_answer : Bytes → Option ℕ → List Token → Result (List Token) SyntaxFault
+token_answer text None tokens = Ok tokens
+token_answer text (Some at) tokens = Err (fault_at text at bad.Token)
 
 -- where a token begins, or the text ends
 abbrev pub start_of : List Spot → ℕ → ℕ
@@ -111,3 +113,18 @@ spaced token = lexeme_text token ++ gap token ∷ []
 -- the text of a script: its tokens in their one spelling, each with one blank behind it
 abbrev pub printed : Statements → Bytes
 printed script = flat_map spaced (spell_statements script)
+
+-- whether a token of this value can stand in a text
+abbrev pub can_be_written : Lexeme → Bool
+can_be_written (t.Int n) = is_number n
+can_be_written (t.Name n) = is_identifier n
+can_be_written (t.Text n) = is_literal n
+can_be_written (t.Symbol y) = true
+can_be_written t.Bad = false
+
+-- a bracket, where one is needed
+abbrev pub opening : Bool → List Lexeme
+opening needed = if needed then t.Symbol (s.Fixed x.OpenRound) ∷ [] else []
+
+abbrev pub closing : Bool → List Lexeme
+closing needed = if needed then t.Symbol (s.Fixed x.CloseRound) ∷ [] else []

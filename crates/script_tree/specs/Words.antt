@@ -1,6 +1,6 @@
 -- The words and signs of the language, and what a name, a text and a number of a script are.
-use Rattle.std.specs.Prelude.{ℕ, Bool, not, ◌&&◌, ◌||◌, ◌==◌, nat_le, List, [], ◌∷◌, length, codes, find, is_some, Option, if◌then◌else◌}
-use Rattle.std.specs.List.{flat_map, list_all}
+use Rattle.std.specs.Prelude.{ℕ, Bool, true, false, not, ◌&&◌, ◌||◌, ◌==◌, nat_le, List, [], ◌∷◌, length, codes, find, is_some, Option, Some, None, if◌then◌else◌}
+use Rattle.std.specs.List.{flat_map, list_all, list_any}
 use Rattle.std.specs.Str.{bytes_eq}
 use Rattle.slee_value.specs.Name.{is_name}
 use Rattle.script_tree.specs.declared.symbol.Operator.{Operator}
@@ -121,9 +121,13 @@ symbol_text (s.Function x) = function_text x
 symbol_text (s.Verb x) = verb_text x
 symbol_text (s.Fixed x) = fixed_text x
 
+-- the word among these that is spelled so
+abbrev pub find_word : List Symbol → List ℕ → Option Symbol
+find_word words bs = find (λ word. bytes_eq (symbol_text word) bs) words
+
 -- the word of the language that these bytes are
 abbrev pub reserved : List ℕ → Option Symbol
-reserved bs = find (λ word. bytes_eq (symbol_text word) bs) WORDS
+reserved bs = find_word WORDS bs
 
 -- a name that is no word of the language
 abbrev pub is_identifier : List ℕ → Bool
