@@ -1,0 +1,111 @@
+use crate::CodeList;
+use script_tree::Script;
+use slee_value::{Kind, Name, Text};
+
+/// A field of an event or a block, a parameter, or an attribute of a table's rows.
+#[derive(Debug, Drop)]
+pub struct FieldCode {
+    pub name: Name,
+    pub kind: Kind,
+}
+
+/// An event type that the deployment declares. The built-in ones are in no list.
+#[derive(Debug, Drop)]
+pub struct EventCode {
+    pub name: Name,
+    /// In byte order.
+    pub fields: CodeList<FieldCode>,
+}
+
+/// A profile table. Its number is its place in the list of tables, from 1.
+#[derive(Debug, Drop)]
+pub struct TableCode {
+    pub name: Name,
+    /// In byte order.
+    pub attributes: CodeList<FieldCode>,
+}
+
+/// An attribute of activities as one block names it.
+#[derive(Debug, Drop)]
+pub struct AttributeCode {
+    pub name: Name,
+    /// The alias, or the block's key and the name, with a dot between.
+    pub key: Text,
+    pub kind: Kind,
+}
+
+/// A child relation.
+#[derive(Debug, Drop)]
+pub struct RelationCode {
+    pub name: Name,
+    /// The number of its children's block.
+    pub block: u32,
+    /// What a child has where `create` names none.
+    pub priority: i8,
+}
+
+/// An event handler.
+#[derive(Drop)]
+pub struct HandlerCode {
+    /// The name of a declared event or of a built-in one.
+    pub event: Text,
+    /// Whether the event is masked when the entity is attached.
+    pub mask: bool,
+    pub script: Script,
+}
+
+/// A method.
+#[derive(Drop)]
+pub struct MethodCode {
+    pub name: Name,
+    /// In the order of the arguments.
+    pub parameters: CodeList<FieldCode>,
+    pub result: Option<Kind>,
+    pub script: Script,
+}
+
+/// A block.
+#[derive(Drop)]
+pub struct BlockCode {
+    pub key: Name,
+    /// In byte order, as are the attributes and relations.
+    pub fields: CodeList<FieldCode>,
+    pub attributes: CodeList<AttributeCode>,
+    pub relations: CodeList<RelationCode>,
+    /// In the deployment's order.
+    pub handlers: CodeList<HandlerCode>,
+    /// In byte order.
+    pub methods: CodeList<MethodCode>,
+    pub exception: Option<Script>,
+    pub rolled_back: Option<Script>,
+    pub remove: Option<Script>,
+}
+
+/// All that scripts may name, and the scripts. Each name stands once in its list.
+#[derive(Drop)]
+pub struct Codes {
+    pub events: CodeList<EventCode>,
+    /// In byte order.
+    pub tables: CodeList<TableCode>,
+    /// The keys of the services.
+    pub services: CodeList<Name>,
+    /// In the deployment's order.
+    pub blocks: CodeList<BlockCode>,
+}
+
+/// One script of a block: that of a handler or a method by its number, or one of the three others.
+#[derive(Clone, Copy, Debug, PartialEq, Eq)]
+pub enum CodePart {
+    Handler(u32),
+    Method(u32),
+    Exception,
+    RolledBack,
+    Remove,
+}
+
+/// Where a script stands: a block by its number, and the part of it.
+#[derive(Clone, Copy, Debug, PartialEq, Eq)]
+pub struct CodePlace {
+    pub block: u32,
+    pub part: CodePart,
+}

@@ -1,0 +1,26 @@
+use crate::{Identifier, Literal, Number, Symbol};
+use slee_value::Text;
+
+/// What a token says, or that none begins at a place.
+#[derive(Drop)]
+pub enum Lexeme {
+    Int(Number),
+    Name(Identifier),
+    Text(Literal),
+    Symbol(Symbol),
+    Bad,
+}
+
+/// A token that was cut off the front of a text: what it says, and how many bytes it has.
+#[derive(Drop)]
+pub struct Cut {
+    pub lexeme: Lexeme,
+    pub size: usize,
+}
+
+/// A text that stands between quotes, and how many bytes it is written with there.
+#[derive(Drop)]
+pub struct Quote {
+    pub text: Text,
+    pub size: usize,
+}

@@ -1,0 +1,31 @@
+//! Scripts of the language of handlers: their tokens, the tree of their grammar, and their text.
+#![tactic(auto)]
+
+mod fault;
+mod identifier;
+mod lexeme;
+mod lexer;
+mod literal;
+mod number;
+mod quote;
+mod scanning;
+mod script;
+mod sign;
+mod symbol;
+mod token;
+mod tree;
+
+pub use fault::{Misfit, SyntaxBad, SyntaxFault};
+pub use identifier::Identifier;
+pub use lexeme::Lexeme;
+pub use lexer::{Lexed, lex};
+pub use literal::{LITERAL_LIMIT, Literal};
+pub use number::{NUMBER_LIMIT, Number};
+pub use scanning::{Place, fault_at, tokens};
+pub use script::Script;
+pub use symbol::{Constant, Fixed, Function, Operator, Symbol, Verb, WORDS};
+pub use token::{Token, TokenKind, Tokens};
+pub use tree::{
+    ActivityStmt, Assignment, EntityStmt, Expr, FieldValue, Leaf, Over, Prefix, Query, Repeat,
+    Stmt, TimerStmt, Who,
+};
