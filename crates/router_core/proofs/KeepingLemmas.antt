@@ -2,7 +2,7 @@
 use Rattle.std.proofs.Common.{◌≡◌, ℕ, ◌+◌, ◌^◌, ◌<◌, ◌≤◌, Bool, true, false, ◌&&◌, List, [], ◌∷◌, ◌++◌, map, length, codes, refl, sym, ◌∙◌, ap, subst, arith, inl, inr, Option, Some, None, nat_le, length-append}
 use Rattle.std.specs.List.{AllByRecursion}
 use Rattle.std.specs.Option.{option_map_or}
-use Rattle.std.specs.Str.{bytes_eq}
+use Rattle.std.specs.Str.{bytes_eq, is_utf8}
 use Rattle.std.proofs.lemmas.Bool.{cases_Bool, and_parts, leb-true}
 use Rattle.slee_value.specs.declared.value.Value.{Value}
 use Rattle.slee_value.specs.declared.value.Value.TheVariants as values
@@ -43,7 +43,7 @@ one_effect s a v row said is found emits =
 
 short_text : (value : Value) → is_short_text value ≡ true → length (text_of value) ≤ 4096
 short_text (values.Int n) is = cc
-short_text (values.Text text) is = leb-true (length text) 4096 is
+short_text (values.Text text) is = leb-true (length text) 4096 (and_parts (nat_le (length text) 4096) (is_utf8 text) is).0
 short_text (values.Bool b) is = cc
 short_text (values.Activity a) is = cc
 short_text (values.Timer t) is = cc

@@ -1,5 +1,8 @@
 -- Effects that are read one after another.
 use Rattle.std.proofs.Common.{◌≡◌, ℕ, zero, suc, ◌-◌, ◌<◌, ◌==◌, true, false, List, [], ◌∷◌, length, refl, sym, ◌∙◌, ap, subst, arith, Option, Some, None, option_map}
+use Rattle.std.specs.Str.{IsUtf8, is_utf8}
+use Rattle.std.proofs.lemmas.Bool.{false_from_ne_true}
+use Rattle.std.proofs.lemmas.Str.{IsUtf8-from_is_utf8, is_utf8-from_IsUtf8}
 use Rattle.std.specs.Option.{option_map_or}
 use Rattle.router_rules.specs.Payload.{behind_effect, are_effects}
 
@@ -16,3 +19,9 @@ effects_off (suc n) bytes some is = ap (λ (found : Option (List ℕ)). option_m
 pub effects_end : (n : ℕ) (bytes : List ℕ) → n ≡ 0 → are_effects n bytes ≡ (length bytes == 0)
 effects_end zero bytes is = refl
 effects_end (suc n) bytes is = absurd (omega arith)
+
+pub utf8_test : (bytes : List ℕ) → IsUtf8 bytes → is_utf8 bytes ≡ true
+utf8_test bytes is = is_utf8-from_IsUtf8 bytes is
+
+pub utf8_refused : (bytes : List ℕ) → (IsUtf8 bytes → ⊥) → is_utf8 bytes ≡ false
+utf8_refused bytes is_not = false_from_ne_true (is_utf8 bytes) (λ test. is_not (IsUtf8-from_is_utf8 bytes test))

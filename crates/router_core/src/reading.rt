@@ -2,7 +2,7 @@
 ghost use Rattle.std.specs.Prelude.{◌≡◌, ◌≤◌, IfOk, length, drop, option_map};
 ghost use Rattle.signal_script.specs.Signals.{signal_unbounded};
 ghost use Rattle.trace_history.specs.declared.choice.Choice.TheVariants as choices;
-ghost use Rattle.router_rules.specs.Payload.{choice_in, input_in, activity_in, behind, behind_reference, behind_text, behind_effect, are_effects, is_effect_list, is_outcome};
+ghost use Rattle.router_rules.specs.Payload.{choice_in, input_in, activity_in, behind, behind_reference, behind_utf8, behind_text, behind_effect, are_effects, is_effect_list, is_outcome};
 
 use signal_script::{SignalFault, read_unbounded};
 use slee_value::{ActivityId, NoMemory};
@@ -66,6 +66,21 @@ fn behind_reference(bytes: &[u8]) -> Option<&[u8]>
     None
 }
 
+/// What stands behind so many bytes, if they are UTF-8.
+#[tactic(auto, using(crate::proofs::ReadingLemmas::utf8_test, crate::proofs::ReadingLemmas::utf8_refused))]
+fn behind_utf8(count: usize, bytes: &[u8]) -> Option<&[u8]>
+    ensures { option_map (λ rest. rest.now) result ≡ behind_utf8 count bytes.now }
+{
+    if bytes.len() < count {
+        return None;
+    }
+    let (text, rest) = bytes.split_at(count);
+    match str::from_utf8(text) {
+        Ok(_) => Some(rest),
+        Err(_) => None,
+    }
+}
+
 fn behind_text(bytes: &[u8]) -> Option<&[u8]>
     ensures { option_map (λ rest. rest.now) result ≡ behind_text bytes.now }
 {
@@ -74,7 +89,7 @@ fn behind_text(bytes: &[u8]) -> Option<&[u8]>
     }
     let (front, rest) = bytes.split_at(4);
     let length = u32::from_le_bytes([front[0], front[1], front[2], front[3]]);
-    behind(length as usize, rest)
+    behind_utf8(length as usize, rest)
 }
 
 /// What stands behind an effect that emits a text, the only one that is read by now.

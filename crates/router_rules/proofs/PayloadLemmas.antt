@@ -2,7 +2,7 @@
 use Rattle.std.proofs.Common.{◌≡◌, ℕ, suc, ◌+◌, ◌^◌, ◌<◌, ◌≤◌, ◌==◌, nat_le, ◌&&◌, Bool, true, List, [], ◌∷◌, ◌++◌, length, take, drop, refl, sym, ◌∙◌, ap, arith, Option, Some, IsTrue, option_map, if◌then◌else◌, None, inl, inr, codes, append-nil, length-append}
 use Rattle.std.specs.Int.{w32, w64, from_le_bytes, to_le_bytes}
 use Rattle.std.proofs.lemmas.Bool.{cases_Bool, eq-eqb, le-leb, leb-true, and_parts, and_from}
-use Rattle.std.proofs.lemmas.List.{drop_at}
+use Rattle.std.proofs.lemmas.List.{take_at, drop_at}
 use Rattle.std.proofs.lemmas.Nat.{from_le_bytes-to_le_bytes_4, from_le_bytes-to_le_bytes_8}
 use Rattle.slee_value.specs.Bytes.{spelled_text, spelled_u64}
 use Rattle.slee_value.specs.declared.ids.ActivityId.{ActivityId}
@@ -14,9 +14,9 @@ use Rattle.trace_history.specs.declared.choice.Choice.{Choice}
 use Rattle.trace_history.specs.declared.choice.Choice.TheVariants as choices
 use Rattle.router_model.specs.State.{Parts}
 use Rattle.router_rules.specs.Step.{is_choice, after}
-use Rattle.router_rules.specs.Payload.{payload, payloads, choice_in, input_in, activity_in, effects_of, effects_due, behind, behind_text, behind_effect, is_effect_list, HasNumber}
+use Rattle.router_rules.specs.Payload.{payload, payloads, choice_in, input_in, activity_in, effects_of, effects_due, behind_utf8, behind_text, behind_effect, is_effect_list, HasNumber}
 use Rattle.std.specs.Option.{option_map_or}
-use Rattle.std.specs.Str.{bytes_eq}
+use Rattle.std.specs.Str.{bytes_eq, is_utf8}
 use Rattle.slee_value.specs.declared.value.Value.{Value}
 use Rattle.slee_value.specs.declared.value.Value.TheVariants as values
 use Rattle.slee_effect.specs.Bytes.{spelling_of_effects, spelled_effect}
@@ -30,6 +30,7 @@ use Rattle.router_rules.specs.BuiltIn.{invite, addr, address_in, text_of}
 use Rattle.router_rules.specs.Selection.{first}
 use Rattle.router_rules.specs.Well.{IsSound, is_short_text, is_address, has_fields}
 use Rattle.router_rules.proofs.RowLemmas.{front_all}
+use Rattle.router_rules.proofs.TextLemmas.{over_utf8, call_utf8}
 
 -- a line that a signal is spelled by is short
 pub short_line : (signal : Signal) → is_signal signal ≡ true → length (spelled signal) ≤ 4096
@@ -49,38 +50,39 @@ input_read line signal short reads =
 
 -- a text, an effect and a list of one effect are read back
 
-behind_whole : (bytes rest : List ℕ) → behind (length bytes) (bytes ++ rest) ≡ Some rest
-behind_whole bytes rest =
+behind_whole : (bytes rest : List ℕ) → is_utf8 bytes ≡ true → behind_utf8 (length bytes) (bytes ++ rest) ≡ Some rest
+behind_whole bytes rest utf8 =
     let long : nat_le (length bytes) (length (bytes ++ rest)) ≡ true = le-leb (length bytes) (length (bytes ++ rest)) (omega (arith, length-append bytes rest)) in
-    rw long (ap (λ (l : List ℕ). Some l) (drop_at bytes rest (length bytes) refl))
+    let front : is_utf8 (take (length bytes) (bytes ++ rest)) ≡ true = ap is_utf8 (take_at bytes rest (length bytes) refl) ∙ utf8 in
+    rw (long, front) (ap (λ (l : List ℕ). Some l) (drop_at bytes rest (length bytes) refl))
 
-text_read : (text rest : List ℕ) → length text < 2 ^ 32 → behind_text (spelled_text text ++ rest) ≡ Some rest
-text_read text rest short =
+text_read : (text rest : List ℕ) → length text < 2 ^ 32 → is_utf8 text ≡ true → behind_text (spelled_text text ++ rest) ≡ Some rest
+text_read text rest short utf8 =
     let long : nat_le 4 (length (spelled_text text ++ rest)) ≡ true = le-leb 4 (length (spelled_text text ++ rest)) (omega arith) in
     let number : from_le_bytes w32 (take 4 (spelled_text text ++ rest)) ≡ length text = from_le_bytes-to_le_bytes_4 (length text) short in
-    rw (long, number) (behind_whole text rest)
+    rw (long, number) (behind_whole text rest utf8)
 
-effect_read : (n : ℕ) (text rest : List ℕ) → length text < 2 ^ 32 → behind_effect (spelled_effect (effects.Emit (references.Known n) text) ++ rest) ≡ Some rest
-effect_read n text rest short =
+effect_read : (n : ℕ) (text rest : List ℕ) → length text < 2 ^ 32 → is_utf8 text ≡ true → behind_effect (spelled_effect (effects.Emit (references.Known n) text) ++ rest) ≡ Some rest
+effect_read n text rest short utf8 =
     let tail = spelled_u64 n ++ spelled_text text in
     let long : nat_le 8 (length ((spelled_u64 n ++ spelled_text text) ++ rest)) ≡ true = le-leb 8 (length ((spelled_u64 n ++ spelled_text text) ++ rest)) (omega arith) in
-    rw long (text_read text rest short)
+    rw long (text_read text rest short utf8)
 
-one_read : (n : ℕ) (text : List ℕ) → length text < 2 ^ 32 → is_effect_list (spelling_of_effects (effects.Emit (references.Known n) text ∷ [])) ≡ true
-one_read n text short =
+one_read : (n : ℕ) (text : List ℕ) → length text < 2 ^ 32 → is_utf8 text ≡ true → is_effect_list (spelling_of_effects (effects.Emit (references.Known n) text ∷ [])) ≡ true
+one_read n text short utf8 =
     let long : nat_le 4 (length (spelling_of_effects (effects.Emit (references.Known n) text ∷ []))) ≡ true = le-leb 4 (length (spelling_of_effects (effects.Emit (references.Known n) text ∷ []))) (omega arith) in
-    rw (effect_read n text [] short, long)
+    rw (effect_read n text [] short utf8, long)
 
 -- what an event of a well-formed state gives its block to emit
 
-short_text : (v : Value) → is_short_text v ≡ true → length (text_of v) ≤ 4096
+short_text : (v : Value) → is_short_text v ≡ true → (length (text_of v) ≤ 4096) × (is_utf8 (text_of v) ≡ true)
 short_text (values.Int n) is = absurd cc
-short_text (values.Text text) is = leb-true (length text) 4096 is
+short_text (values.Text text) is = let both = and_parts (nat_le (length text) 4096) (is_utf8 text) is in (leb-true (length text) 4096 both.0, both.1)
 short_text (values.Bool b) is = absurd cc
 short_text (values.Activity a) is = absurd cc
 short_text (values.Timer t) is = absurd cc
 
-short_address : (fields : List (List ℕ × Value)) → is_address fields ≡ true → length (address_in fields) ≤ 4096
+short_address : (fields : List (List ℕ × Value)) → is_address fields ≡ true → (length (address_in fields) ≤ 4096) × (is_utf8 (address_in fields) ≡ true)
 short_address [] is = absurd cc
 short_address (field ∷ []) is =
     let both = and_parts (bytes_eq field.0 addr) (is_short_text field.1) is in
@@ -95,15 +97,16 @@ record AreGood (list : List Effect) : Type 0 where
   read : is_effect_list (spelling_of_effects list) ≡ true
   short : length (spelling_of_effects list) ≤ 5000
 
-emit_good : (n : ℕ) (text : List ℕ) → length text ≤ 4200 → AreGood (effects.Emit (references.Known n) text ∷ [])
-emit_good n text short = record { read = one_read n text (omega (arith, short)); short = omega (arith, one_size n text, short) }
+emit_good : (n : ℕ) (text : List ℕ) → length text ≤ 4200 → is_utf8 text ≡ true → AreGood (effects.Emit (references.Known n) text ∷ [])
+emit_good n text short utf8 = record { read = one_read n text (omega (arith, short)) utf8; short = omega (arith, one_size n text, short) }
 
 event_good : (v : Event) (row : Entity) → has_fields v.name v.fields ≡ true → AreGood (effects_of v row)
 event_good v row is = elim (cases_Bool (bytes_eq v.name invite)) [
   | inl it ↦
       let fields : is_address v.fields ≡ true = rw it at is in
-      rw it (emit_good row.number.0 (codes "call " ++ address_in v.fields) (omega (arith, short_address v.fields fields, length-append (codes "call ") (address_in v.fields))))
-  | inr other ↦ rw other (emit_good row.number.0 (codes "over") (omega arith))
+      let address = short_address v.fields fields in
+      rw it (emit_good row.number.0 (codes "call " ++ address_in v.fields) (omega (arith, address.0, length-append (codes "call ") (address_in v.fields))) (call_utf8 (address_in v.fields) address.1))
+  | inr other ↦ rw other (emit_good row.number.0 (codes "over") (omega arith) over_utf8)
 ]
 
 row_good : (v : Event) (found : Option Entity) → has_fields v.name v.fields ≡ true → AreGood (option_map_or (λ row. effects_of v row) found [])

@@ -2,7 +2,7 @@
 use Rattle.std.proofs.Common.{◌≡◌, ℕ, zero, suc, ◌+◌, ◌^◌, ◌<◌, ◌≤◌, ◌==◌, Bool, true, false, not, ◌||◌, ◌&&◌, if◌then◌else◌, is_none, is_some, List, [], ◌∷◌, ◌++◌, map, length, refl, sym, ◌∙◌, ap, subst, arith, inl, inr, ◌⊎◌, IsTrue, Option, Some, None, codes, nat_le, flat_map, length-append}
 use Rattle.std.specs.List.{AllByRecursion}
 use Rattle.std.specs.Option.{option_map_or, unwrap_or}
-use Rattle.std.specs.Str.{bytes_eq}
+use Rattle.std.specs.Str.{bytes_eq, is_utf8}
 use Rattle.std.proofs.lemmas.Bool.{cases_Bool, and_parts, and_from, le-leb}
 use Rattle.std.proofs.lemmas.Slice.Eq.{bytes_eq-Decides}
 use Rattle.slee_value.specs.Name.{is_name}
@@ -27,6 +27,7 @@ use Rattle.router_rules.specs.Taking.{counted, queued, ended, obeyed, taken, aft
 use Rattle.router_rules.specs.Well.{is_activity, IsBuiltInActivity, EndsLast, is_end, has_fields, is_address, IsSound}
 use Rattle.router_rules.proofs.RowLemmas.{all_both, found_activity, only_found, ended_there, ends_same}
 use Rattle.router_rules.proofs.PayloadLemmas.{short_line}
+use Rattle.router_rules.proofs.TextLemmas.{signal_utf8}
 use Rattle.router_rules.proofs.SoundLemmas.{counted_sound, started_sound, queued_with, next_queued, IsOpen, fired_row, ended_row}
 
 -- the activity that was found isn't Ending
@@ -67,7 +68,7 @@ ended_sound s name row w is active fits =
       | inr other ↦ rw other built
     ]
 
--- the address of a line is no longer than the line
+-- the address of a line is no longer than the line, and UTF-8
 
 escape_longer : (word : Bool) (text : List ℕ) → length text ≤ length (escaped word text)
 escape_longer word [] = omega arith
@@ -83,9 +84,11 @@ long_line name event service field =
     simp length-append (omega (arith, text))
 
 short_address : (name event : List ℕ) (service : Option (List ℕ)) (field : List ℕ × List ℕ) → is_signal (signals.Fire name event service (field ∷ [])) ≡ true
-    → nat_le (length field.1) 4096 ≡ true
+    → (nat_le (length field.1) 4096 && is_utf8 field.1) ≡ true
 short_address name event service field is =
-    le-leb (length field.1) 4096 (omega (arith, long_line name event service field, short_line (signals.Fire name event service (field ∷ [])) is))
+    and_from (nat_le (length field.1) 4096) (is_utf8 field.1)
+    (le-leb (length field.1) 4096 (omega (arith, long_line name event service field, short_line (signals.Fire name event service (field ∷ [])) is)))
+    (signal_utf8 name event service field is)
 
 -- the fields of an invite that a line gives are its address
 given_fields : (name event : List ℕ) (service : Option (List ℕ)) (words : List (List ℕ × List ℕ)) → is_signal (signals.Fire name event service words) ≡ true

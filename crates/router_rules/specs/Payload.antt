@@ -2,6 +2,7 @@
 use Rattle.std.specs.Prelude.{ℕ, zero, suc, ◌<◌, ◌^◌, ◌==◌, ◌&&◌, nat_le, Bool, false, option_and_then, if◌then◌else◌, List, [], ◌∷◌, ◌++◌, length, take, drop, map, Some, None, Option, option_map, ⊤}
 use Rattle.std.specs.Option.{option_map_or}
 use Rattle.std.specs.Int.{w32, w64, from_le_bytes}
+use Rattle.std.specs.Str.{is_utf8}
 use Rattle.slee_value.specs.Bytes.{spelled_u64, spelled_text}
 use Rattle.slee_effect.specs.Bytes.{spelling_of_effects}
 use Rattle.slee_effect.specs.declared.effect.Effect.{Effect}
@@ -58,9 +59,13 @@ abbrev pub behind_reference : List ℕ → Option (List ℕ)
 behind_reference [] = None
 behind_reference (kind ∷ bytes) = if kind == 0 then behind 8 bytes else (if kind == 1 then behind 4 bytes else None)
 
--- what stands behind a text: its length in four bytes, and its bytes
+-- what stands behind so many bytes that are UTF-8
+abbrev pub behind_utf8 : ℕ → List ℕ → Option (List ℕ)
+behind_utf8 n bytes = if nat_le n (length bytes) && is_utf8 (take n bytes) then Some (drop n bytes) else None
+
+-- what stands behind a text: its length in four bytes, and its bytes, which are UTF-8
 abbrev pub behind_text : List ℕ → Option (List ℕ)
-behind_text bytes = if nat_le 4 (length bytes) then behind (from_le_bytes w32 (take 4 bytes)) (drop 4 bytes) else None
+behind_text bytes = if nat_le 4 (length bytes) then behind_utf8 (from_le_bytes w32 (take 4 bytes)) (drop 4 bytes) else None
 
 -- what stands behind an effect. That which emits a text is the only one that is read by now: 16, the entity and the text.
 abbrev pub behind_effect : List ℕ → Option (List ℕ)
