@@ -181,7 +181,7 @@ selected_sound s a v service is due fits w =
 
 -- delivery
 
-least_all : (P : Entity → Type 0) (rows : List Entity) (best : Option Entity) (some : List Entity) (row : Entity) → least_path rows best some ≡ Some row
+pub least_all : (P : Entity → Type 0) (rows : List Entity) (best : Option Entity) (some : List Entity) (row : Entity) → least_path rows best some ≡ Some row
     → ((x : Entity) → best ≡ Some x → P x) → AllByRecursion P some → P row
 least_all P rows best [] row is holds all = holds row is
 least_all P rows None (y ∷ ys) row is holds all = least_all P rows (Some y) ys row is (λ x same. let here : y ≡ x = cc in subst P here all.0) all.1

@@ -5,6 +5,7 @@ use Rattle.std.specs.List.{AllByRecursion, filter, find, list_any, list_all}
 use Rattle.std.specs.Option.{option_map_or}
 use Rattle.std.specs.Str.{bytes_eq}
 use Rattle.std.proofs.lemmas.Bool.{cases_Bool, ne_eqb, eqb-true, eqb-false, eq-eqb, or_cases, and_parts, and_from, not-true, ltb-false}
+use Rattle.std.proofs.lemmas.Bool.Decides.{nat_tests}
 use Rattle.slee_value.specs.Name.{is_name}
 use Rattle.slee_value.specs.declared.value.Value.{Value}
 use Rattle.slee_value.specs.declared.ids.ActivityId.{ActivityId}
@@ -27,7 +28,7 @@ use Rattle.router_model.specs.declared.rows.RootName.{RootName}
 use Rattle.router_model.specs.declared.rows.Service.{Service}
 use Rattle.router_model.specs.declared.rows.ServiceMark.{ServiceMark}
 use Rattle.router_model.specs.declared.change.Change.TheVariants as changes
-use Rattle.router_model.proofs.OrderLemmas.{all_filter, all_from_all, all_pushed, order_pushed, all_map, all_put, put_is_insert, put}
+use Rattle.router_model.proofs.OrderLemmas.{all_filter, order_filter, all_from_all, all_pushed, order_pushed, all_map, all_put, put_is_insert, put}
 use Rattle.router_model.proofs.OrderedLemmas.{ordered_after}
 use Rattle.router_rules.specs.BuiltIn.{activity_end, invite, root_block, service_priority, service_order}
 use Rattle.router_rules.specs.Closing.{closing, lines_of_closing, removed_all, loose}
@@ -35,7 +36,7 @@ use Rattle.router_rules.specs.Lines.{removed_line}
 use Rattle.router_rules.specs.Taking.{counted, queued, ended}
 use Rattle.router_rules.specs.Delivery.{attached, rooted, selected, selected_with, delivered, finished}
 use Rattle.router_rules.specs.Selection.{selection, due_service, is_due, first, eligible}
-use Rattle.router_rules.specs.Well.{is_entity, is_activity, is_waiting, IsBuiltInRoot, IsLinkOf, IsBuiltInActivity, IsBuiltInEvent, is_external, has_fields, event_number, queue, is_end, has_no_end, has_end_last, EndsLast, IsServiceMark, IsEntityMark, AreCounts, IsSound, IsWell, AreHeld, IsHeld}
+use Rattle.router_rules.specs.Well.{is_entity, is_activity, is_waiting, IsBuiltInRoot, IsLinkOf, IsBuiltInActivity, IsBuiltInEvent, is_external, has_fields, event_number, queue, is_end, has_no_end, has_end_last, EndsLast, IsServiceMark, IsEntityMark, AreCounts, IsSound, IsWell, AreHeld, IsHeld, IsApart, AreApart, is_own_link}
 use Rattle.router_rules.proofs.RowLemmas.{all_both, found_all, found_passes, any_more, any_last, found_activity, found_entity, only_found, there_below, some_row, still_activity, ends_same, ended_there, queue_append, queue_absent, absent_queue, front_first, other_queue, still_waiting, front_waits, front_all, all_left, order_left, no_end_more, end_last, tail_ends, end_alone}
 use Rattle.router_rules.proofs.ClosingLemmas.{still_there, closes, closes_lines, closes_held, all_there, all_roots}
 
@@ -93,9 +94,43 @@ pub closing_loose_lines : (s : Parts) → IsSound s → lines_of_closing s ≡ m
 closing_loose_lines s w =
     rw (all_roots s.entities w.entities) (closes_lines s.entities s w.entities w.entities w.ordered.entities (all_there s.entities))
 
-pub closing_well : (s : Parts) → IsSound s → IsWell (closing s)
-closing_well s w = subst IsWell (sym (closing_loose s w)) (record {
+own_kept : (names : List RootName) (e : ℕ) (l : Link) → (l.entity.0 == e) ≡ false → is_own_link names l ≡ true → is_own_link (without_root_name names e) l ≡ true
+own_kept [] e l other is = cc
+own_kept (row ∷ rows) e l other is = elim (cases_Bool (row.entity.0 == e)) [
+  | inl mine ↦
+      let away : (row.entity.0 == l.entity.0) ≡ false = grind (arith, nat_tests, mine, other) in
+      let more : is_own_link rows l ≡ true = rw away at is in
+      rw mine (own_kept rows e l other more)
+  | inr kept ↦ elim (cases_Bool ((row.entity.0 == l.entity.0) && names_activity row.name l.activity.0)) [
+    | inl here ↦ rw (kept, here)
+    | inr not_here ↦ let more : is_own_link rows l ≡ true = rw not_here at is in rw (kept, not_here) (own_kept rows e l other more)
+  ]
+]
+
+links_kept : (names : List RootName) (links : List Link) (e : ℕ) → AllByRecursion (λ l. is_own_link names l ≡ true) links
+    → AllByRecursion (λ l. is_own_link (without_root_name names e) l ≡ true) (without_links_of links e)
+links_kept names [] e all = tt
+links_kept names (l ∷ ls) e all = elim (cases_Bool (l.entity.0 == e)) [
+  | inl mine ↦ rw mine (links_kept names ls e all.1)
+  | inr other ↦ rw other (own_kept names e l other all.0, links_kept names ls e all.1)
+]
+
+pub removed_apart : (s : Parts) (e : ℕ) → IsApart s → IsApart (removed s e)
+removed_apart s e apart = record {
+  names = order_filter (λ x y. ¬ (x.name ≡ y.name)) (λ row. not (row.entity.0 == e)) s.root_names apart.names;
+  links = links_kept s.root_names s.links e apart.links;
+  services_done = apart.services_done;
+  delivered = apart.delivered;
+}
+
+removed_all_apart : (es : List ℕ) (s : Parts) → IsApart s → IsApart (removed_all es s)
+removed_all_apart [] s apart = apart
+removed_all_apart (e ∷ es) s apart = removed_all_apart es (removed s e) (removed_apart s e apart)
+
+pub closing_well : (s : Parts) → IsSound s → IsApart s → IsWell (closing s)
+closing_well s w apart = subst IsWell (sym (closing_loose s w)) (record {
   sound = removed_all_sound (loose s.links s.entities) s w;
+  apart = removed_all_apart (loose s.links s.entities) s apart;
   held = closes_held s.entities s (all_from_all (λ row. is_entity s.entities row.number.0 ≡ true) (λ row. IsHeld s.links row ⊎ (is_entity s.entities row.number.0 ≡ true)) (λ row there. inr there) s.entities (all_there s.entities));
 })
 

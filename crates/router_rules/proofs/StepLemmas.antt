@@ -35,9 +35,10 @@ use Rattle.router_rules.specs.declared.kindred.Kindred.{Kindred}
 use Rattle.router_rules.proofs.PayloadLemmas.{payload_read, payload_short}
 use Rattle.router_rules.proofs.RowLemmas.{front_all, there_below}
 use Rattle.router_rules.specs.History.{replay, Legal}
-use Rattle.router_rules.specs.Well.{IsBuiltInRoot, IsSound, IsWell, AreHeld, IsHeld, is_entity, is_activity}
+use Rattle.router_rules.specs.Well.{IsBuiltInRoot, IsSound, IsWell, AreApart, AreHeld, IsHeld, is_entity, is_activity}
 use Rattle.router_rules.proofs.ClosingLemmas.{closing_held, closing_silent, own_count, some_rows, all_roots, all_there}
 use Rattle.router_rules.proofs.SoundLemmas.{closing_well}
+use Rattle.router_rules.proofs.ApartLemmas.{did_apart}
 use Rattle.router_rules.proofs.TakingLemmas.{HasNext, taken_sound}
 use Rattle.router_rules.proofs.FrontLemmas.{selected_sound, delivered_sound, finished_sound, next_root, due_is}
 
@@ -106,7 +107,8 @@ did_sound s (choices.Deliver a) is fits w = deliver_sound s a.0 (front s.events 
 did_sound s (choices.Finish a) is fits w = finish_sound s a.0 (front s.events a.0) refl w
 
 pub after_well : (s : Parts) (c : Choice) → is_choice c ≡ true → is_enabled s c ≡ true → IsWell s → IsWell (after s c)
-after_well s c is enabled w = closing_well (did s c) (did_sound s c is (fresh_next s (enabled_fresh s c enabled)) w.sound)
+after_well s c is enabled w =
+    closing_well (did s c) (did_sound s c is (fresh_next s (enabled_fresh s c enabled)) w.sound) (did_apart s c w.sound w.apart)
 
 pub replay_well : (s : Parts) (h : List Entry) → Legal s h → IsWell s → IsWell (replay s h)
 replay_well s [] legal w = w
@@ -130,6 +132,7 @@ initial_well = record {
     services_done = tt;
     delivered = tt;
   };
+  apart = record { names = tt; links = tt; services_done = tt; delivered = tt };
   held = tt;
 }
 

@@ -6,7 +6,8 @@ use Rattle.slee_value.specs.Name.{is_name}
 use Rattle.slee_value.specs.declared.value.Value.{Value}
 use Rattle.slee_value.specs.declared.value.Value.TheVariants as values
 use Rattle.router_model.specs.State.{Parts, initial}
-use Rattle.router_model.specs.Ordered.{IsOrdered, Rises, AreBelow, named_entity}
+use Rattle.router_model.specs.Ordered.{AllInOrder, IsOrdered, Rises, AreBelow, named_entity}
+use Rattle.router_model.specs.Roots.{names_activity}
 use Rattle.router_model.specs.Trees.{links_of, number_of}
 use Rattle.router_model.specs.declared.rows.AcKind.{AcKind}
 use Rattle.router_model.specs.declared.rows.AcKind.TheVariants as kinds
@@ -18,6 +19,7 @@ use Rattle.router_model.specs.declared.rows.EntityMark.{EntityMark}
 use Rattle.router_model.specs.declared.rows.Link.{Link}
 use Rattle.router_model.specs.declared.rows.Queued.{Queued}
 use Rattle.router_model.specs.declared.rows.Service.{Service}
+use Rattle.router_model.specs.declared.rows.RootName.{RootName}
 use Rattle.router_model.specs.declared.rows.ServiceMark.{ServiceMark}
 use Rattle.router_rules.specs.BuiltIn.{invite, activity_end, addr, root_block, service_priority}
 
@@ -127,7 +129,7 @@ pub record AreCounts (s : Parts) : Type 0 where
   pub timers : s.next_timer < 2 ^ 64
   pub events : s.next_event < 2 ^ 64
 
--- everything but that each entity is held
+-- everything but that nothing stands twice and that each entity is held
 pub record IsSound (s : Parts) : Type 0 where
   pub ordered : IsOrdered s
   pub counts : AreCounts s
@@ -146,6 +148,28 @@ pub record IsSound (s : Parts) : Type 0 where
   pub services_done : AllByRecursion (IsServiceMark s.events s.services) s.services_done
   pub delivered : AllByRecursion (IsEntityMark s.events s.next_entity) s.delivered
 
+-- two marks are of one service or of one entity, and of one activity
+abbrev pub is_same_service_mark : ServiceMark → ServiceMark → Bool
+is_same_service_mark x y = (x.activity.0 == y.activity.0) && (x.service == y.service)
+
+abbrev pub is_same_entity_mark : EntityMark → EntityMark → Bool
+is_same_entity_mark x y = (x.activity.0 == y.activity.0) && (x.entity.0 == y.entity.0)
+
+-- the convergence name of the attached root has the activity
+abbrev pub is_own_link : List RootName → Link → Bool
+is_own_link names l = list_any (λ row. (row.entity.0 == l.entity.0) && names_activity row.name l.activity.0) names
+
+-- No two roots have one convergence name, and a root is attached to no activity but that of its name.
+-- A service and an entity are marked once for a front event.
+pub record AreApart (roots : List RootName) (attachments : List Link) (selections : List ServiceMark) (deliveries : List EntityMark) : Type 0 where
+  pub names : AllInOrder (λ x y. ¬ (x.name ≡ y.name)) roots
+  pub links : AllByRecursion (λ l. IsTrue (is_own_link roots l)) attachments
+  pub services_done : AllInOrder (λ x y. IsTrue (not (is_same_service_mark x y))) selections
+  pub delivered : AllInOrder (λ x y. IsTrue (not (is_same_entity_mark x y))) deliveries
+
+abbrev pub IsApart : Parts → Type 0
+IsApart s = AreApart s.root_names s.links s.services_done s.delivered
+
 -- each entity has an attachment
 abbrev pub AreHeld : Parts → Type 0
 AreHeld s = AllByRecursion (IsHeld s.links) s.entities
@@ -153,4 +177,5 @@ AreHeld s = AllByRecursion (IsHeld s.links) s.entities
 -- a well-formed state
 pub record IsWell (s : Parts) : Type 0 where
   pub sound : IsSound s
+  pub apart : IsApart s
   pub held : AreHeld s
