@@ -4,7 +4,7 @@ use Rattle.std.specs.Int.{w32, w64, from_le_bytes, to_le_bytes}
 use Rattle.std.proofs.lemmas.Bool.{cases_Bool, eq-eqb, le-leb, leb-true, and_parts, and_from}
 use Rattle.std.proofs.lemmas.List.{take_at, drop_at}
 use Rattle.std.proofs.lemmas.Nat.{from_le_bytes-to_le_bytes_4, from_le_bytes-to_le_bytes_8}
-use Rattle.slee_value.specs.Bytes.{spelled_text, spelled_u64}
+use Rattle.slee_value.specs.Bytes.{spelled_text, spelled_u32, spelled_u64}
 use Rattle.slee_value.specs.declared.ids.ActivityId.{ActivityId}
 use Rattle.signal_script.specs.declared.signal.Signal.{Signal}
 use Rattle.signal_script.specs.Signals.{spelled, signal_unbounded, is_signal, is_of_form}
@@ -73,6 +73,26 @@ one_read n text short utf8 =
     let long : nat_le 4 (length (spelling_of_effects (effects.Emit (references.Known n) text ∷ []))) ≡ true = le-leb 4 (length (spelling_of_effects (effects.Emit (references.Known n) text ∷ []))) (omega arith) in
     rw (effect_read n text [] short utf8, long)
 
+-- what is left behind a text, behind a list that is empty or has one effect, which emits a text, and behind a payload
+
+abbrev left_of_text : List ℕ → List ℕ
+left_of_text bytes = drop (from_le_bytes w32 (take 4 bytes)) (drop 4 bytes)
+
+abbrev left_of_list : List ℕ → List ℕ
+left_of_list bytes = if from_le_bytes w32 (take 4 bytes) == 0 then drop 4 bytes else left_of_text (drop 14 bytes)
+
+abbrev pub left_of_payload : List ℕ → List ℕ
+left_of_payload [] = []
+left_of_payload (kind ∷ bytes) = if kind == 1 then left_of_text bytes else (if kind == 3 then left_of_list (drop 9 bytes) else drop 8 bytes)
+
+text_left : (text rest : List ℕ) → length text < 2 ^ 32 → left_of_text (spelled_text text ++ rest) ≡ rest
+text_left text rest short =
+    let number : from_le_bytes w32 (take 4 (spelled_text text ++ rest)) ≡ length text = from_le_bytes-to_le_bytes_4 (length text) short in
+    rw number (drop_at text rest (length text) refl)
+
+one_left : (n : ℕ) (text rest : List ℕ) → length text < 2 ^ 32 → left_of_list (spelling_of_effects (effects.Emit (references.Known n) text ∷ []) ++ rest) ≡ rest
+one_left n text rest short = ap (λ (l : List ℕ). left_of_text (spelled_u32 (length text) ++ (l ++ rest))) (append-nil text) ∙ text_left text rest short
+
 -- what an event of a well-formed state gives its block to emit
 
 short_text : (v : Value) → is_short_text v ≡ true → (length (text_of v) ≤ 4096) × (is_utf8 (text_of v) ≡ true)
@@ -92,13 +112,18 @@ short_address (field ∷ other ∷ fields) is = absurd cc
 one_size : (n : ℕ) (text : List ℕ) → length (spelling_of_effects (effects.Emit (references.Known n) text ∷ [])) ≡ 18 + length text
 one_size n text = omega (arith, ap length (append-nil text))
 
--- effects that are read, and aren't long
+-- effects that are read, whose end is seen, and that aren't long
 record AreGood (list : List Effect) : Type 0 where
   read : is_effect_list (spelling_of_effects list) ≡ true
+  left : (rest : List ℕ) → left_of_list (spelling_of_effects list ++ rest) ≡ rest
   short : length (spelling_of_effects list) ≤ 5000
 
 emit_good : (n : ℕ) (text : List ℕ) → length text ≤ 4200 → is_utf8 text ≡ true → AreGood (effects.Emit (references.Known n) text ∷ [])
-emit_good n text short utf8 = record { read = one_read n text (omega (arith, short)) utf8; short = omega (arith, one_size n text, short) }
+emit_good n text short utf8 = record {
+  read = one_read n text (omega (arith, short)) utf8;
+  left = λ rest. one_left n text rest (omega (arith, short));
+  short = omega (arith, one_size n text, short);
+}
 
 event_good : (v : Event) (row : Entity) → has_fields v.name v.fields ≡ true → AreGood (effects_of v row)
 event_good v row is = elim (cases_Bool (bytes_eq v.name invite)) [
@@ -110,12 +135,12 @@ event_good v row is = elim (cases_Bool (bytes_eq v.name invite)) [
 ]
 
 row_good : (v : Event) (found : Option Entity) → has_fields v.name v.fields ≡ true → AreGood (option_map_or (λ row. effects_of v row) found [])
-row_good v None is = record { read = refl; short = omega arith }
+row_good v None is = record { read = refl; left = λ rest. refl; short = omega arith }
 row_good v (Some row) is = event_good v row is
 
 due_good : (s : Parts) (a : ℕ) (found : Option Event) → IsSound s → front s.events a ≡ found
     → AreGood (option_map_or (λ v. option_map_or (λ row. effects_of v row) (first s a v) []) found [])
-due_good s a None sound is = record { read = refl; short = omega arith }
+due_good s a None sound is = record { read = refl; left = λ rest. refl; short = omega arith }
 due_good s a (Some v) sound is =
     let found = front_all _ s.events a v is sound.events in
     row_good v (first s a v) (rw found.1 at found.3.fields)
@@ -136,3 +161,10 @@ payload_short s (choices.Input signal) sound valid = omega (arith, short_line si
 payload_short s (choices.Initial a) sound valid = omega arith
 payload_short s (choices.Deliver a) sound valid = omega (arith, (due_good s a.0 (front s.events a.0) sound refl).short)
 payload_short s (choices.Finish a) sound valid = omega arith
+
+-- the end of a payload is seen where something stands behind it
+pub payload_left : (s : Parts) (c : Choice) (rest : List ℕ) → IsSound s → is_choice c ≡ true → left_of_payload (payload s c ++ rest) ≡ rest
+payload_left s (choices.Input signal) rest sound valid = text_left (spelled signal) rest (omega (arith, short_line signal valid))
+payload_left s (choices.Initial a) rest sound valid = refl
+payload_left s (choices.Deliver a) rest sound valid = (due_good s a.0 (front s.events a.0) sound refl).left rest
+payload_left s (choices.Finish a) rest sound valid = refl

@@ -4,6 +4,7 @@ use Rattle.std.specs.List.{AllByRecursion, filter}
 use Rattle.std.specs.Option.{option_map_or}
 use Rattle.std.specs.Str.{bytes_eq}
 use Rattle.std.proofs.lemmas.Bool.{cases_Bool, ne_eqb, eqb-true, eqb-false, eq-eqb, and_parts, not-true, ltb-false, or_cases}
+use Rattle.std.proofs.lemmas.List.{append_cancel_right}
 use Rattle.slee_value.specs.declared.ids.ActivityId.{ActivityId}
 use Rattle.slee_value.specs.declared.ids.EntityId.{EntityId}
 use Rattle.signal_script.specs.declared.signal.Signal.{Signal}
@@ -32,7 +33,7 @@ use Rattle.router_rules.specs.Selection.{due_service, first, next_for}
 use Rattle.router_rules.specs.Step.{after, did, told, is_enabled, is_next, is_choice, lines_of_step, is_initial_next, is_deliver_next, is_finish_next}
 use Rattle.router_rules.specs.Payload.{payload, choice_in, HasNumber}
 use Rattle.router_rules.specs.declared.kindred.Kindred.{Kindred}
-use Rattle.router_rules.proofs.PayloadLemmas.{payload_read, payload_short}
+use Rattle.router_rules.proofs.PayloadLemmas.{payload_read, payload_short, payload_left, left_of_payload}
 use Rattle.router_rules.proofs.RowLemmas.{front_all, there_below}
 use Rattle.router_rules.specs.History.{replay, Legal}
 use Rattle.router_rules.specs.Well.{IsBuiltInRoot, IsSound, IsWell, AreApart, AreHeld, IsHeld, is_entity, is_activity}
@@ -257,3 +258,16 @@ choice_again s c well valid enabled = payload_read s c well.sound valid (enabled
 
 pub payload_fits : (s : Parts) (c : Choice) → IsWell s → is_choice c ≡ true → length (payload s c) ≤ 65536
 payload_fits s c well valid = payload_short s c well.sound valid
+
+same_some : {A : Type 0} (c d : A) → Some c ≡ Some d → c ≡ d
+same_some c d same = cc
+
+-- payloads that begin the same bytes are the same, of the same choice
+pub payload_alone : (s t : Parts) (c d : Choice) (r q : List ℕ) → IsWell s → IsWell t
+    → is_choice c ≡ true → is_enabled s c ≡ true → is_choice d ≡ true → is_enabled t d ≡ true
+    → payload s c ++ r ≡ payload t d ++ q → (c ≡ d) × (payload s c ≡ payload t d) × (r ≡ q)
+payload_alone s t c d r q well_s well_t valid_c enabled_c valid_d enabled_d same =
+    let behind : r ≡ q = sym (payload_left s c r well_s.sound valid_c) ∙ ap left_of_payload same ∙ payload_left t d q well_t.sound valid_d in
+    let bytes : payload s c ≡ payload t d = append_cancel_right (payload s c) (payload t d) q (subst (λ (l : List ℕ). payload s c ++ l ≡ payload t d ++ q) behind same) in
+    let choice : c ≡ d = same_some c d (sym (choice_again s c well_s valid_c enabled_c) ∙ ap choice_in bytes ∙ choice_again t d well_t valid_d enabled_d) in
+    (choice, bytes, behind)

@@ -1,5 +1,5 @@
 //! Laws of steps and of what the journal keeps of them. Each is proved of the definitions alone.
-ghost use Rattle.std.specs.Prelude.{◌≡◌, ◌≤◌, length, IsTrue, List, [], Some};
+ghost use Rattle.std.specs.Prelude.{◌≡◌, ◌≤◌, ◌++◌, length, IsTrue, List, [], Some, ℕ};
 ghost use Rattle.router_model.specs.State.{Parts, initial};
 ghost use Rattle.trace_history.specs.declared.choice.Choice.{Choice};
 ghost use Rattle.trace_history.specs.declared.entry.Entry.{Entry};
@@ -45,6 +45,13 @@ pub fn closing_again_changes_nothing()
 #[tactic(auto, using(crate::proofs::StepLemmas::choice_again))]
 pub fn payloads_are_read()
     ensures { (s : Parts) (c : Choice) → IsWell s → IsTrue (is_choice c) → IsTrue (is_enabled s c) → choice_in (payload s c) ≡ Some c }
+{}
+
+/// Payloads have one spelling, also with something behind them: the same bytes are of the same choice, with the same
+/// payload and the same bytes behind it.
+#[tactic(auto, using(crate::proofs::StepLemmas::payload_alone))]
+pub fn payloads_have_one_spelling()
+    ensures { (s t : Parts) (c d : Choice) (r q : List ℕ) → IsWell s → IsWell t → IsTrue (is_choice c) → IsTrue (is_enabled s c) → IsTrue (is_choice d) → IsTrue (is_enabled t d) → payload s c ++ r ≡ payload t d ++ q → (c ≡ d) × (payload s c ≡ payload t d) × (r ≡ q) }
 {}
 
 /// No payload is longer than a record of the journal may be.
