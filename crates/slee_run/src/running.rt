@@ -13,7 +13,7 @@ use crate::playing::{End, play};
 use crate::reading::read_lines;
 use crate::{Given, Status};
 use signal_script::Signals;
-use slee_container::{Container, Limits, OpenFault};
+use slee_container::{Container, Limits, Mode, OpenFault};
 use slee_disk::{Disk, Sink, Source};
 use std::alloc::Global;
 
@@ -64,7 +64,14 @@ fn play_lines<K: Sink, D: Disk>(
         journal: JOURNAL_LIMIT,
         steps,
     };
-    let mut container = match Container::open(alloc, disk, KEPT_DEPLOYMENT, lines, limits) {
+    let mut container = match Container::open(
+        alloc,
+        disk,
+        KEPT_DEPLOYMENT,
+        lines,
+        Mode::AllNew,
+        limits,
+    ) {
         Ok(container) => container,
         Err((fault, disk)) => return (refuse(out, status_of(fault)), disk),
     };

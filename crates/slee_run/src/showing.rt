@@ -10,7 +10,7 @@ use crate::Status;
 use crate::finishing::refuse;
 use crate::running::{JOURNAL_LIMIT, KEPT_DEPLOYMENT, status_of};
 use signal_script::Signals;
-use slee_container::{Container, Limits, OutFault};
+use slee_container::{Container, Limits, Mode, OutFault};
 use slee_disk::{Disk, Sink};
 use std::alloc::Global;
 
@@ -26,7 +26,14 @@ pub fn show<K: Sink, D: Disk>(alloc: Global, out: &mut K, disk: D) -> (Status, D
         journal: JOURNAL_LIMIT,
         steps: 0,
     };
-    let container = match Container::open(alloc, disk, KEPT_DEPLOYMENT, &lines, limits) {
+    let container = match Container::open(
+        alloc,
+        disk,
+        KEPT_DEPLOYMENT,
+        &lines,
+        Mode::AllNew,
+        limits,
+    ) {
         Ok(container) => container,
         Err((fault, disk)) => return (refuse(out, status_of(fault)), disk),
     };
