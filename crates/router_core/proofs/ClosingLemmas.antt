@@ -1,5 +1,5 @@
 -- Closing of a draft.
-use Rattle.std.proofs.Common.{◌≡◌, ℕ, ◌==◌, Bool, true, false, if◌then◌else◌, List, [], ◌∷◌, ◌++◌, map, drop, refl, sym, ◌∙◌, ap, subst, inl, inr, Option, Some, None, append_assoc, append-nil}
+use Rattle.std.proofs.Common.{◌≡◌, ℕ, ◌==◌, true, List, [], ◌∷◌, ◌++◌, map, refl, sym, ◌∙◌, ap, subst, inl, inr, Option, Some, None, append_assoc, append-nil}
 use Rattle.std.specs.List.{filter}
 use Rattle.std.specs.Option.{option_map_or}
 use Rattle.std.specs.Str.{bytes_eq}
@@ -8,19 +8,20 @@ use Rattle.slee_value.specs.declared.ids.ActivityId.{ActivityId}
 use Rattle.trace_history.specs.declared.choice.Choice.{Choice}
 use Rattle.trace_history.specs.declared.choice.Choice.TheVariants as choices
 use Rattle.router_model.specs.State.{Parts}
-use Rattle.router_model.specs.Activities.{front, links_on}
-use Rattle.router_model.specs.Changes.{after_change, after_changes, without_context, popped, without_links_on}
+use Rattle.router_model.specs.Activities.{front}
+use Rattle.router_model.specs.Changes.{after_change, after_changes, without_context, popped}
 use Rattle.router_model.specs.Trees.{links_of}
 use Rattle.router_model.specs.declared.change.Change.{Change}
 use Rattle.router_model.specs.declared.rows.Entity.{Entity}
 use Rattle.router_model.specs.declared.rows.Event.{Event}
 use Rattle.router_model.specs.declared.rows.Link.{Link}
+use Rattle.router_rules.proofs.EffectLemmas.{delivery_marks}
 use Rattle.router_rules.specs.BuiltIn.{activity_end}
-use Rattle.router_rules.specs.Closing.{closing, lines_of_closing, removed_all, loose}
+use Rattle.router_rules.specs.Closing.{removed_all, loose}
 use Rattle.router_rules.specs.Delivery.{selected, delivered, finished}
 use Rattle.router_rules.specs.Lines.{removed_line}
 use Rattle.router_rules.specs.Selection.{due_service, first}
-use Rattle.router_rules.specs.Step.{after, did, told, is_choice, is_enabled, lines_of_step}
+use Rattle.router_rules.specs.Step.{did, told, is_choice, is_enabled}
 use Rattle.router_rules.specs.Taking.{refusal}
 use Rattle.router_rules.specs.Well.{IsWell, IsSound, AreHeld}
 use Rattle.router_rules.proofs.LinkLemmas.{loose_on}
@@ -42,13 +43,13 @@ front_held : (s : Parts) (a : ℕ) (found : Option Event) → AreHeld s → AreH
 front_held s a None held = held
 front_held s a (Some v) held = initial_held s a v (due_service s a v) refl held
 
-deliver_held : (s : Parts) (a : ℕ) (next : Option Entity) → AreHeld s → AreHeld (option_map_or (λ row. delivered s a row) next s)
-deliver_held s a None held = held
-deliver_held s a (Some row) held = held
+deliver_held : (s : Parts) (a : ℕ) (v : Event) (next : Option Entity) → AreHeld s → AreHeld (option_map_or (λ row. delivered s a v row) next s)
+deliver_held s a v None held = held
+deliver_held s a v (Some row) held = subst AreHeld (sym (delivery_marks s a v row)) held
 
-first_held : (s : Parts) (a : ℕ) (found : Option Event) → AreHeld s → AreHeld (option_map_or (λ v. option_map_or (λ row. delivered s a row) (first s a v) s) found s)
+first_held : (s : Parts) (a : ℕ) (found : Option Event) → AreHeld s → AreHeld (option_map_or (λ v. option_map_or (λ row. delivered s a v row) (first s a v) s) found s)
 first_held s a None held = held
-first_held s a (Some v) held = deliver_held s a (first s a v) held
+first_held s a (Some v) held = deliver_held s a v (first s a v) held
 
 finish_held : (s : Parts) (a : ActivityId) (found : Option Event) → option_map_or (λ v. ends_with a v) found None ≡ None → AreHeld s → AreHeld (option_map_or (λ v. finished s a.0 v) found s)
 finish_held s a None none held = held

@@ -1,9 +1,7 @@
 -- Choices for which there is no event, no service or no entity do nothing.
-use Rattle.std.proofs.Common.{◌≡◌, ℕ, Bool, true, false, List, [], ◌∷◌, refl, sym, ◌∙◌, ap, is_none, Option, Some, None, option_map}
+use Rattle.std.proofs.Common.{◌≡◌, ℕ, true, false, [], refl, sym, ◌∙◌, ap, is_none, Option, Some, None, option_map}
 use Rattle.std.specs.Option.{option_map_or}
 use Rattle.slee_value.specs.declared.ids.ActivityId.{ActivityId}
-use Rattle.slee_value.specs.declared.ids.EntityId.{EntityId}
-use Rattle.trace_history.specs.declared.choice.Choice.{Choice}
 use Rattle.trace_history.specs.declared.choice.Choice.TheVariants as choices
 use Rattle.router_model.specs.State.{Parts}
 use Rattle.router_model.specs.Activities.{front}
@@ -12,7 +10,6 @@ use Rattle.router_model.specs.declared.rows.Entity.{Entity}
 use Rattle.router_model.specs.declared.rows.Event.{Event}
 use Rattle.router_rules.specs.Delivery.{selected, lines_of_selected, delivered, lines_of_delivered, finished, lines_of_finished}
 use Rattle.router_rules.specs.Selection.{due_service, first}
-use Rattle.router_rules.specs.Step.{did, told}
 use Rattle.router_rules.proofs.FrontLemmas.{due_is}
 use Rattle.router_core.specs.Plans.{DraftView, IsDraftOf}
 use Rattle.router_core.proofs.FrontLemmas.{draft_of}
@@ -46,14 +43,14 @@ due_service_is s a v some = by (due_service s a v) refl
 pub deliver_no_front : (s : Parts) (a : ActivityId) (d : DraftView) → front s.events a.0 ≡ None → d.changes ≡ [] → d.lines ≡ [] → IsDraftOf s (choices.Deliver a) d
 deliver_no_front s a d none same lines =
     draft_of s (choices.Deliver a) d [] same
-    (ap (λ (o : Option Event). option_map_or (λ (v : Event). option_map_or (λ (row : Entity). delivered s a.0 row) (first s a.0 v) s) o s) (sym none)) tt
+    (ap (λ (o : Option Event). option_map_or (λ (v : Event). option_map_or (λ (row : Entity). delivered s a.0 v row) (first s a.0 v) s) o s) (sym none)) tt
     (lines ∙ ap (λ (o : Option Event). option_map_or (λ (v : Event). option_map_or (λ (row : Entity). lines_of_delivered a.0 v row) (first s a.0 v) []) o []) (sym none))
 
 pub deliver_no_entity : (s : Parts) (a : ActivityId) (v : Event) (d : DraftView) → front s.events a.0 ≡ Some v → first s a.0 v ≡ None → d.changes ≡ [] → d.lines ≡ [] → IsDraftOf s (choices.Deliver a) d
 deliver_no_entity s a v d is none same lines =
     draft_of s (choices.Deliver a) d [] same
-    (ap (λ (o : Option Entity). option_map_or (λ (row : Entity). delivered s a.0 row) o s) (sym none)
-    ∙ ap (λ (o : Option Event). option_map_or (λ (w : Event). option_map_or (λ (row : Entity). delivered s a.0 row) (first s a.0 w) s) o s) (sym is)) tt
+    (ap (λ (o : Option Entity). option_map_or (λ (row : Entity). delivered s a.0 v row) o s) (sym none)
+    ∙ ap (λ (o : Option Event). option_map_or (λ (w : Event). option_map_or (λ (row : Entity). delivered s a.0 w row) (first s a.0 w) s) o s) (sym is)) tt
     (lines ∙ ap (λ (o : Option Entity). option_map_or (λ (row : Entity). lines_of_delivered a.0 v row) o []) (sym none)
     ∙ ap (λ (o : Option Event). option_map_or (λ (w : Event). option_map_or (λ (row : Entity). lines_of_delivered a.0 w row) (first s a.0 w) []) o []) (sym is))
 

@@ -1,9 +1,8 @@
 -- The drafts of what is done for a front event.
-use Rattle.std.proofs.Common.{◌≡◌, ℕ, ◌+◌, ◌<◌, Bool, true, false, List, [], ◌∷◌, ◌++◌, map, refl, sym, ◌∙◌, ap, subst, codes, arith, Option, Some, None, inl, inr, Result, Ok, Err, IfOk, option_map}
-use Rattle.std.specs.List.{AllByRecursion, find}
+use Rattle.std.proofs.Common.{◌≡◌, ℕ, true, List, [], ◌∷◌, map, refl, sym, ◌∙◌, ap, subst, codes, arith, Option, Some, None, inl, inr, Result, Ok, Err, IfOk, option_map}
 use Rattle.std.specs.Option.{option_map_or}
 use Rattle.std.specs.Str.{bytes_eq}
-use Rattle.std.proofs.lemmas.Bool.{cases_Bool, and_parts, eqb-true, or_cases}
+use Rattle.std.proofs.lemmas.Bool.{cases_Bool, and_parts}
 use Rattle.slee_value.specs.declared.ids.ActivityId.{ActivityId}
 use Rattle.slee_value.specs.declared.ids.EntityId.{EntityId}
 use Rattle.trace_history.specs.declared.choice.Choice.{Choice}
@@ -11,14 +10,13 @@ use Rattle.trace_history.specs.declared.choice.Choice.TheVariants as choices
 use Rattle.router_model.specs.State.{Parts}
 use Rattle.router_model.specs.Activities.{front}
 use Rattle.router_model.specs.Changes.{after_change, after_changes}
-use Rattle.router_model.specs.Ordered.{AreBelow}
 use Rattle.router_model.specs.Roots.{root_selected, is_selected, is_root_of, names_activity}
-use Rattle.router_model.specs.Trees.{number_of}
 use Rattle.router_model.specs.declared.change.Change.{Change}
 use Rattle.router_model.specs.declared.change.Change.TheVariants as changes
 use Rattle.router_model.specs.declared.rows.Entity.{Entity}
 use Rattle.router_model.specs.declared.rows.Event.{Event}
 use Rattle.router_model.specs.declared.rows.RootName.{RootName}
+use Rattle.router_rules.proofs.EffectLemmas.{delivery_marks, delivery_tells}
 use Rattle.router_rules.specs.BuiltIn.{activity_end, emitted, root_block, service_priority}
 use Rattle.router_rules.specs.Delivery.{selected, selected_with, lines_of_selected, lines_of_attached, delivered, lines_of_delivered, finished, lines_of_finished}
 use Rattle.router_rules.specs.Lines.{initial_heading, deliver_heading, say_line}
@@ -92,11 +90,13 @@ delivered_drafted (Err x) s a v e said is next emits same lines = tt
 delivered_drafted (Ok d) s a v e said is next emits same lines =
     let row = some_row (first s a.0 v) e next in
     draft_of s (choices.Deliver a) d (changes.MarkEntity a row.0.number ∷ []) (same ∙ ap (λ (x : EntityId). changes.MarkEntity a x ∷ []) (sym row.2))
-    (ap (λ (o : Option Entity). option_map_or (λ (x : Entity). delivered s a.0 x) o s) (sym row.1)
-    ∙ ap (λ (o : Option Event). option_map_or (λ (w : Event). option_map_or (λ (x : Entity). delivered s a.0 x) (first s a.0 w) s) o s) (sym is))
+    (sym (delivery_marks s a.0 v row.0)
+    ∙ ap (λ (o : Option Entity). option_map_or (λ (x : Entity). delivered s a.0 v x) o s) (sym row.1)
+    ∙ ap (λ (o : Option Event). option_map_or (λ (w : Event). option_map_or (λ (x : Entity). delivered s a.0 w x) (first s a.0 w) s) o s) (sym is))
     (tt, tt)
     (lines ∙ ap (λ (x : EntityId). deliver_heading a.0 v.id.0 x.0 (codes "fine") ∷ say_line x.0 said ∷ []) (sym row.2)
     ∙ ap (λ (texts : List (List ℕ)). deliver_heading a.0 v.id.0 row.0.number.0 (codes "fine") ∷ map (say_line row.0.number.0) texts) (sym emits)
+    ∙ ap (λ (texts : List (List ℕ)). deliver_heading a.0 v.id.0 row.0.number.0 (codes "fine") ∷ texts) (sym (delivery_tells v row.0))
     ∙ ap (λ (o : Option Entity). option_map_or (λ (x : Entity). lines_of_delivered a.0 v x) o []) (sym row.1)
     ∙ ap (λ (o : Option Event). option_map_or (λ (w : Event). option_map_or (λ (x : Entity). lines_of_delivered a.0 w x) (first s a.0 w) []) o []) (sym is))
 

@@ -1,12 +1,10 @@
 -- The bytes that the journal keeps.
-use Rattle.std.proofs.Common.{◌≡◌, ℕ, ◌+◌, ◌^◌, ◌<◌, ◌≤◌, Bool, true, false, ◌&&◌, List, [], ◌∷◌, ◌++◌, map, length, codes, refl, sym, ◌∙◌, ap, subst, arith, inl, inr, Option, Some, None, nat_le, length-append}
-use Rattle.std.specs.List.{AllByRecursion}
+use Rattle.std.proofs.Common.{◌≡◌, ℕ, ◌^◌, ◌<◌, ◌≤◌, true, List, [], ◌∷◌, ◌++◌, map, length, codes, sym, ◌∙◌, ap, subst, arith, inl, inr, Option, Some, None, nat_le, length-append}
 use Rattle.std.specs.Option.{option_map_or}
 use Rattle.std.specs.Str.{bytes_eq, is_utf8}
 use Rattle.std.proofs.lemmas.Bool.{cases_Bool, and_parts, leb-true}
 use Rattle.slee_value.specs.declared.value.Value.{Value}
 use Rattle.slee_value.specs.declared.value.Value.TheVariants as values
-use Rattle.slee_effect.specs.declared.effect.Effect.{Effect}
 use Rattle.slee_effect.specs.declared.effect.Effect.TheVariants as effects
 use Rattle.slee_effect.specs.declared.reference.Ref.TheVariants as references
 use Rattle.signal_script.specs.declared.signal.Signal.{Signal}
@@ -16,7 +14,8 @@ use Rattle.router_model.specs.Activities.{front}
 use Rattle.router_model.specs.declared.rows.Entity.{Entity}
 use Rattle.router_model.specs.declared.rows.Event.{Event}
 use Rattle.router_rules.specs.BuiltIn.{invite, addr, emitted, address_in, text_of}
-use Rattle.router_rules.specs.Payload.{effects_due, effects_of}
+use Rattle.router_rules.specs.Effects.{effects_of}
+use Rattle.router_rules.specs.Payload.{effects_due}
 use Rattle.router_rules.specs.Selection.{first}
 use Rattle.router_rules.specs.Well.{IsWell, IsBuiltInEvent, has_fields, is_address, is_short_text}
 use Rattle.router_rules.proofs.PayloadLemmas.{short_line}

@@ -1,5 +1,5 @@
 -- A list of changes that is made one by one, and the state at the start.
-use Rattle.std.proofs.Common.{◌≡◌, ℕ, suc, ◌+◌, ◌^◌, ◌<◌, ◌≤◌, true, Option, Some, None, IfSome, List, [], ◌∷◌, length, refl, sym, ◌∙◌, ap, subst, add-one, arith}
+use Rattle.std.proofs.Common.{◌≡◌, ℕ, ◌+◌, ◌^◌, ◌<◌, true, Option, Some, None, IfSome, List, ◌∷◌, length, sym, ◌∙◌, ap, subst, add-one, arith}
 use Rattle.router_model.specs.State.{Parts, initial}
 use Rattle.router_model.specs.Changes.{after_change, after_changes}
 use Rattle.router_model.specs.declared.change.Change.{Change}
@@ -11,7 +11,7 @@ use Rattle.router_rules.specs.Step.{is_enabled, is_choice, is_next}
 use Rattle.router_rules.specs.History.{least_choice}
 use Rattle.router_rules.proofs.HistoryLemmas.{least_offered}
 use Rattle.router_rules.specs.Well.{IsWell}
-use Rattle.router_rules.proofs.StepLemmas.{initial_well, enabled_fresh, IsFresh, after_well}
+use Rattle.router_rules.proofs.StepLemmas.{initial_well, enabled_fresh, after_well}
 use Rattle.router_core.specs.Plans.{AllFit, PlanView, IsPlanOf}
 
 pub starts_well : (s : Parts) → s ≡ initial → IsWell s

@@ -1,6 +1,5 @@
 -- The drafts of lines.
-use Rattle.std.proofs.Common.{◌≡◌, ℕ, Bool, true, false, not, List, [], ◌∷◌, refl, sym, ◌∙◌, ap, subst, codes, is_some, is_none, Option, Some, None, inl, inr, Result, Ok, Err, IfOk}
-use Rattle.std.specs.Option.{option_map_or}
+use Rattle.std.proofs.Common.{◌≡◌, ℕ, true, List, [], ◌∷◌, refl, sym, ◌∙◌, ap, subst, codes, is_some, is_none, Option, Some, None, inl, inr, Result, Ok, Err, IfOk}
 use Rattle.std.proofs.lemmas.Bool.{cases_Bool}
 use Rattle.slee_value.specs.declared.value.Value.{Value}
 use Rattle.slee_value.specs.declared.ids.ActivityId.{ActivityId}
@@ -17,8 +16,7 @@ use Rattle.router_model.specs.declared.rows.AcKind.TheVariants as kinds
 use Rattle.router_model.specs.declared.rows.Activity.{Activity}
 use Rattle.router_rules.specs.BuiltIn.{activity_end, fields_given, is_event}
 use Rattle.router_rules.specs.Lines.{input_heading, refused_line, started_line, ending_line, queued_line}
-use Rattle.router_rules.specs.Step.{did, told}
-use Rattle.router_rules.specs.Taking.{refusal, after_taking, lines_of_taking, number_named, fields_of, unfit, unfit_event, or_else, obeyed, lines_obeyed, counted}
+use Rattle.router_rules.specs.Taking.{refusal, after_taking, lines_of_taking, number_named, fields_of, unfit, unfit_event}
 use Rattle.router_core.specs.Plans.{DraftView, IsDraftOf, AllFit, event_next}
 
 -- what a line does by its refusal

@@ -1,5 +1,5 @@
 -- Lines are UTF-8.
-use Rattle.std.proofs.Common.{◌≡◌, ℕ, suc, ◌+◌, ◌<◌, ◌≤◌, ◌/◌, ◌%◌, Bool, true, false, ◌&&◌, nat_le, List, [], ◌∷◌, ◌++◌, length, get_or, codes, refl, sym, ◌∙◌, ap, subst, arith, append_assoc, append-nil, inl, inr, ◌⊎◌}
+use Rattle.std.proofs.Common.{◌≡◌, ℕ, suc, ◌<◌, ◌≤◌, ◌/◌, ◌%◌, Bool, true, false, nat_le, List, [], ◌∷◌, ◌++◌, length, get_or, codes, refl, sym, ◌∙◌, ap, subst, arith, append_assoc, append-nil, inl, inr}
 use Rattle.std.proofs.lemmas.Bool.{cases_Bool, cases_lt, and_parts}
 use Rattle.std.proofs.lemmas.Bool.Decides.{nat_tests}
 use Rattle.std.proofs.lemmas.Str.{IsUtf8-append, IsUtf8-nil, IsUtf8-encode, encode_ascii, inside_one, IsUtf8-from_is_utf8}
@@ -8,8 +8,7 @@ use Rattle.std.specs.Str.{IsUtf8, is_utf8}
 use Rattle.slee_value.specs.Escape.{is_escaped, hex_digit_of, spelled_byte, escaped}
 use Rattle.signal_script.specs.declared.signal.Signal.{Signal}
 use Rattle.signal_script.specs.Signals.{spelled, is_signal, is_of_form}
-use Rattle.signal_script.specs.Lines.{is_line, is_control}
-use Rattle.router_rules.specs.Lines.{input_heading}
+use Rattle.signal_script.specs.Lines.{is_line}
 
 ascii_then : (x : ℕ) (bs : List ℕ) → x < 128 → IsUtf8 bs → IsUtf8 (x ∷ bs)
 ascii_then x bs small is = IsUtf8-append (x ∷ []) bs (subst IsUtf8 (encode_ascii x small) (IsUtf8-encode x (low_scalar x (omega arith)))) is

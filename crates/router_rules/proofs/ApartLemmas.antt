@@ -1,11 +1,10 @@
 -- What a choice does makes nothing stand twice: no convergence name, no mark; and a root is attached to its own activity alone.
-use Rattle.std.proofs.Common.{◌≡◌, ℕ, ◌+◌, ◌<◌, ◌==◌, Bool, true, false, not, ◌||◌, ◌&&◌, List, [], ◌∷◌, ◌++◌, map, length, refl, sym, ◌∙◌, ap, subst, arith, inl, inr, ◌⊎◌, IsTrue, Option, Some, None}
+use Rattle.std.proofs.Common.{◌≡◌, ℕ, ◌==◌, Bool, true, false, not, ◌||◌, ◌&&◌, List, [], ◌∷◌, ◌++◌, map, refl, sym, ◌∙◌, ap, subst, arith, inl, inr, Option, Some, None}
 use Rattle.std.specs.List.{AllByRecursion, filter, find, list_any}
 use Rattle.std.specs.Option.{option_map_or}
 use Rattle.std.specs.Str.{bytes_eq}
 use Rattle.std.proofs.lemmas.Bool.{cases_Bool, eq-eqb, and_parts, and_from, not-true}
 use Rattle.slee_value.specs.declared.convergence.ConvName.{ConvName}
-use Rattle.slee_value.specs.declared.ids.ActivityId.{ActivityId}
 use Rattle.slee_value.specs.declared.ids.EntityId.{EntityId}
 use Rattle.signal_script.specs.declared.signal.Signal.{Signal}
 use Rattle.signal_script.specs.declared.signal.Signal.TheVariants as signals
@@ -13,27 +12,26 @@ use Rattle.trace_history.specs.declared.choice.Choice.{Choice}
 use Rattle.trace_history.specs.declared.choice.Choice.TheVariants as choices
 use Rattle.router_model.specs.State.{Parts}
 use Rattle.router_model.specs.Activities.{front, is_done, is_delivered, is_linked, is_untouched}
-use Rattle.router_model.specs.Changes.{after_change, without_links_on, without_services_done, without_delivered, without_context, popped, with_link}
-use Rattle.router_model.specs.Ordered.{AllInOrder, named_entity}
-use Rattle.router_model.specs.Paths.{entity_at}
-use Rattle.router_model.specs.Roots.{root_selected, is_selected, is_root_of, is_of_service, names_activity}
+use Rattle.router_model.specs.Changes.{after_change, without_context, popped}
+use Rattle.router_model.specs.Ordered.{named_entity}
+use Rattle.router_model.specs.Roots.{root_selected, is_selected, is_root_of, names_activity}
 use Rattle.router_model.specs.Trees.{number_of}
 use Rattle.router_model.specs.declared.change.Change.TheVariants as changes
 use Rattle.router_model.specs.declared.rows.Entity.{Entity}
 use Rattle.router_model.specs.declared.rows.EntityMark.{EntityMark}
 use Rattle.router_model.specs.declared.rows.Event.{Event}
-use Rattle.router_model.specs.declared.rows.Link.{Link}
 use Rattle.router_model.specs.declared.rows.RootName.{RootName}
 use Rattle.router_model.specs.declared.rows.ServiceMark.{ServiceMark}
-use Rattle.router_model.proofs.OrderLemmas.{all_filter, order_filter, all_from_all, all_pushed, order_pushed, none_passes}
-use Rattle.router_rules.specs.BuiltIn.{activity_end, root_block, service_priority, service_order, handles, is_initial}
-use Rattle.router_rules.specs.Delivery.{attached, rooted, selected, selected_with, delivered, finished}
+use Rattle.router_model.proofs.OrderLemmas.{all_filter, order_filter, all_from_all, order_pushed, none_passes}
+use Rattle.router_rules.specs.BuiltIn.{activity_end, root_block, service_order, handles, is_initial}
+use Rattle.router_rules.specs.Delivery.{attached, rooted, selected, selected_with, received, delivered, finished}
 use Rattle.router_rules.specs.Selection.{selection, due_service, is_due, is_active, fits_target, first, eligible, is_eligible}
 use Rattle.router_rules.specs.Step.{did}
-use Rattle.router_rules.specs.Taking.{taken, after_taking, refusal}
-use Rattle.router_rules.specs.Well.{is_entity, IsBuiltInRoot, IsSound, IsApart, AreApart, is_own_link, is_same_service_mark, is_same_entity_mark}
+use Rattle.router_rules.specs.Taking.{after_taking, refusal}
+use Rattle.router_rules.specs.Well.{is_entity, IsBuiltInRoot, IsSound, IsApart, is_own_link, is_same_service_mark, is_same_entity_mark}
 use Rattle.router_rules.proofs.RowLemmas.{all_both, found_passes, any_more, any_last}
 use Rattle.router_rules.proofs.ClosingLemmas.{all_there}
+use Rattle.router_rules.proofs.EffectLemmas.{delivery_marks}
 use Rattle.router_rules.proofs.FrontLemmas.{all_linked, due_is, least_all}
 
 either_false : (x y : Bool) → (x || y) ≡ false → (x ≡ false) × (y ≡ false)
@@ -193,14 +191,17 @@ not_received s a v row is =
     let two = and_parts (handles row.block v.name) (not (is_delivered s.delivered a row.number.0)) one.1 in
     not-true (is_delivered s.delivered a row.number.0) two.1
 
-pub delivered_once : (s : Parts) (a : ℕ) (v : Event) (row : Entity) → first s a v ≡ Some row → IsApart s → IsApart (delivered s a row)
-delivered_once s a v row is apart = record {
+received_once : (s : Parts) (a : ℕ) (v : Event) (row : Entity) → first s a v ≡ Some row → IsApart s → IsApart (received s a row)
+received_once s a v row is apart = record {
   names = apart.names;
   links = apart.links;
   services_done = apart.services_done;
   delivered = order_pushed (λ x y. not (is_same_entity_mark x y) ≡ true) s.delivered (record { activity = record { 0 = a }; entity = row.number }) apart.delivered
       (delivered_apart s.delivered a row.number (not_received s a v row is));
 }
+
+pub delivered_once : (s : Parts) (a : ℕ) (v : Event) (row : Entity) → first s a v ≡ Some row → IsApart s → IsApart (delivered s a v row)
+delivered_once s a v row is apart = subst IsApart (sym (delivery_marks s a v row)) (received_once s a v row is apart)
 
 -- a finish
 
@@ -241,7 +242,7 @@ initial_apart : (s : Parts) (a : ℕ) (v : Event) (due : Option ℕ) → due_ser
 initial_apart s a v None found w apart = apart
 initial_apart s a v (Some service) found w apart = selected_apart s a v service found w apart
 
-deliver_apart : (s : Parts) (a : ℕ) (v : Event) (next : Option Entity) → first s a v ≡ next → IsApart s → IsApart (option_map_or (λ row. delivered s a row) next s)
+deliver_apart : (s : Parts) (a : ℕ) (v : Event) (next : Option Entity) → first s a v ≡ next → IsApart s → IsApart (option_map_or (λ row. delivered s a v row) next s)
 deliver_apart s a v None found apart = apart
 deliver_apart s a v (Some row) found apart = delivered_once s a v row found apart
 
@@ -251,7 +252,7 @@ initial_front s a None w apart = apart
 initial_front s a (Some v) w apart = initial_apart s a v (due_service s a v) refl w apart
 
 deliver_front : (s : Parts) (a : ℕ) (found : Option Event) → IsApart s
-    → IsApart (option_map_or (λ v. option_map_or (λ row. delivered s a row) (first s a v) s) found s)
+    → IsApart (option_map_or (λ v. option_map_or (λ row. delivered s a v row) (first s a v) s) found s)
 deliver_front s a None apart = apart
 deliver_front s a (Some v) apart = deliver_apart s a v (first s a v) refl apart
 

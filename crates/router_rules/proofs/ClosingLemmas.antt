@@ -1,6 +1,6 @@
 -- What closing does: nothing where each root is held; over roots alone, those without an attachment go.
-use Rattle.std.proofs.Common.{◌≡◌, ℕ, zero, suc, ◌+◌, ◌<◌, ◌≤◌, ◌==◌, Bool, true, false, not, ◌||◌, if◌then◌else◌, List, [], ◌∷◌, ◌++◌, map, length, refl, sym, ◌∙◌, ap, subst, arith, inl, inr, ◌⊎◌, IsTrue, sum, flat_map, append-nil}
-use Rattle.std.specs.List.{AllByRecursion, filter, list_any}
+use Rattle.std.proofs.Common.{◌≡◌, ℕ, zero, suc, ◌<◌, ◌≤◌, ◌==◌, true, false, not, ◌||◌, if◌then◌else◌, List, [], ◌∷◌, ◌++◌, map, length, refl, sym, ◌∙◌, ap, subst, arith, inl, inr, ◌⊎◌, flat_map}
+use Rattle.std.specs.List.{AllByRecursion}
 use Rattle.std.proofs.lemmas.Bool.{cases_Bool, ne_eqb, eqb-true, eqb-false, eq-eqb, or_cases}
 use Rattle.std.proofs.lemmas.Bool.Decides.{nat_tests}
 use Rattle.router_model.specs.State.{Parts}
@@ -8,8 +8,6 @@ use Rattle.router_model.specs.Changes.{removed, without_entity, without_links_of
 use Rattle.router_model.specs.Trees.{parent_of, parent_in, number_of, children, links_of, attachment_count, tree, roots}
 use Rattle.router_model.specs.Ordered.{Rises}
 use Rattle.router_model.proofs.OrderLemmas.{all_from_all, all_filter}
-use Rattle.router_model.specs.declared.rows.Stem.{Stem}
-use Rattle.router_model.specs.declared.rows.Stem.TheVariants as stems
 use Rattle.router_model.specs.declared.rows.Entity.{Entity}
 use Rattle.router_model.specs.declared.rows.Link.{Link}
 use Rattle.router_rules.specs.Closing.{count_of, tree_of, removed_all, close_root, lines_of_root, close_roots, lines_of_roots, closing, lines_of_closing, AreRootsHeld, loose}

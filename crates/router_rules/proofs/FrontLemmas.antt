@@ -1,17 +1,16 @@
 -- What is done for a front event keeps the state sound, up to closing.
-use Rattle.std.proofs.Common.{◌≡◌, ℕ, zero, suc, ◌+◌, ◌^◌, ◌<◌, ◌≤◌, ◌==◌, Bool, true, false, not, ◌||◌, ◌&&◌, if◌then◌else◌, is_none, is_some, List, [], ◌∷◌, ◌++◌, map, length, refl, sym, ◌∙◌, ap, subst, arith, inl, inr, ◌⊎◌, IsTrue, Option, Some, None, ℤ}
+use Rattle.std.proofs.Common.{◌≡◌, ℕ, ◌+◌, ◌^◌, ◌<◌, ◌==◌, true, false, not, if◌then◌else◌, List, [], ◌∷◌, ◌++◌, length, refl, sym, ◌∙◌, ap, subst, arith, inl, inr, Option, Some, None}
 use Rattle.std.proofs.lemmas.List.{map-append}
-use Rattle.std.specs.List.{AllByRecursion, filter, find, list_any, list_all}
-use Rattle.std.specs.Option.{option_map_or}
+use Rattle.std.specs.List.{AllByRecursion, find}
 use Rattle.std.specs.Str.{bytes_eq}
-use Rattle.std.proofs.lemmas.Bool.{cases_Bool, ne_eqb, eqb-true, eqb-false, eq-eqb, or_cases, and_parts, and_from, not-true, ltb-false}
+use Rattle.std.proofs.lemmas.Bool.{cases_Bool, eqb-true, eq-eqb, or_cases, and_parts}
 use Rattle.slee_value.specs.declared.ids.ActivityId.{ActivityId}
 use Rattle.slee_value.specs.declared.ids.EntityId.{EntityId}
-use Rattle.router_model.specs.State.{Parts, initial}
+use Rattle.router_model.specs.State.{Parts}
 use Rattle.router_model.specs.Activities.{front, is_linked, is_untouched}
-use Rattle.router_model.specs.Changes.{after_change, without_links_on, without_front, without_activity, without_services_done, without_delivered, without_context, popped, stands_before, with_link, with_root}
-use Rattle.router_model.specs.Ordered.{AllInOrder, IsOrdered, Rises, AreBelow, activity_number, named_entity, FitsChange}
-use Rattle.router_model.specs.Roots.{root_selected, is_selected, is_root_of, names_activity, is_of_service}
+use Rattle.router_model.specs.Changes.{after_change, without_links_on, without_front, without_activity, without_services_done, without_delivered, without_context, popped, stands_before, with_link}
+use Rattle.router_model.specs.Ordered.{AreBelow, named_entity}
+use Rattle.router_model.specs.Roots.{root_selected, is_selected, is_root_of, names_activity}
 use Rattle.router_model.specs.Paths.{entity_at, earlier, least_path, path_of, before}
 use Rattle.router_model.specs.Trees.{number_of}
 use Rattle.router_model.specs.declared.rows.Activity.{Activity}
@@ -25,12 +24,12 @@ use Rattle.router_model.specs.declared.rows.Service.{Service}
 use Rattle.router_model.specs.declared.rows.ServiceMark.{ServiceMark}
 use Rattle.router_model.specs.declared.rows.Stem.TheVariants as stems
 use Rattle.router_model.specs.declared.change.Change.TheVariants as changes
-use Rattle.router_model.proofs.OrderLemmas.{all_filter, all_from_all, all_pushed, all_put, put_is_insert, put}
+use Rattle.router_model.proofs.OrderLemmas.{all_filter, all_from_all, all_pushed, all_put, put_is_insert}
 use Rattle.router_model.proofs.OrderedLemmas.{ordered_after}
 use Rattle.router_rules.specs.BuiltIn.{activity_end, root_block, service_priority, service_order}
-use Rattle.router_rules.specs.Delivery.{attached, rooted, selected, selected_with, delivered, finished}
+use Rattle.router_rules.specs.Delivery.{attached, rooted, selected, selected_with, received, finished}
 use Rattle.router_rules.specs.Selection.{selection, due_service, is_due, first, eligible, is_eligible}
-use Rattle.router_rules.specs.Well.{is_entity, is_activity, is_waiting, IsBuiltInRoot, IsLinkOf, IsBuiltInActivity, IsBuiltInEvent, event_number, queue, is_end, EndsLast, has_end_last, has_no_end, IsServiceMark, IsEntityMark, AreCounts, IsSound}
+use Rattle.router_rules.specs.Well.{is_entity, is_activity, is_waiting, IsBuiltInRoot, IsLinkOf, IsBuiltInActivity, IsBuiltInEvent, event_number, queue, is_end, EndsLast, has_end_last, has_no_end, IsServiceMark, IsEntityMark, IsSound}
 use Rattle.router_rules.proofs.RowLemmas.{found_all, found_passes, any_more, any_last, found_entity, some_row, still_activity, absent_queue, front_first, other_queue, still_waiting, front_waits, front_all, all_left, order_left, tail_ends, end_alone}
 
 -- marks
@@ -197,8 +196,8 @@ least_all P rows (Some b) (y ∷ ys) row is holds all =
 pub first_all : (P : Entity → Type 0) (s : Parts) (a : ℕ) (v : Event) (row : Entity) → first s a v ≡ Some row → AllByRecursion P s.entities → P row
 first_all P s a v row is all = least_all P s.entities None (eligible s a v) row is (λ x none. absurd (cc)) (all_filter P (is_eligible s a v) s.entities all)
 
-pub delivered_sound : (s : Parts) (a : ℕ) (v : Event) (row : Entity) → front s.events a ≡ Some v → first s a v ≡ Some row → IsSound s → IsSound (delivered s a row)
-delivered_sound s a v row is next w =
+pub received_sound : (s : Parts) (a : ℕ) (v : Event) (row : Entity) → front s.events a ≡ Some v → first s a v ≡ Some row → IsSound s → IsSound (received s a row)
+received_sound s a v row is next w =
     marked_entity s a row.number (front_waits s.events a v is) (first_all (λ r. r.number.0 < s.next_entity) s a v row next w.ordered.entities_below) w
 
 -- a finish

@@ -1,12 +1,12 @@
 -- What is found by the attachments to an activity: the first entity that may receive its front event, and the entities that lose their last attachment with it.
-use Rattle.std.proofs.Common.{◌≡◌, ℕ, zero, suc, ◌+◌, ◌<◌, ◌≤◌, ◌==◌, nat_lt, ℤ, pos, Bool, true, false, not, ◌||◌, ◌&&◌, if◌then◌else◌, List, [], ◌∷◌, ◌++◌, map, length, refl, sym, ◌∙◌, ap, subst, arith, inl, inr, ◌⊎◌, IsTrue, Option, Some, None, option_and_then}
+use Rattle.std.proofs.Common.{◌≡◌, ℕ, zero, suc, ◌+◌, ◌<◌, ◌==◌, nat_lt, ℤ, pos, Bool, true, false, not, ◌&&◌, if◌then◌else◌, List, [], ◌∷◌, ◌++◌, map, length, refl, sym, ◌∙◌, ap, subst, arith, inl, inr, Option, Some, None, option_and_then}
 use Rattle.std.specs.List.{AllByRecursion, filter, find, list_any}
 use Rattle.std.specs.Option.{option_map_or}
-use Rattle.std.proofs.lemmas.Bool.{cases_Bool, ne_eqb, eqb-true, eqb-false, eq-eqb, and_parts, or_cases, le-ltb, cases_eq}
+use Rattle.std.proofs.lemmas.Bool.{cases_Bool, ne_eqb, eqb-true, eqb-false, eq-eqb, or_cases, le-ltb}
 use Rattle.std.proofs.lemmas.Bool.Decides.{nat_tests}
 use Rattle.router_model.specs.State.{Parts}
 use Rattle.router_model.specs.Activities.{is_linked, is_delivered, links_on}
-use Rattle.router_model.specs.Changes.{stands_before, without_links_on}
+use Rattle.router_model.specs.Changes.{without_links_on}
 use Rattle.router_model.specs.Ordered.{AllInOrder, IsLinkBefore, Rises}
 use Rattle.router_model.specs.Paths.{entity_at, path, path_of, before, earlier, least_path}
 use Rattle.router_model.specs.Trees.{links_of, number_of, parent_of, parent_in}
@@ -16,8 +16,8 @@ use Rattle.router_model.specs.declared.rows.Link.{Link}
 use Rattle.router_model.proofs.OrderLemmas.{all_from_all, all_filter}
 use Rattle.router_rules.specs.BuiltIn.{handles, root_block}
 use Rattle.router_rules.specs.Closing.{loose}
-use Rattle.router_rules.specs.Selection.{first, eligible, is_eligible}
-use Rattle.router_rules.specs.Well.{is_entity, IsBuiltInRoot, IsLinkOf, IsSound, IsWell, IsHeld, AreHeld}
+use Rattle.router_rules.specs.Selection.{first, is_eligible}
+use Rattle.router_rules.specs.Well.{is_entity, IsBuiltInRoot, IsLinkOf, IsWell, IsHeld}
 use Rattle.router_rules.proofs.RowLemmas.{all_both, found_passes, found_all}
 use Rattle.router_rules.proofs.ClosingLemmas.{all_there}
 

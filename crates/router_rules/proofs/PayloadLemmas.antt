@@ -1,7 +1,7 @@
 -- Payloads are read back.
-use Rattle.std.proofs.Common.{◌≡◌, ℕ, suc, ◌+◌, ◌^◌, ◌<◌, ◌≤◌, ◌==◌, nat_le, ◌&&◌, Bool, true, List, [], ◌∷◌, ◌++◌, length, take, drop, refl, sym, ◌∙◌, ap, arith, Option, Some, IsTrue, option_map, if◌then◌else◌, None, inl, inr, codes, append-nil, length-append}
-use Rattle.std.specs.Int.{w32, w64, from_le_bytes, to_le_bytes}
-use Rattle.std.proofs.lemmas.Bool.{cases_Bool, eq-eqb, le-leb, leb-true, and_parts, and_from}
+use Rattle.std.proofs.Common.{◌≡◌, ℕ, ◌+◌, ◌^◌, ◌<◌, ◌≤◌, ◌==◌, nat_le, true, List, [], ◌∷◌, ◌++◌, length, take, drop, refl, ◌∙◌, ap, arith, Option, Some, if◌then◌else◌, None, inl, inr, codes, append-nil, length-append}
+use Rattle.std.specs.Int.{w32, from_le_bytes}
+use Rattle.std.proofs.lemmas.Bool.{cases_Bool, eq-eqb, le-leb, leb-true, and_parts}
 use Rattle.std.proofs.lemmas.List.{take_at, drop_at}
 use Rattle.std.proofs.lemmas.Nat.{from_le_bytes-to_le_bytes_4, from_le_bytes-to_le_bytes_8}
 use Rattle.slee_value.specs.Bytes.{spelled_text, spelled_u32, spelled_u64}
@@ -13,8 +13,9 @@ use Rattle.signal_script.proofs.LawLemmas.{printed_unbounded}
 use Rattle.trace_history.specs.declared.choice.Choice.{Choice}
 use Rattle.trace_history.specs.declared.choice.Choice.TheVariants as choices
 use Rattle.router_model.specs.State.{Parts}
-use Rattle.router_rules.specs.Step.{is_choice, after}
-use Rattle.router_rules.specs.Payload.{payload, payloads, choice_in, input_in, activity_in, effects_of, effects_due, behind_utf8, behind_text, behind_effect, is_effect_list, HasNumber}
+use Rattle.router_rules.specs.Step.{is_choice}
+use Rattle.router_rules.specs.Effects.{effects_of}
+use Rattle.router_rules.specs.Payload.{payload, choice_in, input_in, activity_in, effects_due, behind_utf8, behind_text, behind_effect, is_effect_list, HasNumber}
 use Rattle.std.specs.Option.{option_map_or}
 use Rattle.std.specs.Str.{bytes_eq, is_utf8}
 use Rattle.slee_value.specs.declared.value.Value.{Value}

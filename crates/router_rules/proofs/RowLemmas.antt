@@ -1,11 +1,9 @@
 -- Rows that are there, and queues.
-use Rattle.std.proofs.Common.{◌≡◌, ℕ, zero, suc, ◌+◌, ◌<◌, ◌≤◌, ◌==◌, Bool, true, false, not, ◌||◌, ◌&&◌, if◌then◌else◌, List, [], ◌∷◌, ◌++◌, map, length, refl, sym, ◌∙◌, ap, subst, arith, inl, inr, ◌⊎◌, IsTrue, Option, Some, None, append-nil}
-use Rattle.std.specs.List.{AllByRecursion, filter, find, list_any, list_all}
-use Rattle.std.specs.Option.{option_map}
-use Rattle.std.specs.Str.{bytes_eq}
-use Rattle.std.proofs.lemmas.Bool.{cases_Bool, ne_eqb, eqb-true, eqb-false, eq-eqb, or_cases, and_parts, and_from}
+use Rattle.std.proofs.Common.{◌≡◌, ℕ, ◌<◌, ◌==◌, Bool, true, false, not, ◌||◌, if◌then◌else◌, List, [], ◌∷◌, ◌++◌, map, refl, ap, subst, arith, inl, inr, Some}
+use Rattle.std.specs.List.{AllByRecursion, find, list_any}
+use Rattle.std.proofs.lemmas.Bool.{cases_Bool, eqb-true, eq-eqb, or_cases, and_parts, and_from}
 use Rattle.std.proofs.lemmas.Bool.Decides.{nat_tests}
-use Rattle.router_model.specs.Activities.{front, event_of}
+use Rattle.router_model.specs.Activities.{front}
 use Rattle.router_model.specs.Changes.{without_front, without_activity, ends}
 use Rattle.router_model.specs.Ordered.{AllInOrder, Rises, AreBelow, activity_number}
 use Rattle.router_model.specs.Trees.{number_of}
@@ -13,9 +11,8 @@ use Rattle.router_model.specs.declared.rows.Activity.{Activity}
 use Rattle.router_model.specs.declared.rows.Entity.{Entity}
 use Rattle.router_model.specs.declared.rows.Event.{Event}
 use Rattle.router_model.specs.declared.rows.Queued.{Queued}
-use Rattle.router_model.proofs.OrderLemmas.{all_from_all, all_filter}
-use Rattle.router_rules.specs.BuiltIn.{activity_end}
-use Rattle.router_rules.specs.Well.{is_entity, is_activity, is_waiting, queue, is_end, has_no_end, has_end_last, EndsLast}
+use Rattle.router_model.proofs.OrderLemmas.{all_from_all}
+use Rattle.router_rules.specs.Well.{is_entity, is_activity, is_waiting, queue, is_end, has_no_end, has_end_last}
 
 pub all_both : {A : Type 0} (P Q : A → Type 0) (xs : List A) → AllByRecursion P xs → AllByRecursion Q xs → AllByRecursion (λ x. P x × Q x) xs
 all_both P Q [] one other = tt

@@ -1,26 +1,19 @@
 -- What a choice does keeps the state sound, up to closing.
-use Rattle.std.proofs.Common.{◌≡◌, ℕ, zero, suc, ◌+◌, ◌^◌, ◌<◌, ◌≤◌, ◌==◌, Bool, true, false, not, ◌||◌, ◌&&◌, if◌then◌else◌, is_none, is_some, List, [], ◌∷◌, ◌++◌, map, length, refl, sym, ◌∙◌, ap, subst, arith, inl, inr, ◌⊎◌, IsTrue, Option, Some, None, append-nil, ℤ}
-use Rattle.std.proofs.lemmas.List.{map-append}
-use Rattle.std.specs.List.{AllByRecursion, filter, find, list_any, list_all}
-use Rattle.std.specs.Option.{option_map_or}
-use Rattle.std.specs.Str.{bytes_eq}
-use Rattle.std.proofs.lemmas.Bool.{cases_Bool, ne_eqb, eqb-true, eqb-false, eq-eqb, or_cases, and_parts, and_from, not-true, ltb-false}
+use Rattle.std.proofs.Common.{◌≡◌, ℕ, ◌+◌, ◌^◌, ◌<◌, ◌==◌, Bool, true, false, not, ◌&&◌, List, [], ◌∷◌, ◌++◌, map, refl, sym, ◌∙◌, ap, subst, arith, inl, inr, ◌⊎◌, None, append-nil}
+use Rattle.std.specs.List.{AllByRecursion, filter}
+use Rattle.std.proofs.lemmas.Bool.{cases_Bool, ne_eqb, eqb-true, eqb-false, eq-eqb}
 use Rattle.std.proofs.lemmas.Bool.Decides.{nat_tests}
 use Rattle.slee_value.specs.Name.{is_name}
 use Rattle.slee_value.specs.declared.value.Value.{Value}
-use Rattle.slee_value.specs.declared.ids.ActivityId.{ActivityId}
-use Rattle.slee_value.specs.declared.ids.EntityId.{EntityId}
-use Rattle.router_model.specs.State.{Parts, initial}
-use Rattle.router_model.specs.Activities.{front, external, has_name, is_linked}
-use Rattle.router_model.specs.Changes.{after_change, removed, without_entity, without_root_name, without_links_of, without_links_on, without_front, without_activity, without_services_done, without_delivered, without_context, popped, ends, stands_before, with_link, with_root}
-use Rattle.router_model.specs.Ordered.{AllInOrder, IsOrdered, Rises, AreBelow, activity_number, named_entity, FitsChange}
-use Rattle.router_model.specs.Roots.{root_selected, is_selected, is_root_of, names_activity, is_of_service}
-use Rattle.router_model.specs.Paths.{entity_at, earlier, least_path}
-use Rattle.router_model.specs.Trees.{number_of, roots}
+use Rattle.router_model.specs.State.{Parts}
+use Rattle.router_model.specs.Activities.{external}
+use Rattle.router_model.specs.Changes.{after_change, removed, without_entity, without_root_name, without_links_of, ends}
+use Rattle.router_model.specs.Ordered.{IsOrdered, AreBelow, activity_number, named_entity}
+use Rattle.router_model.specs.Roots.{names_activity}
+use Rattle.router_model.specs.Trees.{number_of}
 use Rattle.router_model.specs.declared.rows.AcKind.TheVariants as kinds
 use Rattle.router_model.specs.declared.rows.Activity.{Activity}
 use Rattle.router_model.specs.declared.rows.Entity.{Entity}
-use Rattle.router_model.specs.declared.rows.Event.{Event}
 use Rattle.router_model.specs.declared.rows.EntityMark.{EntityMark}
 use Rattle.router_model.specs.declared.rows.Link.{Link}
 use Rattle.router_model.specs.declared.rows.Queued.{Queued}
@@ -28,16 +21,13 @@ use Rattle.router_model.specs.declared.rows.RootName.{RootName}
 use Rattle.router_model.specs.declared.rows.Service.{Service}
 use Rattle.router_model.specs.declared.rows.ServiceMark.{ServiceMark}
 use Rattle.router_model.specs.declared.change.Change.TheVariants as changes
-use Rattle.router_model.proofs.OrderLemmas.{all_filter, order_filter, all_from_all, all_pushed, order_pushed, all_map, all_put, put_is_insert, put}
+use Rattle.router_model.proofs.OrderLemmas.{all_filter, order_filter, all_from_all, all_pushed, order_pushed}
 use Rattle.router_model.proofs.OrderedLemmas.{ordered_after}
-use Rattle.router_rules.specs.BuiltIn.{activity_end, invite, root_block, service_priority, service_order}
 use Rattle.router_rules.specs.Closing.{closing, lines_of_closing, removed_all, loose}
 use Rattle.router_rules.specs.Lines.{removed_line}
-use Rattle.router_rules.specs.Taking.{counted, queued, ended}
-use Rattle.router_rules.specs.Delivery.{attached, rooted, selected, selected_with, delivered, finished}
-use Rattle.router_rules.specs.Selection.{selection, due_service, is_due, first, eligible}
-use Rattle.router_rules.specs.Well.{is_entity, is_activity, is_waiting, IsBuiltInRoot, IsLinkOf, IsBuiltInActivity, IsBuiltInEvent, is_external, has_fields, event_number, queue, is_end, has_no_end, has_end_last, EndsLast, IsServiceMark, IsEntityMark, AreCounts, IsSound, IsWell, AreHeld, IsHeld, IsApart, AreApart, is_own_link}
-use Rattle.router_rules.proofs.RowLemmas.{all_both, found_all, found_passes, any_more, any_last, found_activity, found_entity, only_found, there_below, some_row, still_activity, ends_same, ended_there, queue_append, queue_absent, absent_queue, front_first, other_queue, still_waiting, front_waits, front_all, all_left, order_left, no_end_more, end_last, tail_ends, end_alone}
+use Rattle.router_rules.specs.Taking.{counted, queued}
+use Rattle.router_rules.specs.Well.{is_entity, is_activity, IsBuiltInRoot, IsLinkOf, IsBuiltInActivity, IsBuiltInEvent, has_fields, event_number, queue, is_end, has_no_end, EndsLast, IsServiceMark, IsEntityMark, IsSound, IsWell, IsHeld, IsApart, is_own_link}
+use Rattle.router_rules.proofs.RowLemmas.{any_more, there_below, queue_append, queue_absent, no_end_more, end_last}
 use Rattle.router_rules.proofs.ClosingLemmas.{still_there, closes, closes_lines, closes_held, all_there, all_roots}
 
 -- a removal

@@ -1,9 +1,9 @@
 -- Steps keep the state well formed.
-use Rattle.std.proofs.Common.{◌≡◌, ℕ, zero, suc, ◌+◌, ◌^◌, ◌<◌, ◌≤◌, ◌==◌, nat_lt, Bool, true, false, not, ◌||◌, ◌&&◌, if◌then◌else◌, List, [], ◌∷◌, ◌++◌, map, length, refl, sym, ◌∙◌, ap, subst, arith, inl, inr, ◌⊎◌, IsTrue, Option, Some, None, append-nil}
-use Rattle.std.specs.List.{AllByRecursion, filter}
+use Rattle.std.proofs.Common.{◌≡◌, ℕ, suc, ◌^◌, ◌<◌, ◌≤◌, ◌==◌, nat_lt, Bool, true, false, not, ◌||◌, List, [], ◌∷◌, ◌++◌, map, length, refl, sym, ◌∙◌, ap, subst, arith, inl, inr, ◌⊎◌, Option, Some, None, append-nil}
+use Rattle.std.specs.List.{AllByRecursion}
 use Rattle.std.specs.Option.{option_map_or}
 use Rattle.std.specs.Str.{bytes_eq}
-use Rattle.std.proofs.lemmas.Bool.{cases_Bool, ne_eqb, eqb-true, eqb-false, eq-eqb, and_parts, not-true, ltb-false, or_cases}
+use Rattle.std.proofs.lemmas.Bool.{cases_Bool, eqb-false, and_parts, not-true, ltb-false}
 use Rattle.std.proofs.lemmas.List.{append_cancel_right}
 use Rattle.slee_value.specs.declared.ids.ActivityId.{ActivityId}
 use Rattle.slee_value.specs.declared.ids.EntityId.{EntityId}
@@ -14,10 +14,9 @@ use Rattle.trace_history.specs.declared.choice.Choice.TheVariants as choices
 use Rattle.trace_history.specs.declared.entry.Entry.{Entry}
 use Rattle.router_model.specs.State.{Parts, initial, is_used_up}
 use Rattle.router_model.specs.Activities.{front, is_linked}
-use Rattle.router_model.specs.Changes.{after_change, popped, stands_before, with_link}
-use Rattle.router_model.specs.Ordered.{IsOrdered}
+use Rattle.router_model.specs.Changes.{after_change, stands_before, with_link}
 use Rattle.router_model.specs.Roots.{root_selected}
-use Rattle.router_model.specs.Trees.{links_of, number_of, roots}
+use Rattle.router_model.specs.Trees.{links_of, number_of}
 use Rattle.router_model.specs.declared.rows.Entity.{Entity}
 use Rattle.router_model.specs.declared.rows.Event.{Event}
 use Rattle.router_model.specs.declared.rows.Link.{Link}
@@ -27,21 +26,22 @@ use Rattle.router_model.proofs.OrderLemmas.{all_from_all, all_pushed, put_is_ins
 use Rattle.router_model.proofs.OrderedLemmas.{initial_ordered}
 use Rattle.router_rules.specs.BuiltIn.{activity_end}
 use Rattle.router_rules.specs.Closing.{closing, lines_of_closing, count_of, AreRootsHeld}
-use Rattle.router_rules.specs.Taking.{taken, after_taking, refusal}
-use Rattle.router_rules.specs.Delivery.{selected, selected_with, finished, delivered, attached, rooted}
+use Rattle.router_rules.specs.Taking.{after_taking}
+use Rattle.router_rules.specs.Delivery.{selected, selected_with, finished, delivered, attached}
 use Rattle.router_rules.specs.Selection.{due_service, first, next_for}
 use Rattle.router_rules.specs.Step.{after, did, told, is_enabled, is_next, is_choice, lines_of_step, is_initial_next, is_deliver_next, is_finish_next}
 use Rattle.router_rules.specs.Payload.{payload, choice_in, HasNumber}
 use Rattle.router_rules.specs.declared.kindred.Kindred.{Kindred}
+use Rattle.router_rules.proofs.EffectLemmas.{delivery_marks}
 use Rattle.router_rules.proofs.PayloadLemmas.{payload_read, payload_short, payload_left, left_of_payload}
 use Rattle.router_rules.proofs.RowLemmas.{front_all, there_below}
 use Rattle.router_rules.specs.History.{replay, Legal}
-use Rattle.router_rules.specs.Well.{IsBuiltInRoot, IsSound, IsWell, AreApart, AreHeld, IsHeld, is_entity, is_activity}
+use Rattle.router_rules.specs.Well.{IsBuiltInRoot, IsSound, IsWell, AreHeld, IsHeld, is_entity, is_activity}
 use Rattle.router_rules.proofs.ClosingLemmas.{closing_held, closing_silent, own_count, some_rows, all_roots, all_there}
 use Rattle.router_rules.proofs.SoundLemmas.{closing_well}
 use Rattle.router_rules.proofs.ApartLemmas.{did_apart}
 use Rattle.router_rules.proofs.TakingLemmas.{HasNext, taken_sound}
-use Rattle.router_rules.proofs.FrontLemmas.{selected_sound, delivered_sound, finished_sound, next_root, due_is}
+use Rattle.router_rules.proofs.FrontLemmas.{selected_sound, received_sound, finished_sound, next_root, due_is}
 
 -- a state that isn't used up has numbers for a step
 
@@ -88,12 +88,12 @@ initial_sound s a None is fits w = w
 initial_sound s a (Some v) is fits w = initial_did s a v (due_service s a v) is refl fits w
 
 deliver_did : (s : Parts) (a : ℕ) (v : Event) (next : Option Entity) → front s.events a ≡ Some v → first s a v ≡ next → IsSound s
-    → IsSound (option_map_or (λ row. delivered s a row) next s)
+    → IsSound (option_map_or (λ row. delivered s a v row) next s)
 deliver_did s a v None is found w = w
-deliver_did s a v (Some row) is found w = delivered_sound s a v row is found w
+deliver_did s a v (Some row) is found w = subst IsSound (sym (delivery_marks s a v row)) (received_sound s a v row is found w)
 
 deliver_sound : (s : Parts) (a : ℕ) (found : Option Event) → front s.events a ≡ found → IsSound s
-    → IsSound (option_map_or (λ v. option_map_or (λ row. delivered s a row) (first s a v) s) found s)
+    → IsSound (option_map_or (λ v. option_map_or (λ row. delivered s a v row) (first s a v) s) found s)
 deliver_sound s a None is w = w
 deliver_sound s a (Some v) is w = deliver_did s a v (first s a v) is refl w
 

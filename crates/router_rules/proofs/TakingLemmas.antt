@@ -1,31 +1,28 @@
 -- A line keeps the state sound, up to closing.
-use Rattle.std.proofs.Common.{◌≡◌, ℕ, zero, suc, ◌+◌, ◌^◌, ◌<◌, ◌≤◌, ◌==◌, Bool, true, false, not, ◌||◌, ◌&&◌, if◌then◌else◌, is_none, is_some, List, [], ◌∷◌, ◌++◌, map, length, refl, sym, ◌∙◌, ap, subst, arith, inl, inr, ◌⊎◌, IsTrue, Option, Some, None, codes, nat_le, flat_map, length-append}
+use Rattle.std.proofs.Common.{◌≡◌, ℕ, ◌+◌, ◌^◌, ◌<◌, ◌≤◌, ◌==◌, Bool, true, false, ◌&&◌, is_none, is_some, List, [], ◌∷◌, ◌++◌, map, length, refl, sym, ◌∙◌, ap, subst, arith, inl, inr, Option, Some, None, nat_le, length-append}
 use Rattle.std.specs.List.{AllByRecursion}
-use Rattle.std.specs.Option.{option_map_or, unwrap_or}
+use Rattle.std.specs.Option.{option_map_or}
 use Rattle.std.specs.Str.{bytes_eq, is_utf8}
 use Rattle.std.proofs.lemmas.Bool.{cases_Bool, and_parts, and_from, le-leb}
 use Rattle.std.proofs.lemmas.Slice.Eq.{bytes_eq-Decides}
 use Rattle.slee_value.specs.Name.{is_name}
-use Rattle.slee_value.specs.Escape.{escaped, is_escaped, spelled_byte}
+use Rattle.slee_value.specs.Escape.{escaped, is_escaped}
 use Rattle.slee_value.specs.declared.value.Value.{Value}
-use Rattle.slee_value.specs.declared.value.Value.TheVariants as values
 use Rattle.signal_script.specs.declared.signal.Signal.{Signal}
 use Rattle.signal_script.specs.declared.signal.Signal.TheVariants as signals
-use Rattle.signal_script.specs.Signals.{spelled, spelled_service, spelled_fields, is_signal, is_of_form}
+use Rattle.signal_script.specs.Signals.{spelled, is_signal}
 use Rattle.signal_script.specs.Lines.{is_line}
 use Rattle.router_model.specs.State.{Parts}
 use Rattle.router_model.specs.Activities.{external, has_name}
-use Rattle.router_model.specs.Changes.{after_change, ends}
-use Rattle.router_model.specs.Ordered.{IsOrdered, Rises, activity_number}
+use Rattle.router_model.specs.Changes.{ends}
 use Rattle.router_model.specs.declared.rows.Activity.{Activity}
-use Rattle.router_model.specs.declared.rows.Queued.{Queued}
 use Rattle.router_model.specs.declared.change.Change.TheVariants as changes
 use Rattle.router_model.proofs.OrderLemmas.{all_from_all, all_map}
 use Rattle.router_model.proofs.OrderedLemmas.{ordered_after}
 use Rattle.router_rules.specs.BuiltIn.{activity_end, invite, addr, is_event, fields_given}
-use Rattle.router_rules.specs.Taking.{counted, queued, ended, obeyed, taken, after_taking, refusal, unfit, unfit_event, or_else, number_named, fields_of}
-use Rattle.router_rules.specs.Well.{is_activity, IsBuiltInActivity, EndsLast, is_end, has_fields, is_address, IsSound}
-use Rattle.router_rules.proofs.RowLemmas.{all_both, found_activity, only_found, ended_there, ends_same}
+use Rattle.router_rules.specs.Taking.{counted, queued, ended, taken, after_taking, unfit, unfit_event, or_else, number_named, fields_of}
+use Rattle.router_rules.specs.Well.{IsBuiltInActivity, EndsLast, has_fields, is_address, IsSound}
+use Rattle.router_rules.proofs.RowLemmas.{all_both, found_activity, only_found, ended_there}
 use Rattle.router_rules.proofs.PayloadLemmas.{short_line}
 use Rattle.router_rules.proofs.TextLemmas.{signal_utf8}
 use Rattle.router_rules.proofs.SoundLemmas.{counted_sound, started_sound, queued_with, next_queued, IsOpen, fired_row, ended_row}

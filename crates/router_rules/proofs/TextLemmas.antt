@@ -1,14 +1,14 @@
 -- What a line gives, and what is emitted of it, is UTF-8.
-use Rattle.std.proofs.Common.{◌≡◌, ℕ, zero, suc, ◌+◌, ◌<◌, Bool, true, ◌&&◌, nat_le, nat_lt, List, [], ◌∷◌, ◌++◌, length, drop, get_or, codes, refl, sym, ◌∙◌, ap, subst, arith, append_assoc, append-nil, length-append, Option}
+use Rattle.std.proofs.Common.{◌≡◌, ℕ, zero, suc, ◌+◌, ◌<◌, true, nat_le, nat_lt, List, [], ◌∷◌, ◌++◌, length, drop, get_or, codes, refl, sym, ◌∙◌, ap, subst, arith, append_assoc, append-nil, length-append, Option}
 use Rattle.std.specs.List.{list_all}
-use Rattle.std.specs.Str.{IsUtf8, is_utf8, IsAscii}
+use Rattle.std.specs.Str.{IsUtf8, is_utf8}
 use Rattle.std.proofs.lemmas.Bool.{and_parts, ltb-true}
 use Rattle.std.proofs.lemmas.List.{drop_at}
 use Rattle.std.proofs.Math.Seq.{get_or-append_seam}
 use Rattle.std.proofs.lemmas.Str.{IsUtf8-append, IsUtf8-drop, IsUtf8-from_ascii, IsUtf8-from_is_utf8, is_utf8-from_IsUtf8, IsCharBoundary-after_ascii}
 use Rattle.slee_value.specs.Escape.{escaped}
 use Rattle.signal_script.specs.declared.signal.Signal.TheVariants as signals
-use Rattle.signal_script.specs.Signals.{spelled, spelled_service, spelled_field, is_signal, is_of_form}
+use Rattle.signal_script.specs.Signals.{spelled, spelled_service, is_signal, is_of_form}
 use Rattle.signal_script.specs.Lines.{is_line}
 use Rattle.signal_script.proofs.WordTextLemmas.{unescaped_back, unescaped_utf8}
 

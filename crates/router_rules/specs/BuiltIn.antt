@@ -1,6 +1,6 @@
 -- The deployment that is built in: the event invite with its address, the block call, and the active service prepaid with the root call.
 -- A service, a block and an event type are looked up here as in any deployment.
-use Rattle.std.specs.Prelude.{ℕ, ℤ, pos, Bool, true, false, ◌||◌, ◌&&◌, ◌==◌, if◌then◌else◌, List, [], ◌∷◌, ◌++◌, codes, Some, None, Option}
+use Rattle.std.specs.Prelude.{ℕ, ℤ, pos, Bool, ◌||◌, if◌then◌else◌, List, [], ◌∷◌, ◌++◌, codes, Some, None, Option}
 use Rattle.std.specs.Str.{bytes_eq}
 use Rattle.slee_value.specs.declared.value.Value.{Value}
 use Rattle.slee_value.specs.declared.value.Value.TheVariants as values

@@ -1,6 +1,5 @@
 -- The steps on a front event, before closing: initial selection, delivery, finish. Each is given with the lines below its heading.
-use Rattle.std.specs.Prelude.{ℕ, ◌==◌, Bool, if◌then◌else◌, List, [], ◌∷◌, ◌++◌, map, codes, Some, None, Option}
-use Rattle.std.specs.Option.{option_map_or}
+use Rattle.std.specs.Prelude.{ℕ, if◌then◌else◌, List, [], ◌∷◌, codes, Some, None, Option}
 use Rattle.std.specs.Str.{bytes_eq}
 use Rattle.router_model.specs.State.{Parts}
 use Rattle.router_model.specs.Activities.{is_linked}
@@ -9,10 +8,11 @@ use Rattle.router_model.specs.declared.rows.Entity.{Entity}
 use Rattle.router_model.specs.declared.rows.Event.{Event}
 use Rattle.router_model.specs.declared.rows.RootName.{RootName}
 use Rattle.router_model.specs.declared.change.Change.TheVariants as changes
-use Rattle.router_rules.specs.BuiltIn.{root_block, service_priority, service_key, emitted, activity_end}
-use Rattle.router_rules.specs.Lines.{initial_heading, deliver_heading, finish_heading, attached_line, say_line, gone_line}
+use Rattle.router_rules.specs.BuiltIn.{root_block, service_priority, service_key, activity_end}
+use Rattle.router_rules.specs.Lines.{initial_heading, deliver_heading, finish_heading, attached_line, gone_line}
 use Rattle.router_model.specs.Roots.{root_selected}
 use Rattle.router_rules.specs.Selection.{selection}
+use Rattle.router_rules.specs.Effects.{effects_of, after_effects, lines_of_effects}
 
 abbrev pub attached : Parts → ℕ → ℕ → Parts
 attached s e a = after_change (changes.Attach (record { 0 = e }) (record { 0 = a })) s
@@ -40,13 +40,17 @@ lines_of_selected s service a v (Some root) =
 lines_of_selected s service a v None =
     initial_heading a v.id.0 (service_key service) s.next_entity (codes "new") ∷ lines_of_attached s s.next_entity a
 
--- the entity has received the event; what its handler emits changes nothing
-abbrev pub delivered : Parts → ℕ → Entity → Parts
-delivered s a row = after_change (changes.MarkEntity (record { 0 = a }) row.number) s
+-- the entity has received the event
+abbrev pub received : Parts → ℕ → Entity → Parts
+received s a row = after_change (changes.MarkEntity (record { 0 = a }) row.number) s
+
+-- and what its handler does is done
+abbrev pub delivered : Parts → ℕ → Event → Entity → Parts
+delivered s a v row = after_effects (effects_of v row) (received s a row)
 
 abbrev pub lines_of_delivered : ℕ → Event → Entity → List (List ℕ)
 lines_of_delivered a v row =
-    deliver_heading a v.id.0 row.number.0 (codes "fine") ∷ map (say_line row.number.0) (emitted row.block v.name v.fields)
+    deliver_heading a v.id.0 row.number.0 (codes "fine") ∷ lines_of_effects (effects_of v row)
 
 -- The event is gone with its marks; behind its end the activity goes too, and all is detached from it (JSR 240, 7.6).
 abbrev pub finished : Parts → ℕ → Event → Parts

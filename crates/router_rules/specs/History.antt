@@ -1,8 +1,8 @@
 -- Histories: legal ones, what they leave, and that of one worker.
-use Rattle.std.specs.Prelude.{◌≡◌, ℕ, zero, suc, ◌-◌, ◌≤◌, if◌then◌else◌, List, [], ◌∷◌, ◌++◌, map, length, Some, None, Option, IsTrue, option_map}
-use Rattle.std.specs.Option.{option_map_or, option_or}
+use Rattle.std.specs.Prelude.{◌≡◌, ℕ, zero, suc, ◌-◌, ◌≤◌, if◌then◌else◌, List, [], ◌∷◌, ◌++◌, length, Some, None, Option, IsTrue, option_map}
+use Rattle.std.specs.Option.{option_map_or}
 use Rattle.signal_script.specs.declared.signal.Signal.{Signal}
-use Rattle.trace_history.specs.Histories.{choices_of, inputs_of}
+use Rattle.trace_history.specs.Histories.{inputs_of}
 use Rattle.trace_history.specs.declared.choice.Choice.{Choice}
 use Rattle.trace_history.specs.declared.choice.Choice.TheVariants as choices
 use Rattle.trace_history.specs.declared.entry.Entry.{Entry}
@@ -10,7 +10,6 @@ use Rattle.router_model.specs.State.{Parts, is_used_up}
 use Rattle.router_model.specs.Activities.{least_waiting}
 use Rattle.router_rules.specs.Selection.{next}
 use Rattle.router_rules.specs.Step.{after, lines_of_step, is_enabled, is_choice, choice_on, step_entry}
-use Rattle.router_rules.specs.declared.kindred.Kindred.{Kindred}
 
 -- the state after these choices
 abbrev pub after_all : Parts → List Choice → Parts

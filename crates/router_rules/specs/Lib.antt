@@ -2,6 +2,7 @@ pub mod BuiltIn
 pub mod Lines
 pub mod Taking
 pub mod Selection
+pub mod Effects
 pub mod Delivery
 pub mod Closing
 pub mod Step

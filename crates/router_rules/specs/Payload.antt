@@ -1,28 +1,20 @@
 -- What the journal keeps of a step, and the choice that is read back from it.
-use Rattle.std.specs.Prelude.{ℕ, zero, suc, ◌<◌, ◌^◌, ◌==◌, ◌&&◌, nat_le, Bool, false, option_and_then, if◌then◌else◌, List, [], ◌∷◌, ◌++◌, length, take, drop, map, Some, None, Option, option_map, ⊤}
+use Rattle.std.specs.Prelude.{ℕ, zero, suc, ◌<◌, ◌^◌, ◌==◌, ◌&&◌, nat_le, Bool, false, option_and_then, if◌then◌else◌, List, [], ◌∷◌, ◌++◌, length, take, drop, Some, None, Option, option_map, ⊤}
 use Rattle.std.specs.Option.{option_map_or}
 use Rattle.std.specs.Int.{w32, w64, from_le_bytes}
 use Rattle.std.specs.Str.{is_utf8}
 use Rattle.slee_value.specs.Bytes.{spelled_u64, spelled_text}
 use Rattle.slee_effect.specs.Bytes.{spelling_of_effects}
 use Rattle.slee_effect.specs.declared.effect.Effect.{Effect}
-use Rattle.slee_effect.specs.declared.effect.Effect.TheVariants as effects
-use Rattle.slee_effect.specs.declared.reference.Ref.TheVariants as references
 use Rattle.trace_history.specs.declared.choice.Choice.{Choice}
 use Rattle.trace_history.specs.declared.choice.Choice.TheVariants as choices
 use Rattle.signal_script.specs.Signals.{spelled, signal_unbounded}
 use Rattle.slee_value.specs.declared.ids.ActivityId.{ActivityId}
 use Rattle.router_model.specs.State.{Parts}
 use Rattle.router_model.specs.Activities.{front}
-use Rattle.router_model.specs.declared.rows.Entity.{Entity}
-use Rattle.router_model.specs.declared.rows.Event.{Event}
-use Rattle.router_rules.specs.BuiltIn.{emitted}
+use Rattle.router_rules.specs.Effects.{effects_of}
 use Rattle.router_rules.specs.Selection.{first}
 use Rattle.router_rules.specs.Step.{after}
-
--- what the handler of an event emits, as effects of the entity that receives it
-abbrev pub effects_of : Event → Entity → List Effect
-effects_of v row = map (λ text. effects.Emit (references.Known row.number.0) text) (emitted row.block v.name v.fields)
 
 -- the effects of the delivery that is next on an activity
 abbrev pub effects_due : Parts → ℕ → List Effect

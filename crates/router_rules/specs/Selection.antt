@@ -1,13 +1,12 @@
 -- Who is concerned by the front event of an activity: the due service, the eligible entities, the next choice.
-use Rattle.std.specs.Prelude.{ℕ, Bool, true, false, ◌&&◌, ◌==◌, not, if◌then◌else◌, is_some, List, [], ◌∷◌, Some, None, Option, filter, find, slice_get}
+use Rattle.std.specs.Prelude.{ℕ, Bool, true, false, ◌&&◌, ◌==◌, not, if◌then◌else◌, is_some, List, Some, None, Option, filter, find, slice_get}
 use Rattle.std.specs.Option.{option_map_or}
 use Rattle.slee_value.specs.declared.convergence.ConvName.{ConvName}
 use Rattle.router_model.specs.State.{Parts}
-use Rattle.router_model.specs.Activities.{front, is_linked, is_done, is_delivered, is_untouched, least_waiting}
+use Rattle.router_model.specs.Activities.{front, is_linked, is_done, is_delivered, is_untouched}
 use Rattle.router_model.specs.Paths.{least_path}
 use Rattle.router_model.specs.declared.rows.Entity.{Entity}
 use Rattle.router_model.specs.declared.rows.Event.{Event}
-use Rattle.router_model.specs.declared.rows.Service.{Service}
 use Rattle.router_model.specs.declared.rows.ServiceState.{ServiceState}
 use Rattle.router_model.specs.declared.rows.ServiceState.TheVariants as states
 use Rattle.router_rules.specs.BuiltIn.{handles, is_initial, root_block, service_order}

@@ -2,13 +2,11 @@
 use Rattle.std.specs.Prelude.{ℕ, Bool, true, false, ◌&&◌, not, List, [], ◌∷◌, ◌++◌, Some, None, Option}
 use Rattle.std.specs.Option.{option_map_or}
 use Rattle.signal_script.specs.Signals.{spelled, is_signal}
-use Rattle.signal_script.specs.declared.signal.Signal.{Signal}
 use Rattle.trace_history.specs.declared.choice.Choice.{Choice}
 use Rattle.trace_history.specs.declared.choice.Choice.TheVariants as choices
 use Rattle.trace_history.specs.declared.entry.Entry.{Entry}
 use Rattle.router_model.specs.State.{Parts, is_used_up}
 use Rattle.router_model.specs.Activities.{front}
-use Rattle.router_model.specs.declared.rows.Event.{Event}
 use Rattle.router_rules.specs.Lines.{input_heading}
 use Rattle.router_rules.specs.Taking.{taken, lines_of_taken}
 use Rattle.router_model.specs.Roots.{root_selected}
@@ -59,7 +57,7 @@ did s (choices.Input signal) = taken s signal
 did s (choices.Initial a) =
     option_map_or (λ v. option_map_or (λ service. selected s service a.0) (due_service s a.0 v) s) (front s.events a.0) s
 did s (choices.Deliver a) =
-    option_map_or (λ v. option_map_or (λ row. delivered s a.0 row) (first s a.0 v) s) (front s.events a.0) s
+    option_map_or (λ v. option_map_or (λ row. delivered s a.0 v row) (first s a.0 v) s) (front s.events a.0) s
 did s (choices.Finish a) = option_map_or (λ v. finished s a.0 v) (front s.events a.0) s
 
 -- the heading without its number, and the lines below it, before closing

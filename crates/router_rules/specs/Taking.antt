@@ -1,5 +1,5 @@
 -- Taking a line: the first refusal that stands, or what the line says.
-use Rattle.std.specs.Prelude.{ℕ, ◌+◌, Bool, true, false, if◌then◌else◌, is_some, is_none, List, [], ◌∷◌, ◌++◌, codes, Some, None, Option}
+use Rattle.std.specs.Prelude.{ℕ, if◌then◌else◌, is_some, is_none, List, [], ◌∷◌, codes, Some, None, Option}
 use Rattle.std.specs.Option.{option_map_or, unwrap_or}
 use Rattle.slee_value.specs.declared.value.Value.{Value}
 use Rattle.signal_script.specs.declared.signal.Signal.{Signal}

@@ -1,5 +1,5 @@
 -- A well-formed state, over the built-in deployment: its entities are roots of the one service, and nothing is detached before an activity is gone.
-use Rattle.std.specs.Prelude.{◌≡◌, ℕ, ◌^◌, ◌*◌, ◌<◌, ◌≤◌, ◌==◌, nat_le, Bool, true, false, not, ◌&&◌, if◌then◌else◌, is_none, IsTrue, List, [], ◌∷◌, map, filter, length}
+use Rattle.std.specs.Prelude.{◌≡◌, ℕ, ◌^◌, ◌<◌, ◌≤◌, ◌==◌, nat_le, Bool, true, false, not, ◌&&◌, if◌then◌else◌, is_none, IsTrue, List, [], ◌∷◌, map, filter, length}
 use Rattle.std.specs.List.{AllByRecursion, list_any, list_all}
 use Rattle.std.specs.Str.{bytes_eq, is_utf8}
 use Rattle.slee_value.specs.Name.{is_name}
@@ -14,7 +14,6 @@ use Rattle.router_model.specs.declared.rows.AcKind.TheVariants as kinds
 use Rattle.router_model.specs.declared.rows.Activity.{Activity}
 use Rattle.router_model.specs.declared.rows.Stem.TheVariants as stems
 use Rattle.router_model.specs.declared.rows.Entity.{Entity}
-use Rattle.router_model.specs.declared.rows.Event.{Event}
 use Rattle.router_model.specs.declared.rows.EntityMark.{EntityMark}
 use Rattle.router_model.specs.declared.rows.Link.{Link}
 use Rattle.router_model.specs.declared.rows.Queued.{Queued}

@@ -1,11 +1,16 @@
 //! Laws of steps and of what the journal keeps of them. Each is proved of the definitions alone.
 ghost use Rattle.std.specs.Prelude.{◌≡◌, ◌≤◌, ◌++◌, length, IsTrue, List, [], Some, ℕ};
 ghost use Rattle.router_model.specs.State.{Parts, initial};
+ghost use Rattle.router_model.specs.declared.rows.Entity.{Entity};
+ghost use Rattle.router_model.specs.declared.rows.Event.{Event};
 ghost use Rattle.trace_history.specs.declared.choice.Choice.{Choice};
 ghost use Rattle.trace_history.specs.declared.entry.Entry.{Entry};
 ghost use Rattle.router_rules.specs.Closing.{closing, lines_of_closing, AreRootsHeld};
+ghost use Rattle.router_rules.specs.Delivery.{received};
+ghost use Rattle.router_rules.specs.Effects.{effects_of, Applies};
 ghost use Rattle.router_rules.specs.History.{replay, Legal};
 ghost use Rattle.router_rules.specs.Payload.{payload, choice_in};
+ghost use Rattle.router_rules.specs.Selection.{first};
 ghost use Rattle.router_rules.specs.Step.{after, is_choice, is_enabled};
 ghost use Rattle.router_rules.specs.Well.{IsWell};
 
@@ -39,6 +44,12 @@ pub fn closing_leaves_what_is_held()
 pub fn closing_again_changes_nothing()
     ensures state { (s : Parts) → IsWell s → closing s ≡ s }
     ensures lines { (s : Parts) → IsWell s → lines_of_closing s ≡ [] }
+{}
+
+/// The effects of a delivery apply: what each refers to is there at its turn, and the entity that received the event stays.
+#[tactic(auto, using(crate::proofs::EffectLemmas::delivery_applies))]
+pub fn effects_of_deliveries_apply()
+    ensures { (s : Parts) (a : ℕ) (v : Event) (row : Entity) → first s a v ≡ Some row → Applies row.number.0 (effects_of v row) (received s a row) }
 {}
 
 /// The choice of a payload is the one that it was made of, where it may be made.

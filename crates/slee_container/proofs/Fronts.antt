@@ -17,6 +17,7 @@ use Rattle.router_model.specs.declared.rows.Event.{Event}
 use Rattle.router_model.specs.declared.rows.Queued.{Queued}
 use Rattle.router_model.specs.declared.rows.RootName.{RootName}
 use Rattle.router_model.specs.declared.change.Change.TheVariants as changes
+use Rattle.router_rules.proofs.EffectLemmas.{delivery_marks}
 use Rattle.router_rules.specs.BuiltIn.{activity_end}
 use Rattle.router_rules.specs.Closing.{closing, close_roots, close_root, removed_all, tree_of, count_of}
 use Rattle.router_rules.specs.Delivery.{selected, selected_with, delivered, finished}
@@ -86,13 +87,13 @@ initial_front : (s : Parts) (b : ℕ) (found : Option Event) → (option_map_or 
 initial_front s b None = refl
 initial_front s b (Some v) = initial_events s b (due_service s b v)
 
-deliver_events : (s : Parts) (b : ℕ) (row : Option Entity) → (option_map_or (λ row. delivered s b row) row s).events ≡ s.events
-deliver_events s b None = refl
-deliver_events s b (Some row) = refl
+deliver_events : (s : Parts) (b : ℕ) (v : Event) (row : Option Entity) → (option_map_or (λ row. delivered s b v row) row s).events ≡ s.events
+deliver_events s b v None = refl
+deliver_events s b v (Some row) = ap (λ (t : Parts). t.events) (delivery_marks s b v row)
 
-deliver_front : (s : Parts) (b : ℕ) (found : Option Event) → (option_map_or (λ v. option_map_or (λ row. delivered s b row) (first s b v) s) found s).events ≡ s.events
+deliver_front : (s : Parts) (b : ℕ) (found : Option Event) → (option_map_or (λ v. option_map_or (λ row. delivered s b v row) (first s b v) s) found s).events ≡ s.events
 deliver_front s b None = refl
-deliver_front s b (Some v) = deliver_events s b (first s b v)
+deliver_front s b (Some v) = deliver_events s b v (first s b v)
 
 finished_front : (s : Parts) (b a : ℕ) (v : Event) → (b == a) ≡ false → front (finished s b v).events a ≡ front s.events a
 finished_front s b a v apart = elim (cases_Bool (bytes_eq v.name activity_end)) [

@@ -1,4 +1,4 @@
-use Rattle.std.proofs.Common.{◌≡◌, ℕ, true, false, sym, ◌∙◌, ap, None, Some, List}
+use Rattle.std.proofs.Common.{ℕ, sym, ◌∙◌, ap, None, Some, List}
 use Rattle.router_rules.specs.BuiltIn.{handles}
 use Rattle.router_core.proofs.FirstLemmas.{unhandled, first_by_link}
 use Rattle.router_core.proofs.choosing.first.Goals as goal

@@ -1,4 +1,4 @@
-use Rattle.std.proofs.Common.{◌≡◌, get_or}
+use Rattle.std.proofs.Common.{get_or}
 use Rattle.std.proofs.lemmas.List.{drop_more}
 use Rattle.router_model.specs.declared.rows.Link.{Link}
 use Rattle.router_rules.specs.Lines.{removed_line}

@@ -1,4 +1,4 @@
-use Rattle.std.proofs.Common.{◌≡◌, ℕ}
+use Rattle.std.proofs.Common.{◌≡◌}
 use Rattle.router_rules.specs.Payload.{are_effects}
 use Rattle.router_core.proofs.reading.are_effects.Given as goal
 

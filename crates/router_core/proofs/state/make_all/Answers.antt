@@ -1,6 +1,3 @@
-use Rattle.std.proofs.Common.{◌≡◌, ℕ, ◌+◌, List, ◌∷◌, length, refl, sym, ◌∙◌, ap, subst, add-one, arith}
-use Rattle.std.specs.Vec.Iter.{into_iter_items}
-use Rattle.router_model.specs.declared.change.Change.{Change}
 use Rattle.router_core.proofs.StateLemmas.{state_on, room_on, numbers_on, fits_first, fits_on}
 use Rattle.router_core.proofs.state.make_all.Goals as goal
 

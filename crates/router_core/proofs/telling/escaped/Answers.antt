@@ -1,4 +1,4 @@
-use Rattle.std.proofs.Common.{◌≡◌, false, List, ℕ, ◌∙◌, ◌++◌, ap}
+use Rattle.std.proofs.Common.{false, List, ℕ, ◌∙◌, ◌++◌, ap}
 use Rattle.slee_value.specs.Escape.{escaped}
 use Rattle.router_core.proofs.TextLemmas.{escaped_is_utf8}
 use Rattle.router_core.proofs.telling.escaped.Goals as goal

@@ -1,4 +1,4 @@
-use Rattle.std.proofs.Common.{◌≡◌, false, List, ℕ, ◌∙◌, ◌++◌, ap}
+use Rattle.std.proofs.Common.{List, ℕ, ◌∙◌, ◌++◌, ap}
 use Rattle.signal_script.specs.Signals.{spelled}
 use Rattle.router_core.proofs.TextLemmas.{heading_is_utf8}
 use Rattle.router_core.proofs.telling.input.Goals as goal
