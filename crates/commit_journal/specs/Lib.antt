@@ -1,5 +1,6 @@
 pub mod Spelling
 pub mod Reading
+pub mod Words
 pub mod Kept
 pub mod Views
 pub mod Gate

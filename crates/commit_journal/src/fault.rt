@@ -1,3 +1,6 @@
+ghost use Rattle.std.specs.Prelude.{◌≡◌};
+ghost use Rattle.commit_journal.specs.Words.{kind_word};
+
 use slee_disk::{Failed, Side};
 use slee_value::NoMemory;
 use std::alloc::AllocError;
@@ -12,6 +15,22 @@ pub enum JournalBad {
     Snapshot,
     Record,
     Replay,
+}
+
+impl JournalBad {
+    /// The word for it in messages.
+    pub fn word(self) -> &'static str
+        ensures { result.now ≡ kind_word self }
+    {
+        match self {
+            JournalBad::Header => "header",
+            JournalBad::Length => "length",
+            JournalBad::Sides => "sides",
+            JournalBad::Snapshot => "snapshot",
+            JournalBad::Record => "record",
+            JournalBad::Replay => "replay",
+        }
+    }
 }
 
 /// Why a journal isn't opened.

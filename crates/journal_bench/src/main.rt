@@ -6,8 +6,8 @@
 ghost use Rattle.std.specs.Prelude.{◌≡◌, ◌≤◌, length, OnOk};
 ghost use Rattle.commit_journal.specs.declared.stage.Stage.TheVariants.{Ready};
 
-use commit_journal::{Journal, JournalBad, JournalFault};
-use slee_disk::{Disk, HostDisk, Side};
+use commit_journal::{Journal, JournalFault};
+use slee_disk::{Disk, HostDisk};
 use std::alloc::Global;
 use std::process::ExitCode;
 use std::{env, io};
@@ -71,31 +71,13 @@ fn print_fault(rt: &HostRuntime, fault: JournalFault) -> io::Result<()> {
     match fault {
         JournalFault::DiskFault => println!(rt; "disk-fault"),
         JournalFault::BadJournal { side, at, kind } => {
-            println!(rt; "bad-journal {} {at} {}", side_word(side), kind_word(kind))
+            println!(rt; "bad-journal {} {at} {}", side.word(), kind.word())
         }
         JournalFault::OtherDeployment {
             kept_len,
             first_difference,
         } => { println!(rt; "other-deployment {kept_len} {first_difference}") }
         JournalFault::NoMemory => println!(rt; "no-memory"),
-    }
-}
-
-fn side_word(side: Side) -> &'static str {
-    match side {
-        Side::A => "a",
-        Side::B => "b",
-    }
-}
-
-fn kind_word(kind: JournalBad) -> &'static str {
-    match kind {
-        JournalBad::Header => "header",
-        JournalBad::Length => "length",
-        JournalBad::Sides => "sides",
-        JournalBad::Snapshot => "snapshot",
-        JournalBad::Record => "record",
-        JournalBad::Replay => "replay",
     }
 }
 

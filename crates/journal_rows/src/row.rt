@@ -4,7 +4,7 @@ ghost use Rattle.std.specs.Prelude.{◌≤◌};
 use crate::act::{Act, Answer};
 use crate::played::play;
 use crate::rows::Trouble;
-use commit_journal::{JournalBad, JournalFault};
+use commit_journal::JournalFault;
 use slee_disk::{MemoryDisk, Side};
 use slee_value::Blob;
 use std::alloc::Global;
@@ -83,8 +83,8 @@ fn print_opened(rt: &HostRuntime, opened: Result<usize, JournalFault>) -> Result
         Err(JournalFault::BadJournal { side, at, kind }) => {
             print!(rt;
                 "bad-journal {} {at} {}, ",
-                side_word(side),
-                kind_word(kind)
+                side.word(),
+                kind.word()
             )?
         }
         Err(
@@ -107,22 +107,4 @@ fn print_answer(rt: &HostRuntime, answer: Answer) -> Result<(), Trouble> {
         Answer::NotBegun => print!(rt; "not-begun, ")?,
     }
     Ok(())
-}
-
-fn side_word(side: Side) -> &'static str {
-    match side {
-        Side::A => "a",
-        Side::B => "b",
-    }
-}
-
-fn kind_word(kind: JournalBad) -> &'static str {
-    match kind {
-        JournalBad::Header => "header",
-        JournalBad::Length => "length",
-        JournalBad::Sides => "sides",
-        JournalBad::Snapshot => "snapshot",
-        JournalBad::Record => "record",
-        JournalBad::Replay => "replay",
-    }
 }

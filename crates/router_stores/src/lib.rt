@@ -9,4 +9,5 @@ mod roots;
 mod stores;
 mod tallies;
 
+pub use queues::lesser_id;
 pub use stores::Stores;

@@ -76,7 +76,8 @@ pub fn has_no_mark(marks: &[EntityMark], activity: ActivityId) -> bool
     marks.iter().all(|m| m.activity.0 != activity.0)
 }
 
-fn lesser_id(activity: ActivityId, other: Option<ActivityId>) -> ActivityId
+/// The lesser of two activities, where there is another.
+pub fn lesser_id(activity: ActivityId, other: Option<ActivityId>) -> ActivityId
     ensures { result.0 ≡ lesser activity.0 (option_map (λ a. a.0) other) }
 {
     match other {

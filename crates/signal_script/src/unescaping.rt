@@ -1,8 +1,8 @@
 ghost use Rattle.std.specs.Prelude.{◌≡◌, ◌∷◌, ◌<◌, ◌/◌, ◌%◌, ◌&&◌, ◌==◌, true, false, None, IfOk, IsNone, IfSome, MatchOption, length, option_map};
-ghost use Rattle.slee_value.specs.Escape.{is_escaped, hex_digit_of};
+ghost use Rattle.slee_value.specs.Escape.{hex_digit_of};
 ghost use Rattle.signal_script.specs.WordText.{unescaped, is_escape, byte_of_digits, digit_value};
 
-use slee_value::{NoMemory, Text};
+use slee_value::{NoMemory, Text, hex_digit, needs_escape};
 use std::alloc::Global;
 
 /// The text that was escaped, where this is an escaped text: each byte that has to be escaped is, and no other.
@@ -73,17 +73,4 @@ fn digit_value(d: u8) -> u32
     } else {
         u32::from(d - 55)
     }
-}
-
-fn needs_escape(b: u8, word: bool) -> bool
-    ensures { result ≡ is_escaped word b }
-{
-    b < 0x20 || b == 0x7F || b == b'%' || (word && b == b' ')
-}
-
-fn hex_digit(n: u8) -> u8
-    requires { n < 16 }
-    ensures { result ≡ hex_digit_of n }
-{
-    if n < 10 { b'0' + n } else { b'A' + (n - 10) }
 }

@@ -1,5 +1,5 @@
 //! Readers and writers of std as a source and a sink, with their faults counted.
-ghost use Rattle.std.specs.Prelude.{◌≡◌};
+ghost use Rattle.std.specs.Prelude.{◌≡◌, None};
 
 use crate::{Failed, Sink, Source};
 use std::fs::{File, Files};
@@ -80,7 +80,10 @@ pub struct LateFile<'a, F: Files> {
 }
 
 impl<'a, F: Files> LateFile<'a, F> {
-    pub fn new(files: F, path: &'a str) -> Self {
+    pub fn new(files: F, path: &'a str) -> Self
+        ensures path { result.path.now ≡ path.now }
+        ensures unopened { result.file ≡ None }
+    {
         LateFile {
             files,
             path,

@@ -1,4 +1,4 @@
-ghost use Rattle.std.specs.Prelude.{◌≡◌, ◌≤◌};
+ghost use Rattle.std.specs.Prelude.{◌≡◌, ◌≤◌, None};
 ghost use Rattle.slee_disk.specs.Causes.{Rose};
 ghost use Rattle.slee_disk.specs.Untold.{untold};
 
@@ -17,7 +17,11 @@ pub struct HostDisk<'a, F: Files<File = File>> {
 impl<'a, F: Files<File = File>> HostDisk<'a, F> {
     /// The files at the two paths, both in this folder.
     pub fn new(files: F, folder: &'a str, a: &'a str, b: &'a str) -> Self
-        ensures { result.faults ≡ 0 }
+        ensures folder { result.files.folder.now ≡ folder.now }
+        ensures a { result.files.a.path.now ≡ a.now }
+        ensures b { result.files.b.path.now ≡ b.now }
+        ensures unopened { (result.files.a.file ≡ None) × (result.files.b.file ≡ None) }
+        ensures faults { result.faults ≡ 0 }
     {
         HostDisk {
             files: HostFiles::new(files, folder, a, b),

@@ -1,5 +1,5 @@
 //! The two files of a disk of the host.
-ghost use Rattle.std.specs.Prelude.{◌≤◌, length, IfOk};
+ghost use Rattle.std.specs.Prelude.{◌≡◌, ◌≤◌, length, IfOk, None};
 
 use crate::Side;
 use std::fs::{File, Files, OpenOptions};
@@ -25,7 +25,10 @@ struct HostFile<'a> {
 }
 
 impl<'a> HostFile<'a> {
-    fn new(path: &'a str) -> Self {
+    fn new(path: &'a str) -> Self
+        ensures path { result.path.now ≡ path.now }
+        ensures unopened { result.file ≡ None }
+    {
         HostFile {
             path,
             file: None,
@@ -66,7 +69,12 @@ impl<'a> HostFile<'a> {
 }
 
 impl<'a, F: Files<File = File>> HostFiles<'a, F> {
-    pub(crate) fn new(files: F, folder: &'a str, a: &'a str, b: &'a str) -> Self {
+    pub(crate) fn new(files: F, folder: &'a str, a: &'a str, b: &'a str) -> Self
+        ensures folder { result.folder.now ≡ folder.now }
+        ensures a { result.a.path.now ≡ a.now }
+        ensures b { result.b.path.now ≡ b.now }
+        ensures unopened { (result.a.file ≡ None) × (result.b.file ≡ None) }
+    {
         HostFiles {
             files,
             folder,

@@ -1,9 +1,9 @@
 -- What is said of a status.
 use Rattle.std.specs.Prelude.{ℕ, List, [], ◌++◌, codes, decimal}
 use Rattle.slee_disk.specs.declared.side.Side.{Side}
-use Rattle.slee_disk.specs.declared.side.Side.TheVariants.{A, B}
+use Rattle.slee_disk.specs.Sides.{side_word}
 use Rattle.commit_journal.specs.declared.fault.JournalBad.{JournalBad}
-use Rattle.commit_journal.specs.declared.fault.JournalBad.TheVariants as kinds
+use Rattle.commit_journal.specs.Words.{kind_word}
 use Rattle.slee_run.specs.declared.status.Given.{Given}
 use Rattle.slee_run.specs.declared.status.Given.TheVariants as givens
 use Rattle.slee_run.specs.declared.status.Status.{Status}
@@ -27,18 +27,6 @@ code_of statuses.NotBuilt = 14
 abbrev pub given_word : Given → List ℕ
 given_word givens.Deploy = codes "deploy"
 given_word givens.Signals = codes "signals"
-
-abbrev pub side_word : Side → List ℕ
-side_word A = codes "a"
-side_word B = codes "b"
-
-abbrev pub kind_word : JournalBad → List ℕ
-kind_word kinds.Header = codes "header"
-kind_word kinds.Length = codes "length"
-kind_word kinds.Sides = codes "sides"
-kind_word kinds.Snapshot = codes "snapshot"
-kind_word kinds.Record = codes "record"
-kind_word kinds.Replay = codes "replay"
 
 -- two numbers, and the end of the line
 abbrev pub pair_text : ℕ → ℕ → List ℕ

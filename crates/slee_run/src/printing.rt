@@ -2,7 +2,9 @@
 ghost use Rattle.std.specs.Prelude.{◌≡◌, ◌+◌, ◌++◌, ◌<◌, ◌≤◌, ◌^◌, OnOk, decimal, length, take};
 ghost use Rattle.slee_disk.specs.Writes.{Writes};
 ghost use Rattle.trace_history.specs.Trace.{trace_text, trace_from, entry_text, line_text, line_texts};
-ghost use Rattle.slee_run.specs.Status.{status_line, given_word, side_word, kind_word, pair_text, place_text};
+ghost use Rattle.slee_disk.specs.Sides.{side_word};
+ghost use Rattle.commit_journal.specs.Words.{kind_word};
+ghost use Rattle.slee_run.specs.Status.{status_line, given_word, pair_text, place_text};
 ghost use Rattle.slee_run.specs.Text.{output_text};
 
 use crate::{Given, Status};
@@ -163,23 +165,13 @@ fn write_bad_journal<K: Sink>(
 fn write_side<K: Sink>(out: &mut K, side: Side) -> Result<(), Failed>
     ensures { Writes K.contents K.faults out.old out.new (side_word side) result }
 {
-    match side {
-        Side::A => write_whole(out, b"a"),
-        Side::B => write_whole(out, b"b"),
-    }
+    write_whole(out, side.word().as_bytes())
 }
 
 fn write_kind<K: Sink>(out: &mut K, kind: JournalBad) -> Result<(), Failed>
     ensures { Writes K.contents K.faults out.old out.new (kind_word kind) result }
 {
-    match kind {
-        JournalBad::Header => write_whole(out, b"header"),
-        JournalBad::Length => write_whole(out, b"length"),
-        JournalBad::Sides => write_whole(out, b"sides"),
-        JournalBad::Snapshot => write_whole(out, b"snapshot"),
-        JournalBad::Record => write_whole(out, b"record"),
-        JournalBad::Replay => write_whole(out, b"replay"),
-    }
+    write_whole(out, kind.word().as_bytes())
 }
 
 fn write_other_deployment<K: Sink>(out: &mut K, kept: u64, place: u64) -> Result<(), Failed>

@@ -22,7 +22,7 @@ mod writing;
 pub use blob::Blob;
 pub use component::ComponentId;
 pub use convergence::ConvName;
-pub use escaping::escape;
+pub use escaping::{escape, hex_digit, needs_escape};
 pub use fault::{PartFault, ValueBad, ValueFault};
 pub use ids::{ActivityId, EntityId, EventId, TimerId};
 pub use keep::Keep;

@@ -1,8 +1,8 @@
 ghost use Rattle.slee_value.specs.Bytes.{IsShort};
 
 use crate::{
-    ActivityId, NoMemory, Text, TimerId, Value, ValueBad, ValueFault, escape, read_value,
-    write_value,
+    ActivityId, Blob, ComponentId, ConvName, Name, Names, NoMemory, Payload, Text, TimerId, Value,
+    ValueBad, ValueFault, escape, read_value, write_value,
 };
 use std::alloc::Global;
 use std::process::Abort;
@@ -195,5 +195,58 @@ fn escaped_words_and_lines(rt: HostRuntime) -> Result<(), Fail> {
         escape(bytes, word, &mut out)?;
         assert_eq!(rt; out.as_slice(), escaped);
     }
+    Ok(())
+}
+
+#[test]
+fn blobs_are_copied(rt: HostRuntime) -> Result<(), Fail> {
+    let alloc = rt.alloc();
+    let mut blob = Blob::from_slice(alloc, b"55")?;
+    blob.append(b"51")?;
+    assert_eq!(rt; blob.copy(alloc)?.as_slice(), b"5551".as_slice());
+    Ok(())
+}
+
+#[test]
+fn names_are_copied(rt: HostRuntime) -> Result<(), Fail> {
+    let alloc = rt.alloc();
+    let mut names = Names::new(alloc);
+    names.push(Text::from_str(alloc, "addr")?)?;
+    assert_eq!(rt; names.copy(alloc)?.len(), 1);
+    Ok(())
+}
+
+#[test]
+fn fields_are_copied(rt: HostRuntime) -> Result<(), Fail> {
+    let alloc = rt.alloc();
+    let mut fields = Payload::new(alloc);
+    fields.push(Name::from_slice(alloc, b"row")?, Value::Timer(TimerId(7)))?;
+    assert!(rt; matches!(fields.copy(alloc)?.as_slice(), [(_, Value::Timer(TimerId(7)))]));
+    Ok(())
+}
+
+#[test]
+fn component_ids_are_copied(rt: HostRuntime) -> Result<(), Fail> {
+    let alloc = rt.alloc();
+    let id = ComponentId {
+        name: Text::from_str(alloc, "Call")?,
+        vendor: Text::from_str(alloc, "demo")?,
+        version: Text::from_str(alloc, "1.0")?,
+    };
+    assert!(rt; id.copy(alloc)?.same(&id));
+    Ok(())
+}
+
+#[test]
+fn convergence_names_are_copied(rt: HostRuntime) -> Result<(), Fail> {
+    let alloc = rt.alloc();
+    let name = ConvName {
+        activity: Some(ActivityId(1)),
+        address: Some(Text::from_str(alloc, "")?),
+        event_type: None,
+        event: None,
+        custom: Some(Blob::from_slice(alloc, b"555")?),
+    };
+    assert!(rt; name.copy(alloc)?.same(&name));
     Ok(())
 }
