@@ -70,7 +70,7 @@ fn many_lines(alloc: Global) -> Result<Vec<u8>, Fail> {
 fn play_many(alloc: Global, writes: &[u8]) -> Result<Ran, Fail> {
     let lines = many_lines(alloc)?;
     let failing = Failing { reads: &[], writes };
-    run_alone(alloc, &["play", "1", "4096"], &lines, failing)
+    Ok(run_alone(alloc, &["play", "1", "4096"], &lines, failing)?)
 }
 
 // A front of the whole text is out, and nothing where the first write fails.

@@ -208,7 +208,7 @@ fn show_after(alloc: Global, parts: &[&str]) -> Result<Ran, Fail> {
     for lines in parts {
         disk = run_over(alloc, PLAY, lines, disk)?.disk;
     }
-    run_over(alloc, SHOW, "", disk)
+    Ok(run_over(alloc, SHOW, "", disk)?)
 }
 
 #[test]

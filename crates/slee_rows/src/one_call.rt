@@ -2,7 +2,7 @@
 use crate::running::{Ran, disk_of, run_over};
 use slee_disk::{MemoryDisk, Side};
 use std::alloc::Global;
-use std::test::Fail;
+use slee_value::NoMemory;
 
 /// Words that play all of the call.
 pub const PLAY: &[&str] = &["play", "1", "100"];
@@ -89,7 +89,7 @@ pub const SHOWN: [&str; 9] = [
 ];
 
 /// Shows what a disk has, over one that doesn't fail.
-pub fn show(alloc: Global, disk: &MemoryDisk) -> Result<Ran, Fail> {
+pub fn show(alloc: Global, disk: &MemoryDisk) -> Result<Ran, NoMemory> {
     let disk = disk_of(alloc, disk.side(Side::A), disk.side(Side::B))?;
     run_over(alloc, SHOW, "", disk)
 }

@@ -1,10 +1,9 @@
 //! One run of the program over objects in memory. Its functions are short, since each is proved with all that it drops.
 use slee_disk::{MemoryDisk, MemorySink, MemorySource};
 use slee_run::run_one;
-use slee_value::Blob;
+use slee_value::{Blob, NoMemory};
 use std::alloc::Global;
 use std::process::Abort;
-use std::test::Fail;
 
 /// What a run printed, the status that it ended with, and the disk that it left.
 #[derive(Drop)]
@@ -20,19 +19,19 @@ pub fn text_of(ran: &Ran) -> &str {
 }
 
 /// A disk with these bytes on its sides.
-pub fn disk_of(alloc: Global, a: &[u8], b: &[u8]) -> Result<MemoryDisk, Fail> {
+pub fn disk_of(alloc: Global, a: &[u8], b: &[u8]) -> Result<MemoryDisk, NoMemory> {
     let a = Blob::from_slice(alloc, a)?;
     let b = Blob::from_slice(alloc, b)?;
-    Ok(MemoryDisk::new(alloc, a, b, Blob::new(alloc))?)
+    MemoryDisk::new(alloc, a, b, Blob::new(alloc))
 }
 
 /// A disk on which nothing was written.
-pub fn empty_disk(alloc: Global) -> Result<MemoryDisk, Fail> {
+pub fn empty_disk(alloc: Global) -> Result<MemoryDisk, NoMemory> {
     disk_of(alloc, b"", b"")
 }
 
 /// Lines that come in pieces of seven bytes. The k-th read fails where the k-th of `fails` is 1.
-pub fn source_of(alloc: Global, lines: &[u8], fails: &[u8]) -> Result<MemorySource, Fail> {
+pub fn source_of(alloc: Global, lines: &[u8], fails: &[u8]) -> Result<MemorySource, NoMemory> {
     let lines = Blob::from_slice(alloc, lines)?;
     Ok(MemorySource::new(lines, 7, Blob::from_slice(alloc, fails)?))
 }
@@ -76,7 +75,7 @@ pub fn run_failing(
     lines: &[u8],
     failing: Failing<'_>,
     disk: MemoryDisk,
-) -> Result<Ran, Fail> {
+) -> Result<Ran, NoMemory> {
     let signals = source_of(alloc, lines, failing.reads)?;
     let out = MemorySink::new(alloc, Blob::from_slice(alloc, failing.writes)?);
     Ok(run(alloc, words, signals, out, disk))
@@ -88,13 +87,13 @@ pub fn run_alone(
     words: &[&str],
     lines: &[u8],
     failing: Failing<'_>,
-) -> Result<Ran, Fail> {
+) -> Result<Ran, NoMemory> {
     let disk = empty_disk(alloc)?;
     run_failing(alloc, words, lines, failing, disk)
 }
 
 /// Runs words on lines over a disk, where nothing fails but what the disk fails.
-pub fn run_over(alloc: Global, words: &[&str], lines: &str, disk: MemoryDisk) -> Result<Ran, Fail> {
+pub fn run_over(alloc: Global, words: &[&str], lines: &str, disk: MemoryDisk) -> Result<Ran, NoMemory> {
     run_failing(alloc, words, lines.as_bytes(), SOUND, disk)
 }
 

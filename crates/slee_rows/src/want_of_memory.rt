@@ -1,6 +1,10 @@
-//! What becomes of the call where an allocation is refused. With ample memory it is played whole.
-use crate::one_call::{CALL, CALL_TRACE, PLAY, SHOWN, show};
-use crate::running::{Ran, SOUND, run_alone, text_of};
+//! What becomes of the call where an allocation is refused. With ample memory it is played whole. Where the refused
+//! allocation is one of the test's own, there is nothing to look at.
+use crate::one_call::{CALL, CALL_TRACE, PLAY, SHOW, SHOWN, show};
+use crate::running::{Ran, SOUND, run_alone, run_over, text_of};
+use slee_disk::MemoryDisk;
+use std::alloc::Global;
+use std::process::Abort;
 use std::test::Fail;
 
 // Whether the text is a front of the call's trace and then this status.
@@ -31,16 +35,36 @@ fn is_kept(shown: &Ran) -> bool {
     }
 }
 
+fn expect_kept(rt: &impl Abort, shown: &Ran) {
+    assert!(rt; is_kept(shown), "status {}: {}", shown.code, text_of(shown));
+}
+
+// Each write since a sync is whole to here, and then this byte.
+const TEARS: &[(u64, u8)] = &[(0, 0), (1, 1), (65_536, 0)];
+
+// What a stop in this call may leave is a front of the call.
+fn expect_images(rt: &impl Abort, alloc: Global, disk: &MemoryDisk, call: u64) {
+    assert!(rt; call <= disk.calls());
+    for (part, fill) in TEARS {
+        if let Ok(image) = disk.image(call, *part, *fill) {
+            if let Ok(shown) = run_over(alloc, SHOW, "", image) {
+                expect_kept(rt, &shown);
+            }
+        }
+    }
+}
+
 #[test]
 fn a_refused_allocation_leaves_a_front_of_the_call(rt: HostRuntime) -> Result<(), Fail> {
-    let ran = run_alone(rt.alloc(), PLAY, CALL.as_bytes(), SOUND)?;
+    let Ok(ran) = run_alone(rt.alloc(), PLAY, CALL.as_bytes(), SOUND) else {
+        return Ok(());
+    };
     assert!(rt; is_answered(&ran), "status {}: {}", ran.code, text_of(&ran));
-    let shown = show(rt.alloc(), &ran.disk)?;
-    assert!(rt;
-        is_kept(&shown),
-        "status {}: {}",
-        shown.code,
-        text_of(&shown)
-    );
+    if let Ok(shown) = show(rt.alloc(), &ran.disk) {
+        expect_kept(&rt, &shown);
+    }
+    for call in 0..=ran.disk.calls() {
+        expect_images(&rt, rt.alloc(), &ran.disk, call);
+    }
     Ok(())
 }
