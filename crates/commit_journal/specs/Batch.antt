@@ -5,6 +5,7 @@ use Rattle.commit_journal.specs.Spelling.{FitsText}
 use Rattle.commit_journal.specs.Reading.{payloads_of}
 use Rattle.commit_journal.specs.Kept.{batched}
 
+-- the payloads that were read, and none at a fault
 abbrev pub or_none : Result (List (List ℕ)) ℕ → List (List ℕ)
 or_none (Ok payloads) = payloads
 or_none (Err at) = []

@@ -17,6 +17,7 @@ use Rattle.commit_journal.specs.Kept.{StandsIn, StandsFound, AreBlank}
 use Rattle.commit_journal.specs.Batch.{or_none}
 use Rattle.commit_journal.specs.Views.{kept_first}
 
+-- what contracts see of a journal
 pub record View (D : Type 0) : Type 0 where
   pub disk : D
   -- how far it has come
@@ -30,6 +31,7 @@ pub record View (D : Type 0) : Type 0 where
   -- how many bytes a side may have
   pub limit : ℕ
 
+-- the payloads behind the header, if there is one
 abbrev pub behind_front : Front → List (List ℕ)
 behind_front Blank = []
 behind_front NoHeader = []

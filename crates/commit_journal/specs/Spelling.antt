@@ -3,6 +3,7 @@ use Rattle.std.specs.Prelude.{ℕ, ◌+◌, ◌<◌, ◌^◌, List, [], ◌∷�
 use Rattle.std.specs.List.{flat_map}
 use Rattle.std.specs.Int.{w32, w64, to_le_bytes}
 
+-- the name of the format
 abbrev pub magic : List ℕ
 magic = codes "SLEEJ1"
 
@@ -21,6 +22,7 @@ text bytes = to_le_bytes w32 (length bytes) ++ bytes
 abbrev pub recorded : List ℕ → List ℕ
 recorded payload = 1 ∷ text payload
 
+-- what stands between the first gate and the first record's
 abbrev pub header : Head → List ℕ
 header head = magic ++ (to_le_bytes w64 head.generation ++ (text head.deployment ++ text head.snapshot))
 
@@ -32,6 +34,7 @@ spelled head payloads = 1 ∷ (header head ++ flat_map recorded payloads)
 abbrev pub FitsText : List ℕ → Type 0
 FitsText bytes = length bytes < 2 ^ 32
 
+-- the same of a head: its generation is a number of 64 bits
 pub record FitsHead (head : Head) : Type 0 where
   pub generation : head.generation < 2 ^ 64
   pub deployment : FitsText head.deployment

@@ -27,6 +27,7 @@ abbrev pub Reads : {X Y : Type 0} → (X → Y) → Option X → Option Y → Ty
 Reads view (Some x) read = read ≡ Some (view x)
 Reads view None read = read ≡ None
 
+-- what the structs of the reader stand for in the definitions
 abbrev pub head_view : Heading → Head
 head_view h = record { generation = h.generation; deployment = h.deployment.now; snapshot = h.snapshot.now }
 
@@ -51,6 +52,7 @@ GivesRecords first (Ok v) read =
 GivesRecords first (Err (faults.Short at)) read = (further : ℕ) × (read ≡ Err further) × (at ≡ first + further)
 GivesRecords first (Err faults.NoMemory) read = Unit {0}
 
+-- the side that was picked by the generations, or that they are the same
 abbrev pub Picks : Option Side → Counting → Type 0
 Picks None chosen = chosen ≡ NotOne B kinds.Sides
 Picks (Some side) chosen = chosen ≡ Counts side
@@ -67,6 +69,7 @@ abbrev pub front_on : Side → Front → Front → Front
 front_on A a b = a
 front_on B a b = b
 
+-- the side that was chosen, with its header and the bytes behind it, is the one that counts
 abbrev pub Chooses : Result (Option (Side × Heading × Bor (List ℕ))) (Side × JournalBad) → Front → Front → Type 0
 Chooses (Ok None) a b = counting a b ≡ Neither
 Chooses (Ok (Some x)) a b = (counting a b ≡ Counts x.0) × (front_on x.0 a b ≡ Header (head_view x.1) x.2.now)

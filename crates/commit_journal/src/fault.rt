@@ -9,11 +9,17 @@ use thiserror::Error;
 /// What is wrong with the bytes of a journal.
 #[derive(Clone, Copy, Debug, PartialEq, Eq)]
 pub enum JournalBad {
+    /// A side whose first gate is open can't be read up to its first record's gate.
     Header,
+    /// A record runs past the end of its side, or has no gate behind it.
     Length,
+    /// The two sides have one generation.
     Sides,
+    /// A snapshot stands where none can be read yet.
     Snapshot,
+    /// A payload is out of the grammar of records.
     Record,
+    /// The choice of a payload can't be made there, or isn't kept as the router keeps it.
     Replay,
 }
 
@@ -33,7 +39,8 @@ impl JournalBad {
     }
 }
 
-/// Why a journal isn't opened.
+/// Why a journal isn't opened. `at` is a place in bytes on its side; `kept_len` is the length in bytes of the deployment
+/// that is kept, and `first_difference` the first place at which the two differ, or the shorter one's length.
 #[derive(Clone, Copy, Debug, PartialEq, Eq, Error)]
 pub enum JournalFault {
     #[error("the disk failed")]
@@ -53,7 +60,7 @@ pub enum JournalFault {
     NoMemory,
 }
 
-/// Why a side isn't begun.
+/// Why a side isn't begun. `adding` is the size in bytes that it would have; `length` is 0.
 #[derive(Clone, Copy, Debug, PartialEq, Eq, Error)]
 pub enum BeginFault {
     #[error("the disk failed")]
@@ -64,7 +71,8 @@ pub enum BeginFault {
     NoMemory,
 }
 
-/// Why a payload isn't taken.
+/// Why a payload isn't taken. `length` is the size in bytes of the side with the batch, and `adding` what the record
+/// would add.
 #[derive(Clone, Copy, Debug, PartialEq, Eq, Error)]
 pub enum AppendFault {
     #[error("the side would be longer than the limit")]

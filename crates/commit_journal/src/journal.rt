@@ -61,7 +61,8 @@ impl<D: Disk> Journal<D> {
     ghost use Rattle.commit_journal.specs.Views.{IsCause, located};
     ghost use Rattle.commit_journal.specs.Journal.{payloads_on, IsOpenedAs, IsSameSide, Refuses, size_begun, IsTooLarge, IsLeft};
 
-    /// Reads the two sides of a disk, and writes nothing.
+    /// Reads the two sides of a disk, and writes nothing. `limit` is the most bytes that a side may come to have; a longer
+    /// side is read all the same.
     pub fn open(
         alloc: Global,
         disk: D,
@@ -122,7 +123,7 @@ impl<D: Disk> Journal<D> {
         self.snapshot.as_slice()
     }
 
-    /// The side that counts.
+    /// The side that counts, or that will be begun.
     pub fn side(&self) -> Side
         ensures side { result ≡ self.now.kept.side }
         ensures payloads { payloads_on (on self.now.kept.side (D.disk self.now.disk).seen) ≡ self.now.kept.payloads }
@@ -132,7 +133,7 @@ impl<D: Disk> Journal<D> {
         self.side
     }
 
-    /// How many bytes the batch has.
+    /// How many bytes the records of the batch have.
     pub fn batch(&self) -> u64
         ensures { result ≡ records_size self.now.batch }
     {
@@ -204,7 +205,7 @@ impl<D: Disk> Journal<D> {
         }
     }
 
-    /// Adds a payload to the batch, without a call of the disk.
+    /// Adds a payload of at most 65,536 bytes to the batch, without a call of the disk.
     pub fn append(&mut self, payload: &[u8]) -> Result<(), AppendFault>
         requires ready { self.old.stage ≡ Ready }
         requires short { length payload.now ≤ 65536 }

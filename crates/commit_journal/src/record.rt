@@ -2,7 +2,7 @@ use crate::Stage;
 use slee_disk::Side;
 use slee_value::Blob;
 
-/// A record that was found, and where its gate stands.
+/// A record that was found, and where its gate stands: `at` is a place in bytes on its side.
 #[derive(Debug, Drop)]
 pub struct Record {
     pub at: u64,

@@ -81,11 +81,7 @@ fn print_opened(rt: &HostRuntime, opened: Result<usize, JournalFault>) -> Result
         Ok(count) => print!(rt; "records {count}, ")?,
         Err(JournalFault::DiskFault) => print!(rt; "disk-fault, ")?,
         Err(JournalFault::BadJournal { side, at, kind }) => {
-            print!(rt;
-                "bad-journal {} {at} {}, ",
-                side.word(),
-                kind.word()
-            )?
+            print!(rt; "bad-journal {} {at} {}, ", side.word(), kind.word())?
         }
         Err(
             JournalFault::OtherDeployment {

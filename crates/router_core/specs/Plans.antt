@@ -25,6 +25,7 @@ pub record DraftView : Type 0 where
   pub changes : List Change
   pub lines : List (List ℕ)
 
+-- what contracts see of a plan
 pub record PlanView : Type 0 where
   pub choice : Choice
   pub changes : List Change

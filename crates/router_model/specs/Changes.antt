@@ -42,7 +42,7 @@ abbrev pub without_front : List Queued → ℕ → List Queued
 without_front [] a = []
 without_front (q ∷ qs) a = if q.activity.0 == a then qs else q ∷ without_front qs a
 
--- the activity of this number is Ending
+-- a row of an activity: Ending, where it has this number
 abbrev pub ends : ℕ → Activity → Activity
 ends a row = if row.number.0 == a then record row { ending = true } else row
 
@@ -56,18 +56,21 @@ with_link links e a =
     if is_linked links e.0 a.0 then links
     else insert links (length (take_while (stands_before e.0 a.0) links)) (record { entity = e; activity = a })
 
+-- a new activity with the next number
 abbrev pub with_activity : Parts → AcKind → Parts
 with_activity s kind = record s {
   next_activity = s.next_activity + 1;
   activities = s.activities ++ record { number = record { 0 = s.next_activity }; kind = kind; ending = false } ∷ [];
 }
 
+-- the activity is gone, with its attachments
 abbrev pub without_context : Parts → ℕ → Parts
 without_context s a = record s {
   activities = without_activity s.activities a;
   links = without_links_on s.links a;
 }
 
+-- a new root entity with the next number
 abbrev pub with_root : Parts → ℕ → ℕ → ℤ → Parts
 with_root s block service priority = record s {
   next_entity = s.next_entity + 1;
@@ -90,6 +93,7 @@ popped s a = record s {
   delivered = without_delivered s.delivered a;
 }
 
+-- the state after one change
 abbrev pub after_change : Change → Parts → Parts
 after_change changes.Taken s = record s { inputs = s.inputs + 1 }
 after_change changes.NextEvent s = record s { next_event = s.next_event + 1 }
@@ -105,6 +109,7 @@ after_change (changes.Pop a) s = popped s a.0
 after_change (changes.MarkService a service) s = record s { services_done = s.services_done ++ record { activity = a; service = service } ∷ [] }
 after_change (changes.MarkEntity a e) s = record s { delivered = s.delivered ++ record { activity = a; entity = e } ∷ [] }
 
+-- the state after changes, the first of them first
 abbrev pub after_changes : List Change → Parts → Parts
 after_changes [] s = s
 after_changes (c ∷ cs) s = after_changes cs (after_change c s)

@@ -26,6 +26,7 @@ Rises number rows = AllInOrder (λ x y. number x < number y) rows
 abbrev pub AreBelow : {Row : Type 0} → (Row → ℕ) → List Row → ℕ → Type 0
 AreBelow number rows n = AllByRecursion (λ row. number row < n) rows
 
+-- the number by which the rows of a list rise
 abbrev pub activity_number : Activity → ℕ
 activity_number row = row.number.0
 
@@ -46,6 +47,7 @@ differs_in_name kind kinds.Null = true
 differs_in_name kind (kinds.Service service) = true
 differs_in_name kind (kinds.Table table) = true
 
+-- two activities aren't both external and of one name
 abbrev pub DiffersInName : Activity → Activity → Type 0
 DiffersInName x y = IsTrue (differs_in_name x.kind y.kind)
 

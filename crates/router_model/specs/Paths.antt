@@ -1,4 +1,4 @@
--- Paths of entities, and their order: a parent before its child, a higher priority first, then the lower number (JSR 240, 8.6).
+-- Paths of entities, and their order: a parent before its child, a higher priority first, then the lower number. JSR 240 has priorities; this order over whole paths is the project's own.
 use Rattle.std.specs.Prelude.{ℕ, zero, suc, ℤ, ◌==◌, nat_lt, int_lt, Bool, false, true, ◌||◌, ◌&&◌, not, if◌then◌else◌, List, [], ◌∷◌, ◌++◌, length, Some, None, Option, find}
 use Rattle.std.specs.Option.{option_map_or}
 use Rattle.router_model.specs.Trees.{parent_of}
@@ -13,6 +13,7 @@ abbrev pub path : ℕ → List Entity → ℕ → List (ℤ × ℕ)
 path zero rows e = []
 path (suc n) rows e = option_map_or (λ row. path n rows (parent_of row) ++ (row.priority, row.number.0) ∷ []) (entity_at rows e) []
 
+-- the whole path: no path is longer than there are entities
 abbrev pub path_of : List Entity → Entity → List (ℤ × ℕ)
 path_of rows row = path (length rows) rows row.number.0
 
@@ -20,6 +21,7 @@ path_of rows row = path (length rows) rows row.number.0
 abbrev pub step_before : ℤ × ℕ → ℤ × ℕ → Bool
 step_before x y = int_lt y.0 x.0 || (not (int_lt x.0 y.0) && nat_lt x.1 y.1)
 
+-- the same priority and the same number
 abbrev pub step_same : ℤ × ℕ → ℤ × ℕ → Bool
 step_same x y = not (int_lt y.0 x.0) && (not (int_lt x.0 y.0) && (x.1 == y.1))
 

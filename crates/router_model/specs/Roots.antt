@@ -22,6 +22,7 @@ is_root_of rows service e = option_map_or (λ row. is_of_service service row.ste
 abbrev pub names_activity : ConvName → ℕ → Bool
 names_activity name a = option_map_or (λ own. own.0 == a) name.activity false
 
+-- the name has this activity, and its entity is a root of this service
 abbrev pub is_selected : Parts → ℕ → ℕ → RootName → Bool
 is_selected s service a row = names_activity row.name a && is_root_of s.entities service row.entity.0
 

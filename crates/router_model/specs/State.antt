@@ -10,7 +10,7 @@ use Rattle.router_model.specs.declared.rows.Queued.{Queued}
 use Rattle.router_model.specs.declared.rows.ServiceMark.{ServiceMark}
 use Rattle.router_model.specs.declared.rows.EntityMark.{EntityMark}
 
--- Rows stand in the order in which they were made. The service of number n stands at place n.
+-- Rows stand in the order in which they were made, but attachments by activity and then by entity. The service of number n stands at place n.
 pub record Parts : Type 0 where
   -- the moment that the last clock line gave
   pub clock : ℕ

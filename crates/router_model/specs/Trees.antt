@@ -1,4 +1,4 @@
--- Trees of entities: attachment counts, and the order in which a tree goes (JSR 240, 6.3).
+-- Trees of entities: attachment counts, and the order in which a tree goes. JSR 240 has both the trees and the counts; how they are counted here, and this order, are the project's own.
 use Rattle.std.specs.Prelude.{ℕ, zero, suc, ◌+◌, ◌==◌, if◌then◌else◌, List, [], ◌∷◌, ◌++◌, map, length, filter, flat_map, sum}
 use Rattle.router_model.specs.declared.rows.Stem.{Stem}
 use Rattle.router_model.specs.declared.rows.Stem.TheVariants as stems
@@ -16,6 +16,7 @@ parent_of row = parent_in row.stem
 abbrev pub number_of : Entity → ℕ
 number_of row = row.number.0
 
+-- the entities of which this one is the parent
 abbrev pub children : List Entity → ℕ → List Entity
 children rows e = filter (λ row. parent_of row == e) rows
 
@@ -34,5 +35,6 @@ abbrev pub tree : ℕ → List Entity → ℕ → List ℕ
 tree zero rows e = []
 tree (suc n) rows e = flat_map (λ row. if parent_of row == e then tree n rows row.number.0 else []) rows ++ e ∷ []
 
+-- the numbers of the entities without a parent
 abbrev pub roots : List Entity → List ℕ
 roots rows = map number_of (children rows 0)

@@ -5,6 +5,7 @@ use Rattle.std.specs.Str.{bytes_eq}
 use Rattle.slee_value.specs.declared.value.Value.{Value}
 use Rattle.slee_value.specs.declared.value.Value.TheVariants as values
 
+-- the event that a line may fire
 abbrev pub invite : List ℕ
 invite = codes "invite"
 
@@ -12,6 +13,7 @@ invite = codes "invite"
 abbrev pub activity_end : List ℕ
 activity_end = codes "activity-end"
 
+-- the field of an invite
 abbrev pub addr : List ℕ
 addr = codes "addr"
 
@@ -19,6 +21,7 @@ addr = codes "addr"
 abbrev pub service_order : List ℕ
 service_order = 0 ∷ []
 
+-- a service by its number: its name in the trace
 abbrev pub service_key : ℕ → List ℕ
 service_key service = codes "prepaid"
 
@@ -58,6 +61,7 @@ text_of (values.Bool b) = []
 text_of (values.Activity a) = []
 text_of (values.Timer t) = []
 
+-- the text of the field addr, and the empty text where there is none
 abbrev pub address_in : List (List ℕ × Value) → List ℕ
 address_in [] = []
 address_in (field ∷ fields) = if bytes_eq field.0 addr then text_of field.1 else address_in fields

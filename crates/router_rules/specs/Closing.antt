@@ -16,16 +16,20 @@ count_of s e = attachment_count (length s.entities) s.entities s.links e
 abbrev pub tree_of : Parts → ℕ → List ℕ
 tree_of s e = tree (length s.entities) s.entities e
 
+-- these entities are gone, the first of them first
 abbrev pub removed_all : List ℕ → Parts → Parts
 removed_all [] s = s
 removed_all (e ∷ es) s = removed_all es (removed s e)
 
+-- a root goes with its tree, where nothing in this is attached
 abbrev pub close_root : ℕ → Parts → Parts
 close_root e s = if count_of s e == 0 then removed_all (tree_of s e) s else s
 
+-- a line for each entity that goes with it
 abbrev pub lines_of_root : ℕ → Parts → List (List ℕ)
 lines_of_root e s = if count_of s e == 0 then map removed_line (tree_of s e) else []
 
+-- the same of several roots, one after another
 abbrev pub close_roots : List ℕ → Parts → Parts
 close_roots [] s = s
 close_roots (e ∷ es) s = close_roots es (close_root e s)
@@ -34,6 +38,7 @@ abbrev pub lines_of_roots : List ℕ → Parts → List (List ℕ)
 lines_of_roots [] s = []
 lines_of_roots (e ∷ es) s = lines_of_root e s ++ lines_of_roots es (close_root e s)
 
+-- the state once a step is closed, and the lines that this gives
 abbrev pub closing : Parts → Parts
 closing s = close_roots (roots s.entities) s
 

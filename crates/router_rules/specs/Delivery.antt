@@ -14,6 +14,7 @@ use Rattle.router_model.specs.Roots.{root_selected}
 use Rattle.router_rules.specs.Selection.{selection}
 use Rattle.router_rules.specs.Effects.{effects_of, after_effects, lines_of_effects}
 
+-- the entity is attached to the activity, and the line for it, where it wasn't before
 abbrev pub attached : Parts → ℕ → ℕ → Parts
 attached s e a = after_change (changes.Attach (record { 0 = e }) (record { 0 = a })) s
 
@@ -30,10 +31,12 @@ abbrev pub selected_with : Parts → ℕ → ℕ → Option RootName → Parts
 selected_with s service a (Some root) = attached s root.entity.0 a
 selected_with s service a None = attached (rooted s service a) s.next_entity a
 
+-- the selection of the service is marked as done, and done
 abbrev pub selected : Parts → ℕ → ℕ → Parts
 selected s service a =
     selected_with (after_change (changes.MarkService (record { 0 = a }) service) s) service a (root_selected s service a)
 
+-- the heading, with the root that was there or is new, and the line of an attachment
 abbrev pub lines_of_selected : Parts → ℕ → ℕ → Event → Option RootName → List (List ℕ)
 lines_of_selected s service a v (Some root) =
     initial_heading a v.id.0 (service_key service) root.entity.0 (codes "old") ∷ lines_of_attached s root.entity.0 a
@@ -48,6 +51,7 @@ received s a row = after_change (changes.MarkEntity (record { 0 = a }) row.numbe
 abbrev pub delivered : Parts → ℕ → Event → Entity → Parts
 delivered s a v row = after_effects (effects_of v row) (received s a row)
 
+-- the heading, and the lines of the effects
 abbrev pub lines_of_delivered : ℕ → Event → Entity → List (List ℕ)
 lines_of_delivered a v row =
     deliver_heading a v.id.0 row.number.0 (codes "fine") ∷ lines_of_effects (effects_of v row)
@@ -59,5 +63,6 @@ finished s a v =
     then after_change (changes.DropContext (record { 0 = a })) (after_change (changes.Pop (record { 0 = a })) s)
     else after_change (changes.Pop (record { 0 = a })) s
 
+-- the heading, and a line where the activity is gone
 abbrev pub lines_of_finished : ℕ → Event → List (List ℕ)
 lines_of_finished a v = finish_heading a v.id.0 ∷ (if bytes_eq v.name activity_end then gone_line a ∷ [] else [])

@@ -21,10 +21,12 @@ abbrev pub after_effect : Effect → Parts → Parts
 after_effect (effects.Emit entity text) s = s
 after_effect _ s = s
 
+-- the state after effects, the first of them first
 abbrev pub after_effects : List Effect → Parts → Parts
 after_effects [] s = s
 after_effects (x ∷ xs) s = after_effects xs (after_effect x s)
 
+-- what the entity of a number says; an entity without a number yet says nothing
 abbrev pub lines_of_emitted : Ref → List ℕ → List (List ℕ)
 lines_of_emitted (references.Known e) text = say_line e text ∷ []
 lines_of_emitted (references.Fresh place) text = []
@@ -34,6 +36,7 @@ abbrev pub lines_of_effect : Effect → List (List ℕ)
 lines_of_effect (effects.Emit entity text) = lines_of_emitted entity text
 lines_of_effect _ = []
 
+-- the lines of effects, the first of them first
 abbrev pub lines_of_effects : List Effect → List (List ℕ)
 lines_of_effects [] = []
 lines_of_effects (x ∷ xs) = lines_of_effect x ++ lines_of_effects xs

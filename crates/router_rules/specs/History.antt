@@ -54,6 +54,7 @@ abbrev pub due_next : Option Choice → List Signal → Option (Choice × List S
 due_next None lines = line_choice lines
 due_next (Some c) lines = Some (c, lines)
 
+-- the same in a state: nothing where it is used up
 abbrev pub due : Parts → List Signal → Option (Choice × List Signal)
 due s lines = if is_used_up s then None else due_next (least_choice s) lines
 

@@ -39,6 +39,7 @@ input_in bytes =
     if nat_le 4 (length bytes) && (from_le_bytes w32 (take 4 bytes) == length (drop 4 bytes))
     then option_map choices.Input (signal_unbounded (drop 4 bytes)) else None
 
+-- the activity whose number the first eight bytes are
 abbrev pub activity_in : List ℕ → ActivityId
 activity_in bytes = record { 0 = from_le_bytes w64 (take 8 bytes) }
 
@@ -73,7 +74,7 @@ are_effects (suc n) bytes = option_map_or (λ rest. are_effects n rest) (behind_
 abbrev pub is_effect_list : List ℕ → Bool
 is_effect_list bytes = nat_le 4 (length bytes) && are_effects (from_le_bytes w32 (take 4 bytes)) (drop 4 bytes)
 
--- what stands behind the activity of a delivery: an outcome, which is a byte up to 17, and the effects
+-- whether these bytes can stand behind the activity of a delivery: an outcome, which is a byte up to 17, and a list of effects
 abbrev pub is_outcome : List ℕ → Bool
 is_outcome [] = false
 is_outcome (outcome ∷ bytes) = nat_le outcome 17 && is_effect_list bytes

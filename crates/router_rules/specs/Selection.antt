@@ -18,6 +18,7 @@ is_active_state states.Inactive = false
 is_active_state states.Active = true
 is_active_state states.Stopping = false
 
+-- the service is there and Active
 abbrev pub is_active : Parts → ℕ → Bool
 is_active s service = option_map_or (λ row. is_active_state row.state) (slice_get s.services service) false
 
@@ -40,6 +41,7 @@ abbrev pub is_eligible : Parts → ℕ → Event → Entity → Bool
 is_eligible s a v row =
     is_linked s.links row.number.0 a && (handles row.block v.name && not (is_delivered s.delivered a row.number.0))
 
+-- the entities that have still to receive the event
 abbrev pub eligible : Parts → ℕ → Event → List Entity
 eligible s a v = filter (is_eligible s a v) s.entities
 

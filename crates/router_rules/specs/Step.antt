@@ -22,6 +22,7 @@ choice_on a kindreds.Initial = choices.Initial (record { 0 = a })
 choice_on a kindreds.Deliver = choices.Deliver (record { 0 = a })
 choice_on a kindreds.Finish = choices.Finish (record { 0 = a })
 
+-- whether it is an initial selection that is next, a delivery, or a finish
 abbrev pub is_initial_next : Option Kindred → Bool
 is_initial_next None = false
 is_initial_next (Some kindreds.Initial) = true

@@ -38,6 +38,7 @@ refusal s (signals.Start name) = if is_some (external s.activities name) then So
 refusal s (signals.End name) = unfit (external s.activities name)
 refusal s (signals.Fire name event service words) = or_else (unfit (external s.activities name)) (unfit_event event service words)
 
+-- one more line was taken
 abbrev pub counted : Parts → Parts
 counted s = after_change changes.Taken s
 
@@ -54,6 +55,7 @@ ended s a = queued (after_change (changes.End (record { 0 = a })) s) a activity_
 abbrev pub number_named : Parts → List ℕ → ℕ
 number_named s name = option_map_or (λ row. row.number.0) (external s.activities name) 0
 
+-- the fields that the field words give
 abbrev pub fields_of : List (List ℕ × List ℕ) → List (List ℕ × Value)
 fields_of words = unwrap_or (fields_given words) []
 
@@ -63,6 +65,7 @@ obeyed s (signals.Start name) = after_change (changes.Start (kinds.External name
 obeyed s (signals.End name) = ended s (number_named s name)
 obeyed s (signals.Fire name event service words) = queued s (number_named s name) event (fields_of words)
 
+-- the lines that it gives then
 abbrev pub lines_obeyed : Parts → Signal → List (List ℕ)
 lines_obeyed s (signals.Start name) = started_line s.next_activity name ∷ []
 lines_obeyed s (signals.End name) =

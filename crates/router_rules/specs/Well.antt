@@ -48,6 +48,7 @@ pub record IsLinkOf (entities : List Entity) (activities : List Activity) (l : L
   pub entity : IsTrue (is_entity entities l.entity.0)
   pub activity : IsTrue (is_activity activities l.activity.0)
 
+-- an external activity's kind, with a name
 abbrev pub is_external : AcKind → Bool
 is_external (kinds.External name) = is_name name
 is_external kinds.Null = false
@@ -67,6 +68,7 @@ is_short_text (values.Bool b) = false
 is_short_text (values.Activity a) = false
 is_short_text (values.Timer t) = false
 
+-- one field, addr, with such a text
 abbrev pub is_address : List (List ℕ × Value) → Bool
 is_address [] = false
 is_address (field ∷ []) = bytes_eq field.0 addr && is_short_text field.1
@@ -94,6 +96,7 @@ pub record IsBuiltInEvent (activities : List Activity) (q : Queued) : Type 0 whe
 abbrev pub queue : List Queued → ℕ → List Queued
 queue events a = filter (λ q. q.activity.0 == a) events
 
+-- the event is the end of an activity
 abbrev pub is_end : Queued → Bool
 is_end q = bytes_eq q.event.name activity_end
 
@@ -119,7 +122,7 @@ pub record IsEntityMark (events : List Queued) (next_entity : ℕ) (m : EntityMa
   pub activity : IsTrue (is_waiting events m.activity.0)
   pub entity : m.entity.0 < next_entity
 
--- counts and next numbers are numbers of 64 bits
+-- the clock stands at 4,000,000,000,000,000 at most, and counts and next numbers are numbers of 64 bits
 pub record AreCounts (s : Parts) : Type 0 where
   pub clock : s.clock ≤ 4000000000000000
   pub inputs : s.inputs < 2 ^ 64

@@ -5,6 +5,7 @@ use Rattle.router_model.specs.State.{Parts}
 use Rattle.router_stores.specs.Views.{StoresView}
 use Rattle.router_stores.specs.declared.stores.Stores.TheInside.{Inside}
 
+-- the state, by the fields of the stores
 abbrev pub held_parts : Inside → Parts
 held_parts s = record {
   clock = s.clock;
@@ -23,6 +24,7 @@ held_parts s = record {
   delivered = s.delivered.items;
 }
 
+-- the same, and for each list how many rows can be added without memory
 abbrev pub held : Inside → StoresView
 held s = record {
   parts = held_parts s;

@@ -13,6 +13,7 @@ use Rattle.router_model.specs.declared.rows.Activity.{Activity}
 abbrev pub NameMap : Type 0
 NameMap = HashMap (List ℕ) ℕ (BuildHasherDefault FoldHasher)
 
+-- a name as it stands in the index
 unfoldable pub padded : List ℕ → List ℕ
 padded name = name ++ replicate (64 - length name) 0
 

@@ -10,6 +10,7 @@ use Rattle.signal_script.specs.WordText.{unescaped}
 use Rattle.signal_script.specs.declared.signal.Signal.{Signal}
 use Rattle.signal_script.specs.declared.signal.Signal.TheVariants.{Start, End, Fire}
 
+-- an at sign and the service that an event is for, where it is for one alone
 abbrev pub spelled_service : Option (List ℕ) → List ℕ
 spelled_service None = []
 spelled_service (Some service) = codes "@" ++ service
@@ -44,6 +45,7 @@ is_of_form (Fire name event service fields) = is_name name && (bytes_eq event (c
 abbrev pub is_signal : Signal → Bool
 is_signal signal = is_of_form signal && is_line (spelled signal)
 
+-- the event `invite` with this address
 abbrev pub invite_of : List ℕ → List ℕ → Signal
 invite_of name address = Fire name (codes "invite") None ((codes "addr", address) ∷ [])
 
@@ -63,6 +65,7 @@ signal_of_four verb name event field =
     if bytes_eq verb (codes "fire") && (is_name name && bytes_eq event (codes "invite"))
     then option_map (invite_of name) (address_of field) else None
 
+-- what the words of a line say: two words or four
 abbrev pub signal_of_words : List (List ℕ) → Option Signal
 signal_of_words [] = None
 signal_of_words (verb ∷ []) = None

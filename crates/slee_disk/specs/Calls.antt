@@ -61,6 +61,7 @@ fresh sides = record { seen = sides; images = λ image. image ≡ sides; settled
 abbrev pub Since : List Call → Sides → ℕ → Sides → Type 0
 Since calls first t image = (k : ℕ) × (t ≤ k) × (k ≤ length calls) × (after (take k calls) (fresh first)).images image
 
+-- a call as it is recorded
 abbrev pub call_of : Side → Act → Bool → Call
 call_of side act failed = record { side = side; act = act; failed = failed }
 
@@ -88,6 +89,7 @@ left_after part fill side failed (acts.Cut size) stop = with_side side (take siz
 left_after part fill side true acts.Sync stop = stop.left
 left_after part fill side false acts.Sync stop = sides_of side (on side stop.seen) (on (other side) stop.left)
 
+-- after one call, and after calls, the first of them first
 abbrev pub stopped_by : ℕ → ℕ → Call → Stopped → Stopped
 stopped_by part fill call stop = record { seen = seen_after call.side call.failed call.act stop.seen; left = left_after part fill call.side call.failed call.act stop }
 

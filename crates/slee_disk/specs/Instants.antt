@@ -26,6 +26,7 @@ kept_there : (side : Side) (change : List ℕ → List ℕ) (sides : Sides) → 
 kept_there A change sides = refl
 kept_there B change sides = refl
 
+-- what reads give of the other side stays
 pub seen_there : (side : Side) (failed : Bool) (act : Act) (sides : Sides) → on (other side) (seen_after side failed act sides) ≡ on (other side) sides
 seen_there side true act sides = refl
 seen_there side false acts.Look sides = refl
@@ -57,6 +58,7 @@ rests_after : (calls : List Call) (at : Instant) → Rests at → Rests (after c
 rests_after [] at rests = rests
 rests_after (call ∷ calls) at rests = rests_after calls (done call.side call.failed call.act at) (rests_done call.side call.failed call.act at rests)
 
+-- where nothing is pending on either side, a crash leaves what reads give
 pub rests : (calls : List Call) (first : Sides) → ((which : Side) → IsTrue ((after calls (fresh first)).settled which)) → (image : Sides) → (after calls (fresh first)).images image → image ≡ (after calls (fresh first)).seen
 rests calls first settled image now =
     let here = rests_after calls (fresh first) (λ which clean left is. ap (on which) is) in

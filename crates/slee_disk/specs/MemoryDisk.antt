@@ -33,6 +33,7 @@ state_at first calls faults = record {
   at_rest = λ told. rests calls first;
 }
 
+-- the same of its view
 abbrev pub state_of : MemoryState → DiskState
 state_of m = state_at m.first m.calls m.faults
 

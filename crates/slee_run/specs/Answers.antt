@@ -1,4 +1,4 @@
--- What the parts of a run answer, before it is known what the words were.
+-- What the parts of a run answer: what is said of the whole in Headline, but for the words.
 use Rattle.std.specs.Prelude.{◌≡◌, ◌≢◌, ◌⊎◌, ℕ, List, [], Option}
 use Rattle.slee_disk.specs.Disk.{DiskState}
 use Rattle.trace_history.specs.declared.entry.Entry.{Entry}

@@ -17,6 +17,7 @@ number_within low high word =
     if bytes_eq word (decimal (digits_value 10 word)) && (nat_le low (digits_value 10 word) && nat_le (digits_value 10 word) high)
     then Some (digits_value 10 word) else None
 
+-- the numbers that the forms have: workers, steps, a seed, and a count of lines
 abbrev pub workers_of : List ℕ → Option ℕ
 workers_of word = number_within 1 64 word
 
@@ -29,6 +30,7 @@ seed_of word = number_within 0 4294967295 word
 abbrev pub count_of : List ℕ → Option ℕ
 count_of word = number_within 0 100000 word
 
+-- the forms of one word
 abbrev pub command_alone : List ℕ → Option Command
 command_alone verb =
     if bytes_eq verb (codes "check") then Some commands.Check
@@ -39,6 +41,7 @@ command_alone verb =
 abbrev pub made_of : (ℕ → ℕ → Command) → Option ℕ → Option ℕ → Option Command
 made_of make first second = option_and_then (λ m. option_map (λ n. make m n) second) first
 
+-- the forms of a word and two numbers
 abbrev pub command_of_two : List ℕ → List ℕ → List ℕ → Option Command
 command_of_two verb first second =
     if bytes_eq verb (codes "play") then made_of commands.Play (workers_of first) (steps_of second)
@@ -64,6 +67,7 @@ spelled commands.Compact = codes "compact" ∷ []
 spelled (commands.Gen seed count) = codes "gen" ∷ decimal seed ∷ decimal count ∷ []
 spelled (commands.Trial seed count) = codes "trial" ∷ decimal seed ∷ decimal count ∷ []
 
+-- the numbers of a run, and those of generated lines, are in range
 abbrev pub is_run_in_range : ℕ → ℕ → Bool
 is_run_in_range workers steps = (nat_le 1 workers && nat_le workers 64) && (nat_le 1 steps && nat_le steps 1000000)
 

@@ -15,24 +15,24 @@ pub enum Status {
     Ok,
     /// The words are of no form, or a number is out of range.
     BadWords,
-    /// The deployment or the signals couldn't be read.
+    /// The signals couldn't be read (later the deployment too).
     ReadFault,
     /// The text couldn't be written whole.
     WriteFault,
     /// The disk failed. What it keeps is known once it is opened again.
     DiskFault,
-    /// The disk has no journal: this is wrong at this place.
+    /// The disk has no journal: this is wrong at this place, in bytes.
     BadJournal {
         side: Side,
         at: u64,
         kind: JournalBad,
     },
-    /// The journal was written for a deployment of so many bytes, which differs at this place.
+    /// The journal was written for a deployment of so many bytes, which differs from this one at this place.
     OtherDeployment {
         kept_len: u64,
         first_difference: u64,
     },
-    /// A side of this length has no room for so many bytes more.
+    /// A side of this length in bytes has no room for so many more.
     Full {
         length: u64,
         adding: u64,

@@ -17,6 +17,10 @@ use slee_disk::{Disk, Sink, Source};
 use std::alloc::Global;
 
 /// Does what the words say, and answers the status. The disk is handed back.
+///
+/// `words` are those behind the program's name. `deploy` isn't read yet, since the deployment is built in. What is said of
+/// bytes is said of sources, sinks and disks that tell theirs, as those in memory do; of the others it says which faults
+/// may be told, and when nothing is read or written.
 pub fn run_one<S: Source, T: Source, K: Sink, D: Disk>(
     alloc: Global,
     words: &[&str],

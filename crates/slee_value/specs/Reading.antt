@@ -24,16 +24,18 @@ refuse bytes kind = Err (record { left = length bytes; kind = kind })
 abbrev pub ended : {A : Type 0} → Result A Fault
 ended = Err (record { left = 0; kind = bad.Short })
 
+-- what is read, and then what follows from it; the first fault ends it
 infixl 10 ◌>>=◌
 abbrev pub ◌>>=◌ : {A B : Type 0} → Result A Fault → (A → Result B Fault) → Result B Fault
 (Ok x) >>= f = f x
 (Err e) >>= f = Err e
 
--- what a call returned, seen by view, is what reading gives, unless memory ran out
+-- a fault is the one that reading gives, unless memory ran out
 abbrev pub Fails : {Y : Type 0} → PartFault → Result Y Fault → Type 0
 Fails faults.NoMemory read = Unit {0}
 Fails (faults.Bad left kind) read = read ≡ Err (record { left = left; kind = kind })
 
+-- what a call returned, seen by view, is what reading gives, unless memory ran out
 abbrev pub Gives : {X Y : Type 0} → (X → Y) → Result X PartFault → Result Y Fault → Type 0
 Gives view (Ok x) read = read ≡ Ok (view x)
 Gives view (Err e) read = Fails e read
@@ -58,6 +60,7 @@ number_at w bytes = if nat_lt (length bytes) (byte_len w) then ended else Ok (fr
 abbrev pub i64_at : List ℕ → Part ℤ
 i64_at = mapped (cast_signed w64) (number_at w64)
 
+-- a flag, 0 or 1
 abbrev pub flag_at : List ℕ → Part Bool
 flag_at [] = ended
 flag_at (zero ∷ rest) = Ok (false, rest)
@@ -87,6 +90,7 @@ text_fault len bytes =
     if is_utf8 (take len bytes) then (if nat_lt (length bytes) len then Some (record { left = 0; kind = bad.Short }) else None)
     else Some (fault_behind (good_len len (take len bytes)) (length bytes))
 
+-- this, unless there is a fault
 abbrev pub unless_fault : {A : Type 0} → Option Fault → A → Result A Fault
 unless_fault None x = Ok x
 unless_fault (Some fault) x = Err fault

@@ -221,7 +221,12 @@ fn fields_are_copied(rt: HostRuntime) -> Result<(), Fail> {
     let alloc = rt.alloc();
     let mut fields = Payload::new(alloc);
     fields.push(Name::from_slice(alloc, b"row")?, Value::Timer(TimerId(7)))?;
-    assert!(rt; matches!(fields.copy(alloc)?.as_slice(), [(_, Value::Timer(TimerId(7)))]));
+    assert!(rt;
+        matches!(
+            fields.copy(alloc)?.as_slice(),
+            [(_, Value::Timer(TimerId(7)))]
+        )
+    );
     Ok(())
 }
 

@@ -5,9 +5,11 @@ use Rattle.trace_history.specs.declared.choice.Choice.{Choice}
 use Rattle.trace_history.specs.declared.choice.Choice.TheVariants.{Input, Initial, Deliver, Finish}
 use Rattle.trace_history.specs.declared.entry.Entry.{Entry}
 
+-- the choices that were made
 abbrev pub choices_of : List Entry → List Choice
 choices_of history = map (λ (e : Entry). e.choice) history
 
+-- the line that a choice takes, if it takes one
 abbrev pub input_of : Choice → List Signal
 input_of (Input signal) = signal ∷ []
 input_of (Initial activity) = []

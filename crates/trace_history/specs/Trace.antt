@@ -7,6 +7,7 @@ use Rattle.trace_history.specs.declared.entry.Entry.{Entry}
 abbrev pub line_text : List ℕ → List ℕ
 line_text line = line ++ 10 ∷ []
 
+-- lines, each with its newline
 abbrev pub line_texts : List (List ℕ) → List ℕ
 line_texts lines = flat_map line_text lines
 

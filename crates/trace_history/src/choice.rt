@@ -11,7 +11,7 @@ pub enum Choice {
     Input(Signal),
     /// A service is marked for the front event of this activity, and may get a root entity.
     Initial(ActivityId),
-    /// The front event of this activity reaches its first entity.
+    /// The front event of this activity reaches the first entity, in order, that has still to receive it.
     Deliver(ActivityId),
     /// The front event of this activity is done.
     Finish(ActivityId),
