@@ -1,7 +1,7 @@
 -- Each effect is read as it is spelled.
-use Rattle.std.proofs.Common.{◌≡◌, ℕ, zero, suc, ◌+◌, ◌^◌, ◌<◌, ◌≤◌, ℤ, Bool, List, [], ◌∷◌, ◌++◌, length, get_or, Option, Result, Ok, Err, refl, sym, ap, subst, ◌∙◌, arith, FitsSigned}
+use Rattle.std.proofs.Common.{◌≡◌, ℕ, zero, suc, ◌+◌, ◌^◌, ◌<◌, ℤ, Bool, List, [], ◌∷◌, ◌++◌, length, Option, Ok, Err, refl, ap, subst, ◌∙◌, arith, FitsSigned}
 use Rattle.std.specs.Prelude.{⊤, slice_index_or}
-use Rattle.std.specs.Int.{w8, w32, w64}
+use Rattle.std.specs.Int.{w8, w64}
 use Rattle.slee_value.specs.declared.keep.Keep.{Keep}
 use Rattle.slee_value.specs.declared.fault.ValueBad.TheVariants as bad
 use Rattle.slee_value.specs.Bytes.{spelled_u64, spelled_i64, spelled_text, spelled_flag, FitsText}

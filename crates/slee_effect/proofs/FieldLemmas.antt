@@ -1,25 +1,23 @@
 -- The fields of an event are read as they are spelled, and their names rise.
-use Rattle.std.proofs.Common.{◌≡◌, ℕ, zero, suc, ◌+◌, ◌-◌, ◌^◌, ◌<◌, ◌≤◌, Bool, true, false, ◌&&◌, cond, ltb, List, [], ◌∷◌, ◌++◌, length, take, drop, Option, Some, None, Result, Ok, Err, refl, sym, ap, subst, ◌∙◌, append_assoc, arith, inl, inr, ◌⊎◌, IsTrue}
+use Rattle.std.proofs.Common.{◌≡◌, ℕ, zero, suc, ◌+◌, ◌-◌, ◌^◌, ◌<◌, ◌≤◌, Bool, true, false, ◌&&◌, cond, ltb, List, [], ◌∷◌, ◌++◌, length, take, drop, Option, Some, None, Ok, Err, refl, sym, ap, subst, ◌∙◌, append_assoc, arith, inl, inr, ◌⊎◌}
 use Rattle.std.specs.Int.{w32}
 use Rattle.std.specs.List.{flat_map, AllByRecursion}
 use Rattle.std.proofs.lemmas.Bool.{cases_lt, lt-ltb, le-ltb}
 use Rattle.std.proofs.lemmas.List.{append-nil, take_at, take-append-drop, take-append-le, length-append, length-drop, length-take}
 use Rattle.std.proofs.lemmas.List.Concat.{flat_map-cons}
-use Rattle.std.proofs.Math.Seq.{take-append-add}
 use Rattle.slee_value.specs.Order.{is_below, rises, names_of}
 use Rattle.slee_value.specs.Bytes.{spelled_u32, spelled_text, FitsText}
-use Rattle.slee_value.specs.Reading.{Fault, Part, ◌>>=◌, mapped, pair, number_at, text_at}
+use Rattle.slee_value.specs.Reading.{Fault, Part, ◌>>=◌, mapped, number_at, text_at}
 use Rattle.slee_value.specs.declared.fault.ValueBad.TheVariants as bad
 use Rattle.slee_value.proofs.ReadLemmas.{AreBytes, Takes, Begins, IsStuckBy, ReadsBy, reads_pair, ok_is, err_is}
-use Rattle.slee_value.proofs.PartLemmas.{reads_u32}
-use Rattle.slee_value.proofs.TextPartLemmas.{reads_text, text_after}
+use Rattle.slee_value.proofs.TextPartLemmas.{reads_text}
 use Rattle.slee_effect.specs.declared.value.Val.{Val}
 use Rattle.slee_effect.specs.Bytes.{spelled_val, spelled_field, spelled_fields}
 use Rattle.slee_effect.specs.Fitting.{FitsVal, FitsField, AreFields, AreRisingFields}
-use Rattle.slee_effect.specs.Reading.{fall, fall_after, fall_behind, in_order, name_at, val_at, field_at, rows_at, fields_at}
-use Rattle.slee_effect.proofs.OrderLemmas.{none_rises, rises_none, Falls, falls_of}
+use Rattle.slee_effect.specs.Reading.{fall_behind, in_order, name_at, val_at, field_at, rows_at, fields_at}
+use Rattle.slee_effect.proofs.NameLemmas.{name_rises, name_open, NameFalls, name_falls}
 use Rattle.slee_effect.proofs.ThenLemmas.{reads_same, reads_refit, reads_made, after, spell_after, fits_after, reads_after, same_cons, reads_counted}
-use Rattle.slee_effect.proofs.PieceLemmas.{reads_val, example_val, example_fits}
+use Rattle.slee_effect.proofs.PieceLemmas.{reads_val, example_val}
 
 -- ---- names
 
@@ -31,13 +29,13 @@ follows (Some before) name = is_below before name
 abbrev pub FitsName : Option (List ℕ) → List ℕ → Type 0
 FitsName before name = FitsText name × (follows before name ≡ true)
 
-none_follows : (before : Option (List ℕ)) (name rest : List ℕ) → fall_after before (length name) (name ++ rest) ≡ None → follows before name ≡ true
-none_follows None name rest e = refl
-none_follows (Some before) name rest e = none_rises before name rest e
+none_follows : (before : Option (List ℕ)) (name rest : List ℕ) → FitsText name → fall_behind before (spelled_text name ++ rest) ≡ None → follows before name ≡ true
+none_follows None name rest f e = refl
+none_follows (Some before) name rest f e = name_rises before name rest f e
 
-follows_none : (before : Option (List ℕ)) (name rest : List ℕ) → follows before name ≡ true → fall_after before (length name) (name ++ rest) ≡ None
-follows_none None name rest e = refl
-follows_none (Some before) name rest e = rises_none before name rest e
+follows_none : (before : Option (List ℕ)) (name rest : List ℕ) → FitsName before name → fall_behind before (spelled_text name ++ rest) ≡ None
+follows_none None name rest f = refl
+follows_none (Some before) name rest f = name_open before name rest f
 
 in_order_ok : {A : Type 0} (o : Option ℕ) (read : Part A) (x : A × List ℕ) → in_order o read ≡ Ok x → (o ≡ None) × (read ≡ Ok x)
 in_order_ok None read x e = (refl, e)
@@ -48,20 +46,14 @@ in_order_ok (Some left) (Err f) x e = absurd (by (ltb f.left left) e)
     by true q = cc
     by false q = cc
 
-length_of : (name rest : List ℕ) → FitsText name → number_at w32 (spelled_text name ++ rest) ≡ Ok (length name, name ++ rest)
-length_of name rest f = ap (number_at w32) (append_assoc (spelled_u32 (length name)) name rest) ∙ reads_u32.again (length name) (name ++ rest) f.short
-
 name_takes : (before : Option (List ℕ)) (bytes : List ℕ) (x : List ℕ × List ℕ) → AreBytes bytes → name_at before bytes ≡ Ok x → Takes bytes (spelled_text x.0) x.1 × FitsName before x.0
 name_takes before bytes x h e =
-    let o = in_order_ok (fall_behind before (number_at w32 bytes)) (text_at bytes) x e in
+    let o = in_order_ok (fall_behind before bytes) (text_at bytes) x e in
     let t = reads_text.takes bytes x h o.1 in
-    let n : number_at w32 bytes ≡ Ok (length x.0, x.0 ++ x.1) = ap (number_at w32) t.0.parts ∙ length_of x.0 x.1 t.1 in
-    (t.0, (t.1, none_follows before x.0 x.1 (sym (ap (fall_behind before) n) ∙ o.0)))
+    (t.0, (t.1, none_follows before x.0 x.1 t.1 (ap (fall_behind before) (sym t.0.parts) ∙ o.0)))
 
 name_again : (before : Option (List ℕ)) (x rest : List ℕ) → FitsName before x → name_at before (spelled_text x ++ rest) ≡ Ok (x, rest)
-name_again before x rest f =
-    let n : fall_behind before (number_at w32 (spelled_text x ++ rest)) ≡ None = ap (fall_behind before) (length_of x rest f.0) ∙ follows_none before x rest f.1 in
-    ap (λ (o : Option ℕ). in_order o (text_at (spelled_text x ++ rest))) n ∙ reads_text.again x rest f.0
+name_again before x rest f = ap (λ (o : Option ℕ). in_order o (text_at (spelled_text x ++ rest))) (follows_none before x rest f) ∙ reads_text.again x rest f.0
 
 -- a fault of the text itself
 text_part_stuck : (before : Option (List ℕ)) (bytes : List ℕ) (f : Fault) → AreBytes bytes → text_at bytes ≡ Err f → IsStuckBy spelled_text (FitsName before) FitsText bytes f.left
@@ -70,10 +62,9 @@ text_part_stuck before bytes f h e =
     record { front = s.front; back = s.back; parts = s.parts; left_is = s.left_is; begins = s.begins; ends = λ b more k q. s.ends b more k (q.0, q.1, q.2.0, q.3) }
 
 -- a name that falls
-fall_stuck : (before : List ℕ) (bytes : List ℕ) (n : ℕ) (rest : List ℕ) (left : ℕ) → bytes ≡ spelled_u32 n ++ rest → n < 2 ^ 32 → Falls before n rest left → Begins spelled_text FitsText (take (length bytes - left) bytes)
+fall_stuck : (before : List ℕ) (bytes : List ℕ) (left : ℕ) → NameFalls before bytes left → Begins spelled_text FitsText (take (length bytes - left) bytes)
     → IsStuckBy spelled_text (FitsName (Some before)) FitsText bytes left
-fall_stuck before bytes n rest left parts lt falls begins =
-    let len : length bytes ≡ 4 + length rest = ap length parts ∙ length-append (spelled_u32 n) rest in
+fall_stuck before bytes left falls begins =
     let m : ℕ = length bytes - left in
     record {
       front = take m bytes;
@@ -83,28 +74,22 @@ fall_stuck before bytes n rest left parts lt falls begins =
       begins = begins;
       ends = λ b more k q.
           let all : bytes ≡ (take m bytes ++ b ∷ []) ++ more = sym (take-append-drop m bytes) ∙ ap (λ (z : List ℕ). take m bytes ++ z) k ∙ sym (append_assoc (take m bytes) (b ∷ []) more) in
-          let size : length (take m bytes ++ b ∷ []) ≡ 4 + (length rest + 1 - left) = omega (arith, falls.within, falls.some, length-append (take m bytes) (b ∷ []), length-take m bytes) in
-          let cut : take m bytes ++ b ∷ [] ≡ spelled_u32 n ++ take (length rest + 1 - left) rest = sym (take_at (take m bytes ++ b ∷ []) more (4 + (length rest + 1 - left)) size) ∙ ap (take (4 + (length rest + 1 - left))) (sym all ∙ parts) ∙ take-append-add (spelled_u32 n) rest (length rest + 1 - left) in
-          let t = text_after n (take (length rest + 1 - left) rest) q.1 q.0 lt q.2.0 (q.3 ∙ ap (λ (z : List ℕ). z ++ q.1) cut) in
-          true_false (is_below before q.0) q.2.1 (falls.none q.0 q.1 t.0 t.1);
+          let size : length (take m bytes ++ b ∷ []) ≡ length bytes + 1 - left = omega (arith, falls.within, falls.some, length-append (take m bytes) (b ∷ []), length-take m bytes) in
+          let cut : take m bytes ++ b ∷ [] ≡ take (length bytes + 1 - left) bytes = sym (take_at (take m bytes ++ b ∷ []) more (length bytes + 1 - left) size) ∙ ap (take (length bytes + 1 - left)) (sym all) in
+          falls.none q.0 q.1 q.2.0 (q.3 ∙ ap (λ (z : List ℕ). z ++ q.1) cut) q.2.1;
     }
-  where
-    true_false : (b : Bool) → b ≡ true → b ≡ false → ⊥
-    true_false b p q = cc
 
 -- a front of what begins a text
 shorter_begins : (m : ℕ) (front : List ℕ) → Begins spelled_text FitsText front → Begins spelled_text FitsText (take m front)
 shorter_begins m front b = (b.0, drop m front ++ b.1, b.2, b.3 ∙ ap (λ (z : List ℕ). z ++ b.1) (sym (take-append-drop m front)) ∙ append_assoc (take m front) (drop m front) b.1)
 
-begins_read : (bytes : List ℕ) (x : List ℕ × List ℕ) (n : ℕ) (rest : List ℕ) (left : ℕ) → AreBytes bytes → text_at bytes ≡ Ok x → number_at w32 bytes ≡ Ok (n, rest) → length rest + 1 ≤ left + n → Begins spelled_text FitsText (take (length bytes - left) bytes)
-begins_read bytes x n rest left h e d le =
+begins_read : (before bytes : List ℕ) (x : List ℕ × List ℕ) (left : ℕ) → AreBytes bytes → text_at bytes ≡ Ok x → NameFalls before bytes left → Begins spelled_text FitsText (take (length bytes - left) bytes)
+begins_read before bytes x left h e falls =
     let t = reads_text.takes bytes x h e in
-    let u = reads_u32.takes bytes (n, rest) h d in
-    let len : length bytes ≡ 4 + length rest = ap length u.0.parts ∙ length-append (spelled_u32 n) rest in
-    let same = ok_is (n, rest) (length x.0, x.0 ++ x.1) (sym d ∙ ap (number_at w32) t.0.parts ∙ length_of x.0 x.1 t.1) in
-    let size : n ≡ length x.0 = ap (λ (p : ℕ × List ℕ). p.0) same in
     let whole : length (spelled_text x.0) ≡ 4 + length x.0 = length-append (spelled_u32 (length x.0)) x.0 in
-    let cut : take (length bytes - left) bytes ≡ take (length bytes - left) (spelled_text x.0) = ap (take (length bytes - left)) t.0.parts ∙ take-append-le (length bytes - left) (spelled_text x.0) x.1 (omega arith) in
+    let inside = falls.in_name (length x.0) (x.0 ++ x.1) (t.0.parts ∙ append_assoc (spelled_u32 (length x.0)) x.0 x.1) t.1.short in
+    let size : length bytes ≡ length (spelled_text x.0) + length x.1 = ap length t.0.parts ∙ length-append (spelled_text x.0) x.1 in
+    let cut : take (length bytes - left) bytes ≡ take (length bytes - left) (spelled_text x.0) = ap (take (length bytes - left)) t.0.parts ∙ take-append-le (length bytes - left) (spelled_text x.0) x.1 (omega (arith, inside, length-append x.0 x.1)) in
     subst (Begins spelled_text FitsText) (sym cut) (shorter_begins (length bytes - left) (spelled_text x.0) (x.0, [], t.1, sym (append-nil (spelled_text x.0))))
 
 begins_fault : (bytes : List ℕ) (g : Fault) (left : ℕ) → AreBytes bytes → text_at bytes ≡ Err g → g.left < left → Begins spelled_text FitsText (take (length bytes - left) bytes)
@@ -115,32 +100,26 @@ begins_fault bytes g left h e lt =
     subst (Begins spelled_text FitsText) (sym cut) (shorter_begins (length bytes - left) s.front s.begins)
 
 -- with a fall at so many bytes left: where the text has no fault before it, the fall is the fault
-fall_first : (before : List ℕ) (bytes : List ℕ) (f : Fault) (n : ℕ) (rest : List ℕ) (left : ℕ) → AreBytes bytes → number_at w32 bytes ≡ Ok (n, rest) → fall before n rest ≡ Some left
-    → (read : Part (List ℕ)) → text_at bytes ≡ read → in_order (Some left) read ≡ Err f → IsStuckBy spelled_text (FitsName (Some before)) FitsText bytes f.left
-fall_first before bytes f n rest left h d o (Ok x) r e =
-    let u = reads_u32.takes bytes (n, rest) h d in
-    let falls = falls_of before n rest left o in
+fall_first : (before : List ℕ) (bytes : List ℕ) (f : Fault) (left : ℕ) → AreBytes bytes → NameFalls before bytes left → (read : Part (List ℕ)) → text_at bytes ≡ read → in_order (Some left) read ≡ Err f
+    → IsStuckBy spelled_text (FitsName (Some before)) FitsText bytes f.left
+fall_first before bytes f left h falls (Ok x) r e =
     subst (λ (g : Fault). IsStuckBy spelled_text (FitsName (Some before)) FitsText bytes g.left) (err_is {A = List ℕ × List ℕ} (record { left = left; kind = bad.Tag }) f e)
-    (fall_stuck before bytes n rest left u.0.parts u.1 falls (begins_read bytes x n rest left h r d falls.in_name))
-fall_first before bytes f n rest left h d o (Err g) r e = by (cases_lt g.left left)
+    (fall_stuck before bytes left falls (begins_read before bytes x left h r falls))
+fall_first before bytes f left h falls (Err g) r e = by (cases_lt g.left left)
   where
     by : (g.left < left) ⊎ (left ≤ g.left) → IsStuckBy spelled_text (FitsName (Some before)) FitsText bytes f.left
     by (inl lt) =
-        let u = reads_u32.takes bytes (n, rest) h d in
-        let falls = falls_of before n rest left o in
         subst (λ (k : Fault). IsStuckBy spelled_text (FitsName (Some before)) FitsText bytes k.left) (err_is {A = List ℕ × List ℕ} (record { left = left; kind = bad.Tag }) f (rw (lt-ltb g.left left lt) at e))
-        (fall_stuck before bytes n rest left u.0.parts u.1 falls (begins_fault bytes g left h r lt))
-    by (inr le) =
-        text_part_stuck (Some before) bytes f h (r ∙ (rw (le-ltb g.left left le) at e))
+        (fall_stuck before bytes left falls (begins_fault bytes g left h r lt))
+    by (inr le) = text_part_stuck (Some before) bytes f h (r ∙ (rw (le-ltb g.left left le) at e))
 
-name_by : (before : Option (List ℕ)) (bytes : List ℕ) (f : Fault) → AreBytes bytes → (n : Part ℕ) → number_at w32 bytes ≡ n → (o : Option ℕ) → fall_behind before n ≡ o → in_order o (text_at bytes) ≡ Err f → IsStuckBy spelled_text (FitsName before) FitsText bytes f.left
-name_by before bytes f h n d None o e = text_part_stuck before bytes f h e
-name_by None bytes f h (Ok n) d (Some left) o e = absurd cc
-name_by (Some before) bytes f h (Ok n) d (Some left) o e = fall_first before bytes f n.0 n.1 left h d o (text_at bytes) refl e
-name_by before bytes f h (Err g) d (Some left) o e = absurd cc
+name_by : (before : Option (List ℕ)) (bytes : List ℕ) (f : Fault) → AreBytes bytes → (o : Option ℕ) → fall_behind before bytes ≡ o → in_order o (text_at bytes) ≡ Err f → IsStuckBy spelled_text (FitsName before) FitsText bytes f.left
+name_by before bytes f h None o e = text_part_stuck before bytes f h e
+name_by None bytes f h (Some left) o e = absurd cc
+name_by (Some before) bytes f h (Some left) o e = fall_first before bytes f left h (name_falls before bytes left h o) (text_at bytes) refl e
 
 name_stuck : (before : Option (List ℕ)) (bytes : List ℕ) (f : Fault) → AreBytes bytes → name_at before bytes ≡ Err f → IsStuckBy spelled_text (FitsName before) FitsText bytes f.left
-name_stuck before bytes f h e = name_by before bytes f h (number_at w32 bytes) refl (fall_behind before (number_at w32 bytes)) refl e
+name_stuck before bytes f h e = name_by before bytes f h (fall_behind before bytes) refl e
 
 reads_name : (before : Option (List ℕ)) → ReadsBy spelled_text (FitsName before) FitsText (name_at before)
 reads_name before = record {

@@ -2,7 +2,12 @@ pub mod Loops
 pub mod FallLemmas
 pub mod ExitLemmas
 pub mod LastLemmas
+pub mod BelowLemmas
+pub mod CapLemmas
+pub mod ReachLemmas
+pub mod NameFallLemmas
 pub mod OrderLemmas
+pub mod NameLemmas
 pub mod ThenLemmas
 pub mod PieceLemmas
 pub mod FieldLemmas

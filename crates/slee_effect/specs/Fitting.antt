@@ -1,5 +1,5 @@
 -- Which effects have bytes.
-use Rattle.std.specs.Prelude.{ℕ, ◌<◌, ◌^◌, ℤ, List, length, Option, Some, None, FitsSigned, IsTrue, ⊤}
+use Rattle.std.specs.Prelude.{ℕ, ◌<◌, ◌^◌, List, length, Option, Some, None, FitsSigned, IsTrue, ⊤}
 use Rattle.std.specs.Int.{w8, w64}
 use Rattle.std.specs.List.{AllByRecursion}
 use Rattle.slee_value.specs.Order.{rises, names_of}
