@@ -14,17 +14,13 @@ use Rattle.slee_value.proofs.TextPartLemmas.{reads_text}
 use Rattle.slee_effect.specs.declared.value.Val.{Val}
 use Rattle.slee_effect.specs.Bytes.{spelled_val, spelled_field, spelled_fields}
 use Rattle.slee_effect.specs.Fitting.{FitsVal, FitsField, AreFields, AreRisingFields}
+use Rattle.slee_effect.specs.Names.{follows}
 use Rattle.slee_effect.specs.Reading.{fall_behind, in_order, name_at, val_at, field_at, rows_at, fields_at}
 use Rattle.slee_effect.proofs.NameLemmas.{name_rises, name_open, NameFalls, name_falls}
 use Rattle.slee_effect.proofs.ThenLemmas.{reads_same, reads_refit, reads_made, after, spell_after, fits_after, reads_after, same_cons, reads_counted}
 use Rattle.slee_effect.proofs.PieceLemmas.{reads_val, example_val}
 
 -- ---- names
-
--- whether a name may stand behind the one before
-abbrev pub follows : Option (List ℕ) → List ℕ → Bool
-follows None name = true
-follows (Some before) name = is_below before name
 
 abbrev pub FitsName : Option (List ℕ) → List ℕ → Type 0
 FitsName before name = FitsText name × (follows before name ≡ true)
@@ -118,7 +114,7 @@ name_by before bytes f h None o e = text_part_stuck before bytes f h e
 name_by None bytes f h (Some left) o e = absurd cc
 name_by (Some before) bytes f h (Some left) o e = fall_first before bytes f left h (name_falls before bytes left h o) (text_at bytes) refl e
 
-name_stuck : (before : Option (List ℕ)) (bytes : List ℕ) (f : Fault) → AreBytes bytes → name_at before bytes ≡ Err f → IsStuckBy spelled_text (FitsName before) FitsText bytes f.left
+pub name_stuck : (before : Option (List ℕ)) (bytes : List ℕ) (f : Fault) → AreBytes bytes → name_at before bytes ≡ Err f → IsStuckBy spelled_text (FitsName before) FitsText bytes f.left
 name_stuck before bytes f h e = name_by before bytes f h (fall_behind before bytes) refl e
 
 reads_name : (before : Option (List ℕ)) → ReadsBy spelled_text (FitsName before) FitsText (name_at before)

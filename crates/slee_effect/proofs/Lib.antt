@@ -12,6 +12,7 @@ pub mod ThenLemmas
 pub mod PieceLemmas
 pub mod FieldLemmas
 pub mod EffectLemmas
+pub mod StopLemmas
 pub mod ListLemmas
 pub mod NamesLemmas
 pub mod StepLemmas

@@ -13,7 +13,7 @@ use Rattle.slee_value.proofs.TextPartLemmas.{text_after}
 use Rattle.slee_effect.specs.Rising.{reach, greatest_len, fall, name_fall}
 use Rattle.slee_effect.proofs.BelowLemmas.{below_longer}
 use Rattle.slee_effect.proofs.CapLemmas.{letters_go, text_of}
-use Rattle.slee_effect.proofs.OrderLemmas.{some_none, zero_falls, reach_le, none_rises, rises_none, falls_of, reach_rises, none_begins}
+use Rattle.slee_effect.proofs.OrderLemmas.{some_none, zero_falls, reach_le, none_rises, rises_none, none_front, falls_of, reach_rises, none_begins}
 
 -- ---- the greatest length
 
@@ -235,3 +235,37 @@ open_begins before front u b some e = by (fronts (spelled_u32 (length b.0)) b.0 
         let same : length t.0 ≡ n = t.3 ∙ sym (ap length name) in
         let whole : spelled_text t.0 ≡ front ++ t.1 = ap (λ (i : ℕ). spelled_u32 i ++ t.0) same ∙ ap (λ (s : List ℕ). len ++ s) t.4 ∙ sym (append_assoc len r.0 t.1) ∙ ap (λ (s : List ℕ). s ++ t.1) (sym r.1) in
         (t.0, t.1, (record { utf8 = t.2; short = omega (arith, same, b.2.short) }, t.5), whole)
+
+-- ---- before the fall nothing falls
+
+-- these bytes end before the fall
+abbrev pub EndsBefore : ℕ → List ℕ → Option ℕ → Type 0
+EndsBefore m bytes None = Unit {0}
+EndsBefore m bytes (Some left) = m + left ≤ length bytes
+
+fall_front : (before : List ℕ) (k m : ℕ) (bytes : List ℕ) (o : Option ℕ) → fall before k bytes ≡ o → EndsBefore m bytes o → fall before k (take m bytes) ≡ None
+fall_front before k m bytes None e h = none_front before bytes k m e
+fall_front before k m bytes (Some left) e h = (falls_of before k bytes left e).fronts m h
+
+name_front : (before : List ℕ) (k : ℕ) (front bytes : List ℕ) (m : ℕ) (o : Option ℕ) → name_fall before front k bytes ≡ o → EndsBefore m bytes o → name_fall before front k (take m bytes) ≡ None
+name_front before zero front bytes m o e h = fall_front before (reach before (greatest_len front)) m bytes o e h
+name_front before (suc k) front [] zero o e h = refl
+name_front before (suc k) front [] (suc m) o e h = refl
+name_front before (suc k) front (b ∷ bs) zero o e h = refl
+name_front before (suc k) front (b ∷ bs) (suc m) o e h = by (λ q r. name_front before k (front ++ b ∷ []) bs m o q r) (eqb (reach before (greatest_len (front ++ b ∷ []))) 0) e
+  where
+    shorter : (o : Option ℕ) → EndsBefore (suc m) (b ∷ bs) o → EndsBefore m bs o
+    shorter None q = q
+    shorter (Some left) q = omega arith
+
+    late : (o : Option ℕ) → Some (length (b ∷ bs)) ≡ o → EndsBefore (suc m) (b ∷ bs) o → ⊥
+    late None p q = cc
+    late (Some left) p q = (let same : length (b ∷ bs) ≡ left = cc in omega arith)
+
+    by : (name_fall before (front ++ b ∷ []) k bs ≡ o → EndsBefore m bs o → name_fall before (front ++ b ∷ []) k (take m bs) ≡ None)
+        → (t : Bool) → cond t (Some (length (b ∷ bs))) (name_fall before (front ++ b ∷ []) k bs) ≡ o → cond t (Some (length (b ∷ take m bs))) (name_fall before (front ++ b ∷ []) k (take m bs)) ≡ None
+    by next true q = absurd (late o q h)
+    by next false q = next q (shorter o h)
+
+pub front_open : (before bytes : List ℕ) (m : ℕ) (o : Option ℕ) → name_fall before [] 4 bytes ≡ o → EndsBefore m bytes o → name_fall before [] 4 (take m bytes) ≡ None
+front_open before bytes m o e h = name_front before 4 [] bytes m o e h

@@ -235,3 +235,16 @@ none_begins before front more u v e = by (reach before n) refl (undecided before
         let le : m ≤ k = omega (arith, h.0) in
         let cut : front ≡ take m r.0 = h.1 ∙ sym (take-take m k before le) ∙ ap (take m) (sym r.4) ∙ take-take m k r.0 le in
         (r.0, drop m r.0, r.1, r.2, sym (take-append-drop m r.0) ∙ ap (λ (t : List ℕ). t ++ drop m r.0) (sym cut), r.3)
+
+-- in a front of where nothing falls nothing falls
+pub none_front : (before bytes : List ℕ) (k m : ℕ) → fall before k bytes ≡ None → fall before k (take m bytes) ≡ None
+none_front before bytes zero m e = zero_falls before bytes 0 refl e
+none_front before bytes (suc k) zero e = fall_open before k
+none_front [] bytes (suc k) (suc m) e = refl
+none_front (p ∷ ps) [] (suc k) (suc m) e = refl
+none_front (p ∷ ps) (b ∷ bs) (suc k) (suc m) e = by (λ q. none_front ps bs k m q) (which p b)
+  where
+    by : (fall ps k bs ≡ None → fall ps k (take m bs) ≡ None) → Which p b → fall (p ∷ ps) (suc k) (b ∷ take m bs) ≡ None
+    by next (is_less h) = fall_less p b ps (take m bs) k h
+    by next (is_more h) = some_none (length (b ∷ bs)) (fall (p ∷ ps) (suc k) (b ∷ bs)) (fall_more p b ps bs k h) e
+    by next (is_equal h n) = fall_equal p b ps (take m bs) k h n ∙ next (sym (fall_equal p b ps bs k h n) ∙ e)

@@ -20,7 +20,7 @@ pub use effect::Effect;
 pub use effects::{Effects, resolve};
 pub use fault::EffectFault;
 pub use fired::FiredFields;
-pub use laws::{effects_have_one_spelling, lists_have_one_spelling};
+pub use laws::{effects_have_one_spelling, lists_have_one_spelling, names_stop_at_the_first_byte};
 pub use reading::read_effects;
 pub use reference::Ref;
 pub use value::Val;
