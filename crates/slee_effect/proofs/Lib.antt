@@ -10,6 +10,7 @@ pub mod OrderLemmas
 pub mod NameLemmas
 pub mod ThenLemmas
 pub mod PieceLemmas
+pub mod NameReading
 pub mod FieldLemmas
 pub mod EffectLemmas
 pub mod StopLemmas
