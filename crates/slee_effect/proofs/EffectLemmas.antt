@@ -1,9 +1,10 @@
 -- Each effect is read as it is spelled.
-use Rattle.std.proofs.Common.{◌≡◌, ℕ, zero, suc, ◌+◌, ◌^◌, ◌<◌, ◌≤◌, ℤ, Bool, List, [], ◌∷◌, ◌++◌, length, get_or, Option, Result, Ok, Err, refl, sym, ap, subst, ◌∙◌, arith, FitsSigned}
+use Rattle.std.proofs.Common.{◌≡◌, ℕ, zero, suc, ◌+◌, ◌^◌, ◌<◌, ℤ, Bool, List, [], ◌∷◌, ◌++◌, length, Option, Ok, Err, refl, ap, subst, ◌∙◌, arith, FitsSigned}
 use Rattle.std.specs.Prelude.{⊤, slice_index_or}
-use Rattle.std.specs.Int.{w8, w32, w64}
+use Rattle.std.specs.Int.{w8, w64}
 use Rattle.slee_value.specs.declared.keep.Keep.{Keep}
 use Rattle.slee_value.specs.declared.fault.ValueBad.TheVariants as bad
+use Rattle.slee_value.specs.Order.{names_of}
 use Rattle.slee_value.specs.Bytes.{spelled_u64, spelled_i64, spelled_text, spelled_flag, FitsText}
 use Rattle.slee_value.specs.Reading.{Fault, Part, mapped, pair, number_at, i64_at, flag_at, text_at}
 use Rattle.slee_value.proofs.ReadLemmas.{AreBytes, Takes, Begins, IsStuckBy, ReadsBy, spell_pair, fits_pair, reads_pair, IsCaseBy, case_takes, case_again, case_bytes, case_stuck, no_case, no_bytes, err_is}
@@ -14,10 +15,10 @@ use Rattle.slee_effect.specs.declared.value.Val.{Val}
 use Rattle.slee_effect.specs.declared.effect.Effect.{Effect}
 use Rattle.slee_effect.specs.declared.effect.Effect.TheVariants.{SetField, SetAttr, Create, Remove, SetPriority, Attach, Detach, SetMask, Fire, NewNull, EndNull, SetTimer, CancelTimer, Bind, Unbind, Emit, Usage}
 use Rattle.slee_effect.specs.Bytes.{spelled_i8, spelled_option, spelled_keep, spelled_ref, spelled_val, spelled_fields, spelled_effect}
-use Rattle.slee_effect.specs.Fitting.{FitsRef, FitsVal, FitsOption, AreFields, AreRisingFields, FitsEffect, IsLooseEffect}
+use Rattle.slee_effect.specs.Fitting.{FitsRef, FitsVal, FitsOption, AreLooseFields, AreRisingFields, FitsEffect, IsLooseEffect}
 use Rattle.slee_effect.specs.Reading.{nothing_at, i8_at, keep_at, option_at, ref_at, val_at, fields_at, bodies, no_effect, effect_at}
 use Rattle.slee_effect.proofs.PieceLemmas.{reads_nothing, reads_i8, reads_keep, reads_option, reads_ref, reads_val}
-use Rattle.slee_effect.proofs.FieldLemmas.{reads_fields}
+use Rattle.slee_effect.proofs.FieldLemmas.{rise_loosely, reads_fields}
 
 -- ---- shapes: how a part is spelled, what fits, and how it is read
 
@@ -70,7 +71,7 @@ abbrev option : Shape (Option (List ℕ))
 option = strict spelled_option FitsOption option_at
 
 abbrev fields : Shape (List (List ℕ × Val))
-fields = record { spell = spelled_fields; fits = AreRisingFields; loose = AreFields; read = fields_at }
+fields = record { spell = spelled_fields; fits = AreRisingFields; loose = AreLooseFields; read = fields_at }
 
 abbrev setting : Shape (Ref × (List ℕ × Val))
 setting = both one (both text val)
@@ -335,7 +336,7 @@ loosen_effect (SetPriority entity priority) f = f
 loosen_effect (Attach entity activity) f = f
 loosen_effect (Detach entity activity) f = f
 loosen_effect (SetMask entity activity event on) f = f
-loosen_effect (Fire activity event service row) f = (f.0, (f.1.0, (f.1.1.0, f.1.1.1.0)))
+loosen_effect (Fire activity event service row) f = (f.0, (f.1.0, (f.1.1.0, (f.1.1.1.0, rise_loosely (names_of row) f.1.1.1.1))))
 loosen_effect NewNull f = f
 loosen_effect (EndNull activity) f = f
 loosen_effect (SetTimer activity start period times keep) f = f

@@ -1,172 +1,49 @@
 -- The fields of an event are read as they are spelled, and their names rise.
-use Rattle.std.proofs.Common.{◌≡◌, ℕ, zero, suc, ◌+◌, ◌-◌, ◌^◌, ◌<◌, ◌≤◌, Bool, true, false, ◌&&◌, cond, ltb, List, [], ◌∷◌, ◌++◌, length, take, drop, Option, Some, None, Result, Ok, Err, refl, sym, ap, subst, ◌∙◌, append_assoc, arith, inl, inr, ◌⊎◌, IsTrue}
+use Rattle.std.proofs.Common.{◌≡◌, ℕ, zero, suc, ◌^◌, ◌<◌, Bool, true, false, ◌&&◌, List, [], ◌∷◌, ◌++◌, length, Option, Some, None, Ok, refl, sym, ap, subst, ◌∙◌, arith}
 use Rattle.std.specs.Int.{w32}
+use Rattle.std.specs.Prelude.{⊤}
 use Rattle.std.specs.List.{flat_map, AllByRecursion}
-use Rattle.std.proofs.lemmas.Bool.{cases_lt, lt-ltb, le-ltb}
-use Rattle.std.proofs.lemmas.List.{append-nil, take_at, take-append-drop, take-append-le, length-append, length-drop, length-take}
 use Rattle.std.proofs.lemmas.List.Concat.{flat_map-cons}
-use Rattle.std.proofs.Math.Seq.{take-append-add}
 use Rattle.slee_value.specs.Order.{is_below, rises, names_of}
-use Rattle.slee_value.specs.Bytes.{spelled_u32, spelled_text, FitsText}
-use Rattle.slee_value.specs.Reading.{Fault, Part, ◌>>=◌, mapped, pair, number_at, text_at}
-use Rattle.slee_value.specs.declared.fault.ValueBad.TheVariants as bad
-use Rattle.slee_value.proofs.ReadLemmas.{AreBytes, Takes, Begins, IsStuckBy, ReadsBy, reads_pair, ok_is, err_is}
-use Rattle.slee_value.proofs.PartLemmas.{reads_u32}
-use Rattle.slee_value.proofs.TextPartLemmas.{reads_text, text_after}
+use Rattle.slee_value.specs.Bytes.{spelled_text, FitsText}
+use Rattle.slee_value.specs.Reading.{Part, ◌>>=◌, mapped, number_at}
+use Rattle.slee_value.proofs.ReadLemmas.{AreBytes, Takes, ReadsBy, reads_pair, ok_is}
 use Rattle.slee_effect.specs.declared.value.Val.{Val}
 use Rattle.slee_effect.specs.Bytes.{spelled_val, spelled_field, spelled_fields}
-use Rattle.slee_effect.specs.Fitting.{FitsVal, FitsField, AreFields, AreRisingFields}
-use Rattle.slee_effect.specs.Reading.{fall, fall_after, fall_behind, in_order, name_at, val_at, field_at, rows_at, fields_at}
-use Rattle.slee_effect.proofs.OrderLemmas.{none_rises, rises_none, Falls, falls_of}
+use Rattle.slee_effect.specs.Fitting.{FitsVal, FitsField, RiseLoosely, AreRisingFields, AreLooseFields}
+use Rattle.slee_effect.specs.Names.{follows}
+use Rattle.slee_effect.specs.Reading.{name_at, val_at, field_at, rows_at, fields_at}
+use Rattle.slee_effect.proofs.NameReading.{FitsName, Climbs, LooseName, reads_name}
 use Rattle.slee_effect.proofs.ThenLemmas.{reads_same, reads_refit, reads_made, after, spell_after, fits_after, reads_after, same_cons, reads_counted}
-use Rattle.slee_effect.proofs.PieceLemmas.{reads_val, example_val, example_fits}
-
--- ---- names
-
--- whether a name may stand behind the one before
-abbrev pub follows : Option (List ℕ) → List ℕ → Bool
-follows None name = true
-follows (Some before) name = is_below before name
-
-abbrev pub FitsName : Option (List ℕ) → List ℕ → Type 0
-FitsName before name = FitsText name × (follows before name ≡ true)
-
-none_follows : (before : Option (List ℕ)) (name rest : List ℕ) → fall_after before (length name) (name ++ rest) ≡ None → follows before name ≡ true
-none_follows None name rest e = refl
-none_follows (Some before) name rest e = none_rises before name rest e
-
-follows_none : (before : Option (List ℕ)) (name rest : List ℕ) → follows before name ≡ true → fall_after before (length name) (name ++ rest) ≡ None
-follows_none None name rest e = refl
-follows_none (Some before) name rest e = rises_none before name rest e
-
-in_order_ok : {A : Type 0} (o : Option ℕ) (read : Part A) (x : A × List ℕ) → in_order o read ≡ Ok x → (o ≡ None) × (read ≡ Ok x)
-in_order_ok None read x e = (refl, e)
-in_order_ok (Some left) (Ok y) x e = absurd cc
-in_order_ok (Some left) (Err f) x e = absurd (by (ltb f.left left) e)
-  where
-    by : (c : Bool) → cond c (Err (record { left = left; kind = bad.Tag })) (Err f) ≡ Ok x → ⊥
-    by true q = cc
-    by false q = cc
-
-length_of : (name rest : List ℕ) → FitsText name → number_at w32 (spelled_text name ++ rest) ≡ Ok (length name, name ++ rest)
-length_of name rest f = ap (number_at w32) (append_assoc (spelled_u32 (length name)) name rest) ∙ reads_u32.again (length name) (name ++ rest) f.short
-
-name_takes : (before : Option (List ℕ)) (bytes : List ℕ) (x : List ℕ × List ℕ) → AreBytes bytes → name_at before bytes ≡ Ok x → Takes bytes (spelled_text x.0) x.1 × FitsName before x.0
-name_takes before bytes x h e =
-    let o = in_order_ok (fall_behind before (number_at w32 bytes)) (text_at bytes) x e in
-    let t = reads_text.takes bytes x h o.1 in
-    let n : number_at w32 bytes ≡ Ok (length x.0, x.0 ++ x.1) = ap (number_at w32) t.0.parts ∙ length_of x.0 x.1 t.1 in
-    (t.0, (t.1, none_follows before x.0 x.1 (sym (ap (fall_behind before) n) ∙ o.0)))
-
-name_again : (before : Option (List ℕ)) (x rest : List ℕ) → FitsName before x → name_at before (spelled_text x ++ rest) ≡ Ok (x, rest)
-name_again before x rest f =
-    let n : fall_behind before (number_at w32 (spelled_text x ++ rest)) ≡ None = ap (fall_behind before) (length_of x rest f.0) ∙ follows_none before x rest f.1 in
-    ap (λ (o : Option ℕ). in_order o (text_at (spelled_text x ++ rest))) n ∙ reads_text.again x rest f.0
-
--- a fault of the text itself
-text_part_stuck : (before : Option (List ℕ)) (bytes : List ℕ) (f : Fault) → AreBytes bytes → text_at bytes ≡ Err f → IsStuckBy spelled_text (FitsName before) FitsText bytes f.left
-text_part_stuck before bytes f h e =
-    let s = reads_text.stuck bytes f h e in
-    record { front = s.front; back = s.back; parts = s.parts; left_is = s.left_is; begins = s.begins; ends = λ b more k q. s.ends b more k (q.0, q.1, q.2.0, q.3) }
-
--- a name that falls
-fall_stuck : (before : List ℕ) (bytes : List ℕ) (n : ℕ) (rest : List ℕ) (left : ℕ) → bytes ≡ spelled_u32 n ++ rest → n < 2 ^ 32 → Falls before n rest left → Begins spelled_text FitsText (take (length bytes - left) bytes)
-    → IsStuckBy spelled_text (FitsName (Some before)) FitsText bytes left
-fall_stuck before bytes n rest left parts lt falls begins =
-    let len : length bytes ≡ 4 + length rest = ap length parts ∙ length-append (spelled_u32 n) rest in
-    let m : ℕ = length bytes - left in
-    record {
-      front = take m bytes;
-      back = drop m bytes;
-      parts = sym (take-append-drop m bytes);
-      left_is = length-drop m bytes ∙ (let k : length bytes - m ≡ left = omega (arith, falls.within) in k);
-      begins = begins;
-      ends = λ b more k q.
-          let all : bytes ≡ (take m bytes ++ b ∷ []) ++ more = sym (take-append-drop m bytes) ∙ ap (λ (z : List ℕ). take m bytes ++ z) k ∙ sym (append_assoc (take m bytes) (b ∷ []) more) in
-          let size : length (take m bytes ++ b ∷ []) ≡ 4 + (length rest + 1 - left) = omega (arith, falls.within, falls.some, length-append (take m bytes) (b ∷ []), length-take m bytes) in
-          let cut : take m bytes ++ b ∷ [] ≡ spelled_u32 n ++ take (length rest + 1 - left) rest = sym (take_at (take m bytes ++ b ∷ []) more (4 + (length rest + 1 - left)) size) ∙ ap (take (4 + (length rest + 1 - left))) (sym all ∙ parts) ∙ take-append-add (spelled_u32 n) rest (length rest + 1 - left) in
-          let t = text_after n (take (length rest + 1 - left) rest) q.1 q.0 lt q.2.0 (q.3 ∙ ap (λ (z : List ℕ). z ++ q.1) cut) in
-          true_false (is_below before q.0) q.2.1 (falls.none q.0 q.1 t.0 t.1);
-    }
-  where
-    true_false : (b : Bool) → b ≡ true → b ≡ false → ⊥
-    true_false b p q = cc
-
--- a front of what begins a text
-shorter_begins : (m : ℕ) (front : List ℕ) → Begins spelled_text FitsText front → Begins spelled_text FitsText (take m front)
-shorter_begins m front b = (b.0, drop m front ++ b.1, b.2, b.3 ∙ ap (λ (z : List ℕ). z ++ b.1) (sym (take-append-drop m front)) ∙ append_assoc (take m front) (drop m front) b.1)
-
-begins_read : (bytes : List ℕ) (x : List ℕ × List ℕ) (n : ℕ) (rest : List ℕ) (left : ℕ) → AreBytes bytes → text_at bytes ≡ Ok x → number_at w32 bytes ≡ Ok (n, rest) → length rest + 1 ≤ left + n → Begins spelled_text FitsText (take (length bytes - left) bytes)
-begins_read bytes x n rest left h e d le =
-    let t = reads_text.takes bytes x h e in
-    let u = reads_u32.takes bytes (n, rest) h d in
-    let len : length bytes ≡ 4 + length rest = ap length u.0.parts ∙ length-append (spelled_u32 n) rest in
-    let same = ok_is (n, rest) (length x.0, x.0 ++ x.1) (sym d ∙ ap (number_at w32) t.0.parts ∙ length_of x.0 x.1 t.1) in
-    let size : n ≡ length x.0 = ap (λ (p : ℕ × List ℕ). p.0) same in
-    let whole : length (spelled_text x.0) ≡ 4 + length x.0 = length-append (spelled_u32 (length x.0)) x.0 in
-    let cut : take (length bytes - left) bytes ≡ take (length bytes - left) (spelled_text x.0) = ap (take (length bytes - left)) t.0.parts ∙ take-append-le (length bytes - left) (spelled_text x.0) x.1 (omega arith) in
-    subst (Begins spelled_text FitsText) (sym cut) (shorter_begins (length bytes - left) (spelled_text x.0) (x.0, [], t.1, sym (append-nil (spelled_text x.0))))
-
-begins_fault : (bytes : List ℕ) (g : Fault) (left : ℕ) → AreBytes bytes → text_at bytes ≡ Err g → g.left < left → Begins spelled_text FitsText (take (length bytes - left) bytes)
-begins_fault bytes g left h e lt =
-    let s = reads_text.stuck bytes g h e in
-    let len : length bytes ≡ length s.front + length s.back = ap length s.parts ∙ length-append s.front s.back in
-    let cut : take (length bytes - left) bytes ≡ take (length bytes - left) s.front = ap (take (length bytes - left)) s.parts ∙ take-append-le (length bytes - left) s.front s.back (omega (arith, s.left_is)) in
-    subst (Begins spelled_text FitsText) (sym cut) (shorter_begins (length bytes - left) s.front s.begins)
-
--- with a fall at so many bytes left: where the text has no fault before it, the fall is the fault
-fall_first : (before : List ℕ) (bytes : List ℕ) (f : Fault) (n : ℕ) (rest : List ℕ) (left : ℕ) → AreBytes bytes → number_at w32 bytes ≡ Ok (n, rest) → fall before n rest ≡ Some left
-    → (read : Part (List ℕ)) → text_at bytes ≡ read → in_order (Some left) read ≡ Err f → IsStuckBy spelled_text (FitsName (Some before)) FitsText bytes f.left
-fall_first before bytes f n rest left h d o (Ok x) r e =
-    let u = reads_u32.takes bytes (n, rest) h d in
-    let falls = falls_of before n rest left o in
-    subst (λ (g : Fault). IsStuckBy spelled_text (FitsName (Some before)) FitsText bytes g.left) (err_is {A = List ℕ × List ℕ} (record { left = left; kind = bad.Tag }) f e)
-    (fall_stuck before bytes n rest left u.0.parts u.1 falls (begins_read bytes x n rest left h r d falls.in_name))
-fall_first before bytes f n rest left h d o (Err g) r e = by (cases_lt g.left left)
-  where
-    by : (g.left < left) ⊎ (left ≤ g.left) → IsStuckBy spelled_text (FitsName (Some before)) FitsText bytes f.left
-    by (inl lt) =
-        let u = reads_u32.takes bytes (n, rest) h d in
-        let falls = falls_of before n rest left o in
-        subst (λ (k : Fault). IsStuckBy spelled_text (FitsName (Some before)) FitsText bytes k.left) (err_is {A = List ℕ × List ℕ} (record { left = left; kind = bad.Tag }) f (rw (lt-ltb g.left left lt) at e))
-        (fall_stuck before bytes n rest left u.0.parts u.1 falls (begins_fault bytes g left h r lt))
-    by (inr le) =
-        text_part_stuck (Some before) bytes f h (r ∙ (rw (le-ltb g.left left le) at e))
-
-name_by : (before : Option (List ℕ)) (bytes : List ℕ) (f : Fault) → AreBytes bytes → (n : Part ℕ) → number_at w32 bytes ≡ n → (o : Option ℕ) → fall_behind before n ≡ o → in_order o (text_at bytes) ≡ Err f → IsStuckBy spelled_text (FitsName before) FitsText bytes f.left
-name_by before bytes f h n d None o e = text_part_stuck before bytes f h e
-name_by None bytes f h (Ok n) d (Some left) o e = absurd cc
-name_by (Some before) bytes f h (Ok n) d (Some left) o e = fall_first before bytes f n.0 n.1 left h d o (text_at bytes) refl e
-name_by before bytes f h (Err g) d (Some left) o e = absurd cc
-
-name_stuck : (before : Option (List ℕ)) (bytes : List ℕ) (f : Fault) → AreBytes bytes → name_at before bytes ≡ Err f → IsStuckBy spelled_text (FitsName before) FitsText bytes f.left
-name_stuck before bytes f h e = name_by before bytes f h (number_at w32 bytes) refl (fall_behind before (number_at w32 bytes)) refl e
-
-reads_name : (before : Option (List ℕ)) → ReadsBy spelled_text (FitsName before) FitsText (name_at before)
-reads_name before = record {
-  takes = name_takes before;
-  again = name_again before;
-  stuck = name_stuck before;
-  some = reads_text.some;
-  bytes = λ x f. reads_text.bytes x f.0;
-  loosen = λ x f. f.0;
-}
+use Rattle.slee_effect.proofs.PieceLemmas.{reads_val, example_val}
 
 -- ---- fields, one after the other
 
 abbrev FitsRow : Option (List ℕ) → List ℕ × Val → Type 0
 FitsRow before row = FitsName before row.0 × FitsVal row.1
 
-reads_row : (before : Option (List ℕ)) → ReadsBy spelled_field (FitsRow before) FitsField (field_at before)
-reads_row before = reads_pair spelled_text (FitsName before) FitsText (name_at before) spelled_val FitsVal FitsVal val_at (reads_name before) reads_val
+abbrev LooseRow : Option (List ℕ) → List ℕ × Val → Type 0
+LooseRow before row = LooseName before row.0 × FitsVal row.1
+
+reads_row : (before : Option (List ℕ)) → ReadsBy spelled_field (FitsRow before) (LooseRow before) (field_at before)
+reads_row before = reads_pair spelled_text (FitsName before) (LooseName before) (name_at before) spelled_val FitsVal FitsVal val_at (reads_name before) reads_val
+
+and_both : (a b : Bool) → (a && b) ≡ true → (a ≡ true) × (b ≡ true)
+and_both true b e = (refl, e)
+and_both false b e = absurd cc
 
 -- whether the names rise, and behind the one before
 abbrev rises_behind : Option (List ℕ) → List (List ℕ) → Bool
 rises_behind None names = rises names
 rises_behind (Some before) names = rises (before ∷ names)
 
-abbrev LooseRows : ℕ → List (List ℕ × Val) → Type 0
-LooseRows n rows = (length rows ≡ n) × AllByRecursion FitsField rows
+-- the same, but behind a name that leaves no room
+abbrev LooseBehind : Option (List ℕ) → List (List ℕ) → Type 0
+LooseBehind before [] = ⊤
+LooseBehind before (name ∷ names) = Climbs before name × RiseLoosely (name ∷ names)
+
+abbrev LooseRows : ℕ → Option (List ℕ) → List (List ℕ × Val) → Type 0
+LooseRows n before rows = (length rows ≡ n) × (AllByRecursion FitsField rows × LooseBehind before (names_of rows))
 
 abbrev FitsRows : ℕ → Option (List ℕ) → List (List ℕ × Val) → Type 0
 FitsRows n before rows = (length rows ≡ n) × (AllByRecursion FitsField rows × (rises_behind before (names_of rows) ≡ true))
@@ -178,6 +55,24 @@ no_rows : (before : Option (List ℕ)) → rises_behind before [] ≡ true
 no_rows None = refl
 no_rows (Some before) = refl
 
+rise_on : (name : List ℕ) (names : List (List ℕ)) → FitsText name → LooseBehind (Some name) names → RiseLoosely (name ∷ names)
+rise_on name [] t l = tt
+rise_on name (next ∷ names) t l = (l.0 t.utf8, l.1)
+
+pub rise_loosely : (names : List (List ℕ)) → rises names ≡ true → RiseLoosely names
+rise_loosely [] e = tt
+rise_loosely (x ∷ []) e = tt
+rise_loosely (x ∷ y ∷ names) e = (let b = and_both (is_below x y) (rises (y ∷ names)) e in (λ room. b.0, rise_loosely (y ∷ names) b.1))
+
+loosely : (before : Option (List ℕ)) (names : List (List ℕ)) → rises_behind before names ≡ true → LooseBehind before names
+loosely before [] e = tt
+loosely None (name ∷ names) e = (tt, rise_loosely (name ∷ names) e)
+loosely (Some before) (name ∷ names) e = (let b = and_both (is_below before name) (rises (name ∷ names)) e in (λ u room. b.0, rise_loosely (name ∷ names) b.1))
+
+behind_none : (names : List (List ℕ)) → LooseBehind None names → RiseLoosely names
+behind_none [] l = tt
+behind_none (name ∷ names) l = l.1
+
 nil_of : (rows : List (List ℕ × Val)) → length rows ≡ 0 → rows ≡ []
 nil_of [] e = refl
 nil_of (r ∷ rows) e = absurd (omega arith)
@@ -185,10 +80,6 @@ nil_of (r ∷ rows) e = absurd (omega arith)
 abbrev first_row : List (List ℕ × Val) → (List ℕ × Val) × List (List ℕ × Val)
 first_row [] = (([], example_val), [])
 first_row (r ∷ rows) = (r, rows)
-
-and_both : (a b : Bool) → (a && b) ≡ true → (a ≡ true) × (b ≡ true)
-and_both true b e = (refl, e)
-and_both false b e = absurd cc
 
 both_and : (a b : Bool) → a ≡ true → b ≡ true → (a && b) ≡ true
 both_and true b p q = q
@@ -208,7 +99,7 @@ Row = List ℕ × Val
 abbrev join_rows : Row × List Row → List Row
 join_rows p = p.0 ∷ p.1
 
-module _ (n : ℕ) (before : Option (List ℕ)) (next : (name : Option (List ℕ)) → ReadsBy spelled_rows (FitsRows n name) (LooseRows n) (rows_at n name)) where
+module _ (n : ℕ) (before : Option (List ℕ)) (next : (name : Option (List ℕ)) → ReadsBy spelled_rows (FitsRows n name) (LooseRows n name) (rows_at n name)) where
   abbrev rest_at : Row → List ℕ → Part (List Row)
   rest_at row bytes = rows_at n (Some row.0) bytes
 
@@ -219,16 +110,16 @@ module _ (n : ℕ) (before : Option (List ℕ)) (next : (name : Option (List ℕ
   fits_two = fits_after (FitsRow before) (λ row. FitsRows n (Some row.0))
 
   abbrev loose_two : Row × List Row → Type 0
-  loose_two = fits_after FitsField (λ row. LooseRows n)
+  loose_two = fits_after (LooseRow before) (λ row. LooseRows n (Some row.0))
 
   reads_two : ReadsBy spell_two fits_two loose_two (after (field_at before) rest_at)
-  reads_two = reads_after spelled_field (FitsRow before) FitsField (field_at before) spelled_rows (λ row. FitsRows n (Some row.0)) (λ row. LooseRows n) rest_at (reads_row before) (λ row. next (Some row.0))
+  reads_two = reads_after spelled_field (FitsRow before) (LooseRow before) (field_at before) spelled_rows (λ row. FitsRows n (Some row.0)) (λ row. LooseRows n (Some row.0)) rest_at (reads_row before) (λ row. next (Some row.0))
 
   two_fit : (p : Row × List Row) → fits_two p → FitsRows (suc n) before (join_rows p)
   two_fit p f = (ap suc f.1.0, (((f.0.0.0, f.0.1), f.1.1.0), behind_both before p.0.0 (names_of p.1) f.0.0.1 f.1.1.1))
 
-  two_loose : (p : Row × List Row) → loose_two p → LooseRows (suc n) (join_rows p)
-  two_loose p f = (ap suc f.1.0, (f.0, f.1.1))
+  two_loose : (p : Row × List Row) → loose_two p → LooseRows (suc n) before (join_rows p)
+  two_loose p f = (ap suc f.1.0, (((f.0.0.0, f.0.1), f.1.1.0), (f.0.0.1, rise_on p.0.0 (names_of p.1) f.0.0.0 f.1.1.1)))
 
   first_spells : (rows : List Row) → FitsRows (suc n) before rows → spell_two (first_row rows) ≡ spelled_rows rows
   first_spells [] f = absurd (omega (arith, f.0))
@@ -244,41 +135,41 @@ module _ (n : ℕ) (before : Option (List ℕ)) (next : (name : Option (List ℕ
   first_back [] f = absurd (omega (arith, f.0))
   first_back (r ∷ rows) f = refl
 
-  reads_more : ReadsBy spelled_rows (FitsRows (suc n) before) (LooseRows (suc n)) (mapped join_rows (after (field_at before) rest_at))
-  reads_more = reads_made join_rows first_row spell_two fits_two loose_two spelled_rows (FitsRows (suc n) before) (LooseRows (suc n)) (after (field_at before) rest_at)
+  reads_more : ReadsBy spelled_rows (FitsRows (suc n) before) (LooseRows (suc n) before) (mapped join_rows (after (field_at before) rest_at))
+  reads_more = reads_made join_rows first_row spell_two fits_two loose_two spelled_rows (FitsRows (suc n) before) (LooseRows (suc n) before) (after (field_at before) rest_at)
       (λ p f. flat_map-cons spelled_field p.0 p.1) two_fit two_loose first_spells first_fits first_back reads_two
 
   more_same : (bytes : List ℕ) → rows_at (suc n) before bytes ≡ mapped join_rows (after (field_at before) rest_at) bytes
   unfolding rows_at
   more_same bytes = same_cons (field_at before bytes) rest_at
 
-  pub reads_rows_suc : ReadsBy spelled_rows (FitsRows (suc n) before) (LooseRows (suc n)) (rows_at (suc n) before)
-  reads_rows_suc = reads_same spelled_rows (FitsRows (suc n) before) (LooseRows (suc n)) (mapped join_rows (after (field_at before) rest_at)) (rows_at (suc n) before) more_same reads_more
+  pub reads_rows_suc : ReadsBy spelled_rows (FitsRows (suc n) before) (LooseRows (suc n) before) (rows_at (suc n) before)
+  reads_rows_suc = reads_same spelled_rows (FitsRows (suc n) before) (LooseRows (suc n) before) (mapped join_rows (after (field_at before) rest_at)) (rows_at (suc n) before) more_same reads_more
 
-reads_rows_zero : (before : Option (List ℕ)) → ReadsBy spelled_rows (FitsRows 0 before) (LooseRows 0) (rows_at 0 before)
+reads_rows_zero : (before : Option (List ℕ)) → ReadsBy spelled_rows (FitsRows 0 before) (LooseRows 0 before) (rows_at 0 before)
 unfolding rows_at
 reads_rows_zero before = record {
   takes = λ bytes x h e. subst (λ (z : List Row × List ℕ). Takes bytes (spelled_rows z.0) z.1 × FitsRows 0 before z.0) (ok_is ([], bytes) x e) (record { parts = refl; rest_bytes = h }, (refl, (tt, no_rows before)));
   again = λ x rest f. subst (λ (z : List Row). zero_at (spelled_rows z ++ rest) ≡ Ok (z, rest)) (sym (nil_of x f.0)) refl;
   stuck = λ bytes f h e. absurd cc;
-  some = ([], [], (refl, tt), refl);
+  some = ([], [], (refl, (tt, tt)), refl);
   bytes = λ x f. subst (λ (z : List Row). AreBytes (spelled_rows z)) (sym (nil_of x f.0)) tt;
-  loosen = λ x f. (f.0, f.1.0);
+  loosen = λ x f. (f.0, (f.1.0, loosely before (names_of x) f.1.1));
 }
   where
     zero_at : List ℕ → Part (List Row)
     zero_at bytes = Ok ([], bytes)
 
-reads_rows : (n : ℕ) (before : Option (List ℕ)) → ReadsBy spelled_rows (FitsRows n before) (LooseRows n) (rows_at n before)
+reads_rows : (n : ℕ) (before : Option (List ℕ)) → ReadsBy spelled_rows (FitsRows n before) (LooseRows n before) (rows_at n before)
 reads_rows zero before = reads_rows_zero before
 reads_rows (suc n) before = reads_rows_suc n before (λ name. reads_rows n name)
 
-pub reads_fields : ReadsBy spelled_fields AreRisingFields AreFields fields_at
-reads_fields = reads_refit spelled_fields (λ rows. (length rows < 2 ^ 32) × (AllByRecursion FitsField rows × (rises (names_of rows) ≡ true))) AreFields AreRisingFields AreFields fields_at
+pub reads_fields : ReadsBy spelled_fields AreRisingFields AreLooseFields fields_at
+reads_fields = reads_refit spelled_fields (λ rows. (length rows < 2 ^ 32) × (AllByRecursion FitsField rows × (rises (names_of rows) ≡ true))) (λ rows. (length rows < 2 ^ 32) × (AllByRecursion FitsField rows × LooseBehind None (names_of rows))) AreRisingFields AreLooseFields fields_at
     (λ rows f. ((f.0, f.1.0), f.1.1))
     (λ rows f. (f.0.0, (f.0.1, f.1)))
-    (λ rows f. f)
-    (reads_counted spelled_rows (λ rows. AllByRecursion FitsField rows × (rises (names_of rows) ≡ true)) (λ rows. AllByRecursion FitsField rows) (λ n. rows_at n None) (λ n. reads_rows n None))
+    (λ rows f. ((f.0, f.1.0), behind_none (names_of rows) f.1.1))
+    (reads_counted spelled_rows (λ rows. AllByRecursion FitsField rows × (rises (names_of rows) ≡ true)) (λ rows. AllByRecursion FitsField rows × LooseBehind None (names_of rows)) (λ n. rows_at n None) (λ n. reads_rows n None))
 
 -- what the fields that were read are
 pub fields_rise : (bytes : List ℕ) (n : ℕ) (rest : List ℕ) (x : List Row × List ℕ) → AreBytes bytes → number_at w32 bytes ≡ Ok (n, rest) → rows_at n None rest ≡ Ok x → rises (names_of x.0) ≡ true

@@ -1,13 +1,12 @@
 -- Lists of effects are read as they are spelled, and the answers of reading them.
-use Rattle.std.proofs.Common.{◌≡◌, ℕ, zero, suc, ◌+◌, ◌-◌, ◌^◌, ◌<◌, ◌≤◌, Bool, true, false, cond, eqb, List, [], ◌∷◌, ◌++◌, length, take, drop, Result, Ok, Err, refl, sym, ap, subst, ◌∙◌, append_assoc, arith, inl, inr, ◌⊎◌}
-use Rattle.std.specs.Int.{w32}
+use Rattle.std.proofs.Common.{◌≡◌, ℕ, zero, suc, ◌+◌, ◌-◌, ◌<◌, ◌≤◌, Bool, true, false, cond, eqb, List, [], ◌∷◌, ◌++◌, length, take, Result, Ok, Err, refl, sym, ap, subst, ◌∙◌, append_assoc, arith, inl, inr}
 use Rattle.std.specs.List.{flat_map, AllByRecursion}
-use Rattle.std.proofs.lemmas.Bool.{eqb-true, eqb-false, eq-eqb}
+use Rattle.std.proofs.lemmas.Bool.{eqb-true}
 use Rattle.std.proofs.lemmas.List.{append-nil, take_at, length-append, nil_from_length}
 use Rattle.std.proofs.lemmas.List.Concat.{flat_map-cons}
 use Rattle.slee_value.specs.declared.fault.ValueBad.TheVariants as bad
-use Rattle.slee_value.specs.Reading.{Fault, Part, ◌>>=◌, mapped, number_at}
-use Rattle.slee_value.proofs.ReadLemmas.{AreBytes, Takes, Begins, IsStuckBy, ReadsBy, bind_ok, bind_err, ok_is, err_is, not_both, done}
+use Rattle.slee_value.specs.Reading.{Fault, Part, ◌>>=◌, mapped}
+use Rattle.slee_value.proofs.ReadLemmas.{AreBytes, Takes, Begins, IsStuckBy, ReadsBy, bind_ok, bind_err, ok_is, done}
 use Rattle.slee_effect.specs.declared.effect.Effect.{Effect}
 use Rattle.slee_effect.specs.declared.effect.Effect.TheVariants.{NewNull}
 use Rattle.slee_effect.specs.Bytes.{spelled_effect, spelling_of_effects}

@@ -1,9 +1,9 @@
 -- Reading one after the other, as a loop does.
-use Rattle.std.proofs.Common.{◌≡◌, ℕ, suc, ◌-◌, ◌+◌, ◌≤◌, ◌<◌, List, [], ◌∷◌, ◌++◌, Option, Some, None, Result, Ok, Err, refl, sym, ap, ◌∙◌, append_assoc, arith}
+use Rattle.std.proofs.Common.{◌≡◌, ℕ, suc, ◌-◌, ◌+◌, ◌≤◌, ◌<◌, List, [], ◌∷◌, ◌++◌, Option, Some, Ok, Err, refl, sym, ap, ◌∙◌, append_assoc, arith}
 use Rattle.std.proofs.lemmas.List.{append-nil}
 use Rattle.slee_value.specs.declared.fault.PartFault.{PartFault}
 use Rattle.slee_value.specs.declared.fault.PartFault.TheVariants as parts
-use Rattle.slee_value.specs.Reading.{Fault, Part, ◌>>=◌, Fails}
+use Rattle.slee_value.specs.Reading.{Part, ◌>>=◌, Fails}
 use Rattle.slee_effect.specs.declared.value.Val.{Val}
 use Rattle.slee_effect.specs.declared.effect.Effect.{Effect}
 use Rattle.slee_effect.specs.Reading.{effect_at, items_at, field_at, rows_at}

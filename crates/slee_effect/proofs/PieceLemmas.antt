@@ -1,5 +1,5 @@
 -- The parts of effects are read as they are spelled.
-use Rattle.std.proofs.Common.{◌≡◌, ℕ, zero, suc, ◌+◌, ◌^◌, ◌<◌, ℤ, Bool, List, [], ◌∷◌, ◌++◌, length, Option, Some, None, Result, Ok, Err, refl, sym, ap, subst, ◌∙◌, arith, FitsSigned, Fits}
+use Rattle.std.proofs.Common.{◌≡◌, ℕ, zero, suc, ◌^◌, ◌<◌, List, [], ◌∷◌, ◌++◌, length, Option, Some, None, Ok, Err, refl, ap, subst, arith, FitsSigned}
 use Rattle.std.specs.Prelude.{⊤}
 use Rattle.std.specs.Int.{w8, w32, w64, cast_signed, cast_unsigned}
 use Rattle.std.proofs.lemmas.Int.{of_z-to_z, to_z-of_z}
@@ -7,10 +7,9 @@ use Rattle.std.proofs.Math.Facts.{sfits_to_z, Fits-of_z}
 use Rattle.slee_value.specs.declared.keep.Keep.{Keep}
 use Rattle.slee_value.specs.declared.keep.Keep.TheVariants.{All, Last, NoneMissed}
 use Rattle.slee_value.specs.declared.fault.ValueBad.TheVariants as bad
-use Rattle.slee_value.specs.declared.value.Value.{Value}
 use Rattle.slee_value.specs.Bytes.{spelled_u32, spelled_u64, spelled_text, spelling_of_value, FitsText, Fits as FitsValue}
-use Rattle.slee_value.specs.Reading.{Fault, Part, number_at, text_at, value_at}
-use Rattle.slee_value.proofs.ReadLemmas.{AreBytes, Takes, Begins, IsStuck, Reads, ReadsBy, reads_mapped, IsCase, case_takes, case_again, case_bytes, case_stuck, no_case, no_bytes, ok_is, err_is}
+use Rattle.slee_value.specs.Reading.{Fault, number_at, text_at, value_at}
+use Rattle.slee_value.proofs.ReadLemmas.{AreBytes, Takes, Begins, IsStuck, Reads, reads_mapped, IsCase, case_takes, case_again, case_bytes, case_stuck, no_case, no_bytes, ok_is, err_is}
 use Rattle.slee_value.proofs.PartLemmas.{reads_u32, reads_u64}
 use Rattle.slee_value.proofs.TextPartLemmas.{reads_text}
 use Rattle.slee_value.proofs.ValueLemmas.{reads_value}

@@ -1,10 +1,10 @@
 -- Readings one after the other, the second by what the first gave, and readings made into others.
-use Rattle.std.proofs.Common.{◌≡◌, ℕ, zero, suc, ◌+◌, ◌^◌, ◌<◌, ◌≤◌, List, [], ◌∷◌, ◌++◌, length, Result, Ok, Err, refl, sym, ap, subst, ◌∙◌, append_assoc, arith, inl, inr, ◌⊎◌}
+use Rattle.std.proofs.Common.{◌≡◌, ℕ, ◌^◌, ◌<◌, List, [], ◌∷◌, ◌++◌, length, Ok, Err, refl, sym, ap, subst, ◌∙◌, append_assoc, inl, inr}
 use Rattle.std.specs.Int.{w32}
 use Rattle.slee_value.specs.Bytes.{spelled_u32}
 use Rattle.slee_value.specs.Reading.{Fault, Part, ◌>>=◌, mapped, number_at}
 use Rattle.slee_value.proofs.PartLemmas.{reads_u32}
-use Rattle.slee_value.proofs.ReadLemmas.{AreBytes, bytes_append, bind_ok, bind_err, done, ok_is, not_both, fronts, Takes, Takes-then, Begins, IsStuckBy, ReadsBy}
+use Rattle.slee_value.proofs.ReadLemmas.{AreBytes, bytes_append, bind_ok, bind_err, done, ok_is, not_both, fronts, Takes, Takes-then, IsStuckBy, ReadsBy}
 
 -- the same reading, written otherwise
 pub reads_same : {A : Type 0} (spell : A → List ℕ) (fits loose : A → Type 0) (read other : List ℕ → Part A) → ((bytes : List ℕ) → other bytes ≡ read bytes) → ReadsBy spell fits loose read → ReadsBy spell fits loose other

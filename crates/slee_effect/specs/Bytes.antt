@@ -1,12 +1,10 @@
 -- The bytes of effects. Numbers have their low byte first, and a list begins with its count.
-use Rattle.std.specs.Prelude.{◌≡◌, ℕ, ◌<◌, ◌^◌, ℤ, Bool, List, [], ◌∷◌, ◌++◌, length, Option, Some, None, FitsSigned, IsTrue, ⊤}
-use Rattle.std.specs.Int.{w8, w64, cast_unsigned}
+use Rattle.std.specs.Prelude.{ℕ, ◌<◌, ◌^◌, ℤ, List, [], ◌∷◌, ◌++◌, length, Option, Some, None, ⊤}
+use Rattle.std.specs.Int.{w8, cast_unsigned}
 use Rattle.std.specs.List.{flat_map, AllByRecursion}
-use Rattle.slee_value.specs.declared.value.Value.{Value}
 use Rattle.slee_value.specs.declared.keep.Keep.{Keep}
 use Rattle.slee_value.specs.declared.keep.Keep.TheVariants.{All, Last, NoneMissed}
-use Rattle.slee_value.specs.Order.{rises, names_of}
-use Rattle.slee_value.specs.Bytes.{spelled_u32, spelled_u64, spelled_i64, spelled_text, spelled_flag, spelling_of_value, FitsText, Fits, IsShort}
+use Rattle.slee_value.specs.Bytes.{spelled_u32, spelled_u64, spelled_i64, spelled_text, spelled_flag, spelling_of_value, IsShort}
 use Rattle.slee_effect.specs.declared.reference.Ref.{Ref}
 use Rattle.slee_effect.specs.declared.reference.Ref.TheVariants.{Known, Fresh}
 use Rattle.slee_effect.specs.declared.value.Val.{Val}

@@ -1,8 +1,8 @@
 -- Which effects have bytes.
-use Rattle.std.specs.Prelude.{ℕ, ◌<◌, ◌^◌, ℤ, List, length, Option, Some, None, FitsSigned, IsTrue, ⊤}
+use Rattle.std.specs.Prelude.{◌+◌, [], ◌∷◌, ℕ, ◌<◌, ◌^◌, List, length, Option, Some, None, FitsSigned, IsTrue, ⊤}
 use Rattle.std.specs.Int.{w8, w64}
 use Rattle.std.specs.List.{AllByRecursion}
-use Rattle.slee_value.specs.Order.{rises, names_of}
+use Rattle.slee_value.specs.Order.{is_below, rises, names_of}
 use Rattle.slee_value.specs.Bytes.{FitsText, Fits}
 use Rattle.slee_effect.specs.declared.reference.Ref.{Ref}
 use Rattle.slee_effect.specs.declared.reference.Ref.TheVariants.{Known, Fresh}
@@ -27,12 +27,21 @@ FitsOption (Some text) = FitsText text
 abbrev pub FitsField : List ℕ × Val → Type 0
 FitsField field = FitsText field.0 × FitsVal field.1
 
--- fields whose names may stand in any order, and fields whose names rise
+-- fields whatever their names are, and fields whose names rise
 abbrev pub AreFields : List (List ℕ × Val) → Type 0
 AreFields fields = (length fields < 2 ^ 32) × AllByRecursion FitsField fields
 
 abbrev pub AreRisingFields : List (List ℕ × Val) → Type 0
 AreRisingFields fields = AreFields fields × IsTrue (rises (names_of fields))
+
+-- each name comes after the one before, unless that has the greatest length that a name can have
+abbrev pub RiseLoosely : List (List ℕ) → Type 0
+RiseLoosely [] = ⊤
+RiseLoosely (x ∷ []) = ⊤
+RiseLoosely (x ∷ y ∷ names) = (length x + 1 < 2 ^ 32 → IsTrue (is_below x y)) × RiseLoosely (y ∷ names)
+
+abbrev pub AreLooseFields : List (List ℕ × Val) → Type 0
+AreLooseFields fields = AreFields fields × RiseLoosely (names_of fields)
 
 -- each part of the effect is in the range of its type, and its fields are as asked
 abbrev pub FitsBy : (List (List ℕ × Val) → Type 0) → Effect → Type 0
@@ -57,9 +66,9 @@ FitsBy FieldsFit (Usage entity name amount) = FitsRef entity × (FitsText name �
 abbrev pub FitsEffect : Effect → Type 0
 FitsEffect = FitsBy AreRisingFields
 
--- the same, but the names of an event's fields may stand in any order
+-- the same, but behind a name of the greatest length any may stand
 abbrev pub IsLooseEffect : Effect → Type 0
-IsLooseEffect = FitsBy AreFields
+IsLooseEffect = FitsBy AreLooseFields
 
 -- a list that has bytes
 abbrev pub FitEffects : List Effect → Type 0

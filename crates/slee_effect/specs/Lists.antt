@@ -14,14 +14,15 @@ IsRead effects (Ok read) = read ≡ effects
 IsRead effects (Err NoMemory) = Unit {0}
 IsRead effects (Err (Bad at)) = ⊥
 
--- some list's bytes are these and more; the same where names may stand in any order
+-- some list's bytes are these and more; the same where any name may stand behind one of the greatest length
 abbrev pub BeginsList : List ℕ → Type 0
 BeginsList front = (effects : List Effect) × (more : List ℕ) × FitEffects effects × (spelling_of_effects effects ≡ front ++ more)
 
 abbrev pub BeginsLooseList : List ℕ → Type 0
 BeginsLooseList front = (effects : List Effect) × (more : List ℕ) × AreLooseEffects effects × (spelling_of_effects effects ≡ front ++ more)
 
--- No list begins with the bytes up to and with this one. Those before it begin a list, but for the order of names.
+-- No list begins with the bytes up to and with this one. Those before it begin a list, but for names behind one
+-- of the greatest length.
 pub record IsFirstBad (bytes : List ℕ) (at : ℕ) : Type 0 where
   pub within : at ≤ length bytes
   pub begins : BeginsLooseList (take at bytes)

@@ -1,10 +1,11 @@
 -- Reading effects from left to right. A fault is how many bytes are left from the first one that can't go on.
-use Rattle.std.specs.Prelude.{◌≡◌, ℕ, zero, suc, ◌+◌, ◌-◌, ◌<◌, ℤ, Bool, List, [], ◌∷◌, length, Option, Some, None, Result, Ok, Err, nat_lt, ◌==◌, if◌then◌else◌, slice_index_or, slice_get, option_map}
+use Rattle.std.specs.Prelude.{ℕ, zero, suc, ◌+◌, ◌-◌, ℤ, List, [], ◌∷◌, length, Option, Some, None, Result, Ok, Err, nat_lt, ◌==◌, if◌then◌else◌, slice_index_or, slice_get, option_map}
 use Rattle.std.specs.Int.{w8, w32, w64, cast_signed}
 use Rattle.slee_value.specs.declared.keep.Keep.{Keep}
 use Rattle.slee_value.specs.declared.keep.Keep.TheVariants.{All, Last, NoneMissed}
 use Rattle.slee_value.specs.declared.fault.ValueBad.TheVariants as bad
 use Rattle.slee_value.specs.Reading.{Fault, Part, ◌>>=◌, mapped, pair, refuse, ended, number_at, i64_at, flag_at, text_at, value_at}
+use Rattle.slee_effect.specs.Rising.{name_fall}
 use Rattle.slee_effect.specs.declared.reference.Ref.{Ref}
 use Rattle.slee_effect.specs.declared.reference.Ref.TheVariants.{Known, Fresh}
 use Rattle.slee_effect.specs.declared.value.Val.{Val}
@@ -53,21 +54,10 @@ val_at (suc zero ∷ rest) = mapped (λ place. NewActivity place) (number_at w32
 val_at (suc (suc zero) ∷ rest) = mapped (λ place. NewTimer place) (number_at w32) rest
 val_at (suc (suc (suc b)) ∷ rest) = stray (suc (suc (suc b)) ∷ rest)
 
--- Where a name of this length, which the bytes begin with, can't rise above the one before: at the first
--- byte below its own, or at the last byte of a name that is a front of it. Nothing while it may still rise.
-abbrev pub fall : List ℕ → ℕ → List ℕ → Option ℕ
-fall before zero bytes = Some (length bytes + 1)
-fall [] (suc n) bytes = None
-fall (p ∷ ps) (suc n) [] = None
-fall (p ∷ ps) (suc n) (b ∷ bs) = if nat_lt b p then Some (length (b ∷ bs)) else (if nat_lt p b then None else fall ps n bs)
-
-abbrev pub fall_after : Option (List ℕ) → ℕ → List ℕ → Option ℕ
-fall_after None len bytes = None
-fall_after (Some before) len bytes = fall before len bytes
-
-abbrev pub fall_behind : Option (List ℕ) → Part ℕ → Option ℕ
-fall_behind before (Ok len) = fall_after before len.0 len.1
-fall_behind before (Err f) = None
+-- where a name can't go on to come after the one before, if there is one
+abbrev pub fall_behind : Option (List ℕ) → List ℕ → Option ℕ
+fall_behind None bytes = None
+fall_behind (Some before) bytes = name_fall before [] 4 bytes
 
 -- the fault that stands first
 abbrev pub in_order : {A : Type 0} → Option ℕ → Part A → Part A
@@ -77,7 +67,7 @@ in_order (Some left) (Err f) = if nat_lt f.left left then Err (record { left = l
 
 -- a name that comes after the one before, if there is one
 abbrev pub name_at : Option (List ℕ) → List ℕ → Part (List ℕ)
-name_at before bytes = in_order (fall_behind before (number_at w32 bytes)) (text_at bytes)
+name_at before bytes = in_order (fall_behind before bytes) (text_at bytes)
 
 abbrev pub field_at : Option (List ℕ) → List ℕ → Part (List ℕ × Val)
 field_at before = pair (name_at before) val_at

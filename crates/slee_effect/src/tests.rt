@@ -20,6 +20,27 @@ const TWO_FIELDS: [u8; 32] = [
     2, 1,
 ];
 
+// A mask of the event `e`, and a timer.
+const MASK: [u8; 21] = [
+    1, 0, 0, 0, 8, 1, 1, 0, 0, 0, 1, 0, 0, 0, 0, 1, 0, 0, 0, 0x65, 1,
+];
+
+const TIMER: [u8; 35] = [
+    1, 0, 0, 0, 12, 1, 0, 0, 0, 0, 1, 0, 0, 0, 0, 0, 0, 0, 2, 0, 0, 0, 0, 0, 0, 0, 3, 0, 0, 0, 0,
+    0, 0, 0, 1,
+];
+
+// A fire for the service `s` with the field `a`, and one for all with the fields `a` and `b`.
+const SERVED: [u8; 35] = [
+    1, 0, 0, 0, 9, 1, 0, 0, 0, 0, 1, 0, 0, 0, 0x65, 1, 1, 0, 0, 0, 0x73, 1, 0, 0, 0, 1, 0, 0, 0,
+    0x61, 2, 5, 0, 0, 0,
+];
+
+const FIRED: [u8; 42] = [
+    1, 0, 0, 0, 9, 0, 1, 0, 0, 0, 0, 0, 0, 0, 1, 0, 0, 0, 0x65, 0, 2, 0, 0, 0, 1, 0, 0, 0, 0x61, 0,
+    2, 1, 1, 0, 0, 0, 0x62, 1, 3, 0, 0, 0,
+];
+
 fn text(alloc: Global, text: &str) -> Result<Text, NoMemory>
     ensures { IfOk result (λ t. t ≡ text.now) }
 {
@@ -322,6 +343,114 @@ fn names_of_fields_rise(rt: HostRuntime) -> Result<(), Fail> {
 }
 
 #[test]
+fn names_part_in_time(rt: HostRuntime) -> Result<(), Fail> {
+    let alloc = rt.alloc();
+    // a name, the bytes of the one behind it, and which of these is bad
+    let cases: [(&str, &[u8], Option<usize>); 28] = [
+        ("", &[0, 0, 0, 0], Some(3)),
+        ("zz", &[1, 0, 0, 0, 0x7A], Some(4)),
+        ("zz", &[1, 0, 0, 0, 0x7B], None),
+        // the last byte can't be greater, so one before it has to be
+        ("z\u{7F}", &[2, 0, 0, 0, 0x7A], Some(4)),
+        ("z\u{7F}", &[2, 0, 0, 0, 0x7B, 0], None),
+        ("z\u{7F}", &[3, 0, 0, 0, 0x7A, 0x7F, 0], None),
+        ("\u{7F}", &[1, 0, 0, 0, 0x7F], Some(3)),
+        ("\u{7F}\u{7F}", &[2, 0, 0, 0, 0x7F], Some(4)),
+        ("\u{7F}\u{7F}", &[2, 0, 0, 0, 0xC2, 0x80], None),
+        // a character of more bytes has no room
+        ("a€", &[2, 0, 0, 0, 0x61], Some(4)),
+        ("éz", &[1, 0, 0, 0], Some(3)),
+        ("éz", &[2, 0, 0, 0, 0xC3, 0xA9], Some(5)),
+        ("éz", &[2, 0, 0, 0, 0xC3, 0xAA], None),
+        ("\u{7FF}", &[2, 0, 0, 0], Some(3)),
+        ("\u{7FF}", &[3, 0, 0, 0, 0xDF, 0xBF, 0], None),
+        ("\u{D7FF}", &[3, 0, 0, 0, 0xED], Some(4)),
+        ("\u{EFFF}", &[3, 0, 0, 0, 0xEE], Some(4)),
+        ("\u{EFFF}", &[3, 0, 0, 0, 0xEF, 0x80, 0x80], None),
+        ("\u{FFFF}", &[3, 0, 0, 0], Some(3)),
+        ("\u{FFFFF}", &[3, 0, 0, 0], Some(3)),
+        ("\u{FFFFF}", &[4, 0, 0, 0, 0xF3], Some(4)),
+        ("\u{10F03F}", &[4, 0, 0, 0, 0xF4, 0x8F, 0x80], Some(6)),
+        ("\u{10FFC0}", &[4, 0, 0, 0, 0xF4, 0x8F, 0xBF, 0x80], Some(7)),
+        ("\u{10FFFF}", &[4, 0, 0, 0], Some(3)),
+        ("\u{10FFFF}", &[5, 0, 0, 0, 0xF4, 0x8F, 0xBF, 0xBF, 0], None),
+        (
+            "\u{10FFFF}~",
+            &[5, 0, 0, 0, 0xF4, 0x8F, 0xBF, 0xBF, 0x7E],
+            Some(8),
+        ),
+        ("\u{10FFFF}\u{7F}", &[5, 0, 0, 0], Some(3)),
+        // more bytes are counted than there are
+        ("\u{7F}", &[255, 255, 255, 255, 0x7F], Some(5)),
+    ];
+    for (before, name, at) in cases {
+        let (front, _) = TWO_FIELDS.split_at(24);
+        let mut bytes = Vec::from_slice(alloc, front)?;
+        bytes.extend_from_slice(&before.len().to_le_bytes()[..4])?;
+        bytes.extend_from_slice(before.as_bytes())?;
+        bytes.extend_from_slice(&[0, 2, 1])?;
+        let start = bytes.len();
+        bytes.extend_from_slice(name)?;
+        if at.is_none() {
+            bytes.extend_from_slice(&[0, 2, 1])?;
+        }
+        let bad = place(alloc, &bytes)?;
+        assert_eq!(rt;
+            bad,
+            at.and_then(|at| at.checked_add(start)),
+            "{before:?} {name:?}"
+        );
+    }
+    Ok(())
+}
+
+#[test]
+fn changed_bytes(rt: HostRuntime) -> Result<(), Fail> {
+    let alloc = rt.alloc();
+    // a list, which byte of it is set to what, and where it is bad then
+    let cases: [(&[u8], usize, u8, usize); 27] = [
+        (&ONE_FIELD, 0, 0, 4),
+        (&ONE_FIELD, 0, 2, 29),
+        (&ONE_FIELD, 4, 0, 4),
+        (&ONE_FIELD, 4, 18, 4),
+        // a new entity with an empty name, and the value is a new activity
+        (&ONE_FIELD, 5, 1, 19),
+        (&ONE_FIELD, 5, 2, 5),
+        // the name takes a byte of the value, which is an empty text
+        (&ONE_FIELD, 14, 2, 26),
+        (&ONE_FIELD, 18, 0xC3, 18),
+        (&ONE_FIELD, 18, 0xFF, 18),
+        (&ONE_FIELD, 19, 3, 19),
+        (&ONE_FIELD, 20, 2, 22),
+        (&ONE_FIELD, 20, 5, 20),
+        (&MASK, 10, 2, 10),
+        (&MASK, 20, 2, 20),
+        (&TIMER, 34, 3, 34),
+        (&TIMER, 4, 11, 10),
+        (&SERVED, 15, 2, 15),
+        // a field whose name has 371 bytes
+        (&SERVED, 15, 0, 35),
+        (&SERVED, 21, 2, 35),
+        (&SERVED, 30, 3, 30),
+        (&FIRED, 24, 0, 28),
+        (&FIRED, 28, 0x62, 36),
+        (&FIRED, 28, 0x7E, 36),
+        (&FIRED, 28, 0x7F, 35),
+        (&FIRED, 32, 0, 35),
+        (&FIRED, 36, 0x60, 36),
+        (&FIRED, 36, 0x61, 36),
+    ];
+    for (list, changed, to, bad) in cases {
+        let mut bytes = Vec::new(alloc);
+        for (at, byte) in list.iter().enumerate() {
+            bytes.push(if at == changed { to } else { *byte })?;
+        }
+        assert_eq!(rt; place(alloc, &bytes)?, Some(bad), "{bytes:?}");
+    }
+    Ok(())
+}
+
+#[test]
 fn numbers_for_what_is_created(rt: HostRuntime) -> Result<(), Fail> {
     let alloc = rt.alloc();
     let mut effects = Effects::new(alloc);
@@ -369,11 +498,7 @@ fn lists_are_copied(rt: HostRuntime) -> Result<(), Fail> {
         &[
             2, 0, 0, 0, 14, 1, 0, 0, 0, 0x68, 1, 0, 0, 0, 0, 15, 1, 0, 0, 0, 0x68,
         ],
-        // a fire with the fields `a` and `b`
-        &[
-            1, 0, 0, 0, 9, 0, 1, 0, 0, 0, 0, 0, 0, 0, 1, 0, 0, 0, 0x65, 0, 2, 0, 0, 0, 1, 0, 0, 0,
-            0x61, 0, 2, 1, 1, 0, 0, 0, 0x62, 1, 3, 0, 0, 0,
-        ],
+        &FIRED,
     ];
     for bytes in lists {
         let list = read_effects(alloc, bytes)

@@ -1,11 +1,10 @@
-use Rattle.std.proofs.Common.{◌≡◌, ℕ, ◌-◌, List, length, Result, Ok, Err, ap, sym, subst, ◌∙◌, arith}
+use Rattle.std.proofs.Common.{◌≡◌, ℕ, ◌-◌, List, length, Result, Err, ap, sym, subst, ◌∙◌, arith}
 use Rattle.slee_value.specs.declared.fault.ValueBad.{ValueBad}
 use Rattle.slee_value.specs.Reading.{Fault}
 use Rattle.slee_value.proofs.ReadLemmas.{bytes_from}
 use Rattle.slee_effect.specs.declared.effect.Effect.{Effect}
 use Rattle.slee_effect.specs.Bytes.{spelling_of_effects}
 use Rattle.slee_effect.specs.Fitting.{FitEffects}
-use Rattle.slee_effect.specs.Reading.{list_of}
 use Rattle.slee_effect.proofs.ListLemmas.{list_takes, list_stuck, list_is, no_fault}
 use Rattle.slee_effect.proofs.reading.read_effects.Goals as goal
 

@@ -1,4 +1,3 @@
-use Rattle.std.proofs.Common.{◌≡◌, ◌++◌, ◌∷◌, []}
 use Rattle.std.proofs.lemmas.Result.{err_from_is_err_and}
 use Rattle.slee_effect.specs.Reading.{items_at}
 use Rattle.slee_effect.proofs.Loops.{items_go_on, items_end, items_done}

@@ -1,4 +1,4 @@
-use Rattle.std.proofs.Common.{◌≡◌, ◌++◌, ◌∷◌, [], None, refl}
+use Rattle.std.proofs.Common.{None}
 use Rattle.std.proofs.lemmas.Result.{err_from_is_err_and}
 use Rattle.slee_effect.specs.Reading.{rows_at, last_name}
 use Rattle.slee_effect.proofs.Loops.{rows_go_on, rows_end, rows_done}
