@@ -47,7 +47,8 @@ Statuses, printed last and given as the exit status:
                    differs from this one at byte M
   10 full N M      the journal has N bytes, and M more would be too many: a file
                    has at most 268435456
-  11 steps-spent N N entries were made and more would be left
+  11 steps-spent N N entries were made and more would be left, or the state
+                   is used up
   12 no-memory     memory ran out
   13 too-large signals
                    standard input gave more than 16777216 bytes
