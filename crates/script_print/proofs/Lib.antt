@@ -1,0 +1,4 @@
+pub mod Rows
+pub mod Printed
+pub mod Spelled
+pub mod Levels
