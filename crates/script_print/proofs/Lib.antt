@@ -3,3 +3,5 @@ pub mod Printed
 pub mod Spelled
 pub mod Levels
 pub mod Expressions
+pub mod Statements
+pub mod Activities
