@@ -5,3 +5,4 @@ pub mod Levels
 pub mod Expressions
 pub mod Statements
 pub mod Activities
+pub mod Scripts
