@@ -95,7 +95,7 @@ operand_by true m n d a rest ps is e le again f h = let small = le_is (level a) 
 operand_by false m n d a rest ps is e le again f h =
     ap (λ ts. verdict (Level n ∷ ps) is d (fixed x.OpenRound ∷ ts)) (append_assoc (spell_expression a) (fixed x.CloseRound ∷ []) rest)
     ∙ grouped n a ps is d (spell_expression a) rest (depth_fits a (d + 1) f)
-      (λ ps is. again 8 ps is (d + 1) (fixed x.CloseRound ∷ rest) (level_bound a) f refl)
+    (λ ps is. again 8 ps is (d + 1) (fixed x.CloseRound ∷ rest) (level_bound a) f refl)
 
 operand : (m n d : ℕ) (a : Expression) (rest : List Lexeme) (ps : List Part) (is : List Item) → m ≤ n → Again a → fits (depth_at m a d) a ≡ true → (level a ≤ m → lasts (ends_at (level a)) rest ≡ true) → verdict (Level n ∷ ps) is d (at_level m a (spell_expression a) ++ rest) ≡ verdict (runs n ps) (ATree a ∷ is) d rest
 operand m n d a rest ps is le again f h = operand_by (nat_le (level a) m) m n d a rest ps is refl le again f h
@@ -196,7 +196,7 @@ expression (Binary op a b) = λ n ps is d rest le f h.
     ap (verdict (Level n ∷ ps) is d) (append_assoc left (t.Symbol (s.Operator op) ∷ right) rest)
     ∙ operand (left_level op) n d a (t.Symbol (s.Operator op) ∷ (right ++ rest)) ps is (omega (arith, chain, le)) (expression a) p.0 (λ small. is_le (ends_at (level a)) k (ends_left (level a) k small))
     ∙ operated n op a b ps is d (right ++ rest) rest le h
-      (λ ps is. operand (k - 1) (k - 1) d b rest ps is (omega arith) (expression b) p.1 (λ small. lasts_less (ends_at (level b)) (ends_at k) rest (omega (arith, ends_below (level b) k small, ends_self k)) h))
+    (λ ps is. operand (k - 1) (k - 1) d b rest ps is (omega arith) (expression b) p.1 (λ small. lasts_less (ends_at (level b)) (ends_at k) rest (omega (arith, ends_below (level b) k small, ends_self k)) h))
 expression (Ask query a) = λ n ps is d rest le f h.
     let p = and_parts (query_fits query) (fits (d + 1) a) f in
     ap (verdict (Level n ∷ ps) is d) (append_assoc (before_asked query) (spell_expression a ++ behind_asked query) rest ∙ ap (λ ts. before_asked query ++ ts) (append_assoc (spell_expression a) (behind_asked query) rest))

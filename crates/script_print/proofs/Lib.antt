@@ -6,3 +6,4 @@ pub mod Expressions
 pub mod Statements
 pub mod Activities
 pub mod Scripts
+pub mod Texts

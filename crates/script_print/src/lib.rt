@@ -5,5 +5,8 @@ mod laws;
 mod printing;
 mod speller;
 
-pub use laws::printed_is_read_as_spelled;
+pub use laws::{
+    one_spelling_one_tree, printed_is_read_as_itself, printed_is_read_as_spelled,
+    spelled_is_read_as_itself,
+};
 pub use printing::print;

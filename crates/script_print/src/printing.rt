@@ -1,6 +1,6 @@
-ghost use Rattle.std.specs.Prelude.{◌≡◌, ◌++◌, OnOk, OnErr, IfOk};
+ghost use Rattle.std.specs.Prelude.{◌≡◌, ◌++◌, OnOk, OnErr, IfOk, Ok, length, drop};
 ghost use Rattle.std.specs.List.{flat_map};
-ghost use Rattle.script_tree.specs.Reading.{printed, spaced, lexeme_text, gap};
+ghost use Rattle.script_tree.specs.Reading.{printed, script_read, spaced, lexeme_text, gap};
 ghost use Rattle.script_tree.specs.Script.{tree_of_script};
 ghost use Rattle.script_tree.specs.Words.{quoted, quoted_byte};
 
@@ -9,9 +9,11 @@ use script_tree::{Fixed, Lexeme, Script, Symbol};
 use slee_value::NoMemory;
 use std::alloc::Global;
 
-/// Adds the script's text at the end: its tokens, each with one blank behind it.
+/// Adds the script's text at the end: its tokens, each with one blank behind it. What was added is
+/// read as that very script.
 pub fn print(alloc: Global, script: &Script, into: &mut Vec<u8>) -> Result<(), NoMemory>
     ensures ok { OnOk result (into.new.items ≡ into.old.items ++ printed (tree_of_script script.now)) }
+    ensures again { OnOk result (script_read (drop (length into.old.items) into.new.items) ≡ Ok (tree_of_script script.now)) }
     ensures err { OnErr result (into.new.items ≡ into.old.items) }
 {
     let mut speller = Speller {
