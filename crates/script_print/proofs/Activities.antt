@@ -1,5 +1,5 @@
 -- A statement on activities, or of a timer, as it is spelled, is read as that statement.
-use Rattle.std.proofs.Common.{◌≡◌, ◌≤◌, ◌<◌, ◌+◌, ◌-◌, ℕ, List, [], ◌∷◌, ◌++◌, Option, Some, None, Bool, true, false, ◌&&◌, refl, sym, ap, ◌∙◌, arith, append_assoc}
+use Rattle.std.proofs.Common.{◌≡◌, ◌≤◌, ◌+◌, ◌-◌, ℕ, List, [], ◌∷◌, ◌++◌, Option, Some, None, true, false, ◌&&◌, refl, sym, ap, ◌∙◌, arith, append_assoc}
 use Rattle.std.specs.Prelude.{nat_le}
 use Rattle.std.specs.List.{list_all}
 use Rattle.std.proofs.lemmas.List.{append-nil}
@@ -11,17 +11,16 @@ use Rattle.script_tree.specs.declared.symbol.Fixed.TheVariants as x
 use Rattle.script_tree.specs.declared.symbol.Symbol.TheVariants as s
 use Rattle.script_tree.specs.declared.lexeme.Lexeme.{Lexeme}
 use Rattle.script_tree.specs.declared.lexeme.Lexeme.TheVariants as t
-use Rattle.script_tree.specs.declared.tree.Who.{Who as WhoTree}
 use Rattle.script_tree.specs.declared.tree.Who.TheVariants as w
 use Rattle.script_tree.specs.Words.{is_identifier, is_literal}
 use Rattle.script_tree.specs.Tree as tree
 use Rattle.script_tree.specs.Tree.{Bytes, Expression, OnActivities, SettingTimer, Statement}
-use Rattle.script_tree.specs.Spelling.{fixed, spell_expression, spell_who, spell_service, spell_field, spell_more_fields, spell_fields, spell_on_activities, spell_repeat, keep_token, spell_keep, spell_timer, fits, option_fits, who_fits, field_fits, on_activities_fits, repeat_fits, timer_fits}
+use Rattle.script_tree.specs.Spelling.{fixed, spell_expression, spell_service, spell_field, spell_more_fields, spell_fields, spell_on_activities, spell_repeat, spell_keep, spell_timer, fits, option_fits, who_fits, field_fits, on_activities_fits, repeat_fits, timer_fits}
 use Rattle.script_tree.specs.Grammar.{Part, Item, AName, AText, AWho, ATree, AStatement, ABlock, Make, Attaching, Detaching, Masking, Unmasking, Firing, ForService, WithField, Binding, Repeating, Doing, CountingUsage, Name, Text, Level, One, MoreService, MoreFields, NextField, MoreRepeat, MoreKeep, verdict}
 use Rattle.script_tree.specs.Grammar as g
 use Rattle.script_print.proofs.Levels.{lasts, made}
 use Rattle.script_print.proofs.Expressions.{and_parts, depth_fits, again}
-use Rattle.script_print.proofs.Statements.{three, four, semicolon, last, inner, more, added, Reads}
+use Rattle.script_print.proofs.Statements.{four, semicolon, last, inner, more, added, Reads}
 
 -- ---- firing
 

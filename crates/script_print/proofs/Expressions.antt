@@ -1,10 +1,9 @@
 -- An expression as it is spelled is read as that expression.
-use Rattle.std.proofs.Common.{◌≡◌, ◌≤◌, ◌<◌, ◌+◌, ◌-◌, ℕ, List, [], ◌∷◌, ◌++◌, Bool, true, false, cond, ◌&&◌, refl, sym, ap, ◌∙◌, arith, append_assoc}
-use Rattle.std.specs.Prelude.{nat_le, ◌==◌}
+use Rattle.std.proofs.Common.{◌≡◌, ◌≤◌, ◌+◌, ◌-◌, ℕ, List, [], ◌∷◌, ◌++◌, Bool, true, false, cond, ◌&&◌, refl, ap, ◌∙◌, arith, append_assoc}
+use Rattle.std.specs.Prelude.{nat_le}
 use Rattle.std.proofs.lemmas.Bool.Decides.{nat_tests}
 use Rattle.script_tree.specs.declared.symbol.Operator.{Operator}
 use Rattle.script_tree.specs.declared.symbol.Operator.TheVariants as o
-use Rattle.script_tree.specs.declared.symbol.Function.{Function}
 use Rattle.script_tree.specs.declared.symbol.Fixed.TheVariants as x
 use Rattle.script_tree.specs.declared.symbol.Symbol.TheVariants as s
 use Rattle.script_tree.specs.declared.lexeme.Lexeme.{Lexeme}
@@ -16,10 +15,10 @@ use Rattle.script_tree.specs.declared.tree.Prefix.TheVariants as prefixes
 use Rattle.script_tree.specs.declared.tree.Query.{Query}
 use Rattle.script_tree.specs.declared.tree.Query.TheVariants as q
 use Rattle.script_tree.specs.Words.{is_identifier, is_literal, is_number}
-use Rattle.script_tree.specs.Tree.{Bytes, Expression, Leaf, Unary, Binary, Ask}
-use Rattle.script_tree.specs.Spelling.{fixed, level, prefix_level, prefix_token, chain_level, left_level, at_level, spell_named, spell_leaf, before_asked, behind_asked, spell_expression, depth_at, leaf_fits, query_fits, fits}
-use Rattle.script_tree.specs.Grammar.{Part, Item, AName, AText, ATree, Next, Make, Asking, AskingMasked, AskingAttribute, AskingProfile, AskingHasProfile, TableOf, CountOf, PriorityOf, Name, Text, Level, More, One, verdict, make, prefix_after, level_of}
-use Rattle.script_print.proofs.Levels.{runs, lasts, lasts_less, made, skip_runs, opens, Operand, by_test, prefixed, ends_at, operated, opened, closed, grouped}
+use Rattle.script_tree.specs.Tree.{Expression, Leaf, Unary, Binary, Ask}
+use Rattle.script_tree.specs.Spelling.{fixed, level, prefix_level, chain_level, left_level, at_level, spell_leaf, before_asked, behind_asked, spell_expression, depth_at, leaf_fits, query_fits, fits}
+use Rattle.script_tree.specs.Grammar.{Part, Item, AName, AText, ATree, Make, Asking, AskingMasked, AskingAttribute, AskingProfile, AskingHasProfile, TableOf, CountOf, PriorityOf, Name, Text, Level, One, verdict, level_of}
+use Rattle.script_print.proofs.Levels.{runs, lasts, lasts_less, made, skip_runs, opens, prefixed, ends_at, operated, opened, closed, grouped}
 
 pub and_parts : (a b : Bool) → (a && b) ≡ true → (a ≡ true) × (b ≡ true)
 and_parts true b h = (refl, h)

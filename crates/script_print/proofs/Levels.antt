@@ -1,5 +1,5 @@
 -- How the grammar's table goes through the levels of operators, on what is spelled.
-use Rattle.std.proofs.Common.{◌≡◌, ◌≤◌, ◌<◌, ◌+◌, ◌-◌, ℕ, zero, suc, List, [], ◌∷◌, ◌++◌, Bool, true, false, cond, ◌&&◌, refl, sym, ap, ◌∙◌, arith, append_assoc, add-one}
+use Rattle.std.proofs.Common.{◌≡◌, ◌≤◌, ◌<◌, ◌+◌, ◌-◌, ℕ, zero, suc, List, [], ◌∷◌, ◌++◌, Bool, true, false, cond, refl, sym, ap, ◌∙◌, arith, append_assoc}
 use Rattle.std.specs.Prelude.{nat_le, ◌==◌}
 use Rattle.std.proofs.lemmas.Bool.Decides.{nat_tests}
 use Rattle.script_tree.specs.declared.symbol.Operator.{Operator}
@@ -10,9 +10,9 @@ use Rattle.script_tree.specs.declared.lexeme.Lexeme.{Lexeme}
 use Rattle.script_tree.specs.declared.lexeme.Lexeme.TheVariants as t
 use Rattle.script_tree.specs.declared.tree.Prefix.{Prefix}
 use Rattle.script_tree.specs.declared.tree.Prefix.TheVariants as prefixes
-use Rattle.script_tree.specs.Tree.{Expression, Leaf, Unary, Binary, Ask}
-use Rattle.script_tree.specs.Spelling.{fixed, level, prefix_level, prefix_token, chain_level, left_level}
-use Rattle.script_tree.specs.Grammar.{Part, Item, ATree, Next, Stops, Goes, Make, Prefixing, Operating, Level, More, One, verdict, verdict_at, make, goes_on, then_parts, prefix_of, prefix_after, prefix_parts, level_after, more_after, more_symbol, again, level_of, turn, Stays}
+use Rattle.script_tree.specs.Tree.{Expression, Unary, Binary}
+use Rattle.script_tree.specs.Spelling.{fixed, prefix_level, prefix_token}
+use Rattle.script_tree.specs.Grammar.{Part, Item, ATree, Next, Stops, Goes, Make, Prefixing, Operating, Level, More, One, verdict, verdict_at, make, goes_on, then_parts, prefix_after, level_after, more_after, more_symbol, again, level_of, turn, Stays}
 
 -- the operators of the levels up to this one
 abbrev pub runs : ℕ → List Part → List Part

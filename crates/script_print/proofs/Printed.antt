@@ -1,9 +1,9 @@
 -- The text of a script is read as the tokens that it was printed from.
-use Rattle.std.proofs.Common.{◌≡◌, ◌≤◌, ◌<◌, ◌+◌, ◌*◌, ◌-◌, ◌/◌, ◌%◌, ◌^◌, ℕ, zero, suc, Bool, true, false, cond, ◌&&◌, ◌||◌, List, [], ◌∷◌, ◌++◌, length, take, drop, get_or, map, Option, Some, None, refl, sym, ap, subst, ◌∙◌, arith, append_assoc}
+use Rattle.std.proofs.Common.{◌≡◌, ◌≤◌, ◌<◌, ◌+◌, ◌*◌, ◌-◌, ◌/◌, ◌%◌, ◌^◌, ℕ, zero, suc, Bool, true, false, cond, ◌&&◌, ◌||◌, List, [], ◌∷◌, ◌++◌, length, drop, get_or, map, Option, Some, None, refl, sym, ap, ◌∙◌, arith, append_assoc}
 use Rattle.std.specs.Prelude.{◌==◌, not, nat_lt, nat_le, is_some, slice_index}
 use Rattle.std.specs.List.{prefix_len, take_while, list_all, flat_map}
 use Rattle.std.specs.Fmt.{decimal}
-use Rattle.std.proofs.lemmas.List.{append-nil, length-append, take_at, drop_at}
+use Rattle.std.proofs.lemmas.List.{length-append, take_at, drop_at}
 use Rattle.std.proofs.lemmas.Fmt.{decimal_digit, decimal_by_steps, first_decimal}
 use Rattle.std.proofs.lemmas.Bool.Decides.{nat_tests}
 use Rattle.slee_value.specs.Name.{is_letter, is_digit, is_byte_of_name, is_name}
@@ -25,9 +25,9 @@ use Rattle.script_tree.specs.declared.lexeme.Cut.{Cut}
 use Rattle.script_tree.specs.declared.lexeme.Quote.{Quote}
 use Rattle.script_tree.specs.Tree.{Bytes}
 use Rattle.script_tree.specs.Words.{reserved, is_identifier, is_literal, is_number, is_byte_of_text, quoted, quoted_byte}
-use Rattle.script_tree.specs.Lexer.{Spot, lexed, lexeme_of, unless_bad, is_blank, starts_token, cut, word_cut, word_lexeme, number_cut, number_lexeme, decimal_in, digits_value, text_cut, quote_of, with_byte, sign_cut}
+use Rattle.script_tree.specs.Lexer.{Spot, lexed, lexeme_of, unless_bad, is_blank, starts_token, cut, word_cut, word_lexeme, number_cut, number_lexeme, digits_value, text_cut, quote_of, with_byte, sign_cut}
 use Rattle.script_tree.specs.Reading.{lexeme_text, gap, ends_line, spaced, can_be_written}
-use Rattle.script_tree.proofs.Lexing.{spot_of, token_first, one_blank}
+use Rattle.script_tree.proofs.Lexing.{token_first, one_blank}
 
 and_parts : (a b : Bool) → (a && b) ≡ true → (a ≡ true) × (b ≡ true)
 and_parts true b h = (refl, h)

@@ -1,23 +1,18 @@
 -- A script, as it is spelled, is read as that script.
-use Rattle.std.proofs.Common.{◌≡◌, ◌≤◌, ◌<◌, ◌+◌, ◌-◌, ℕ, List, [], ◌∷◌, ◌++◌, Option, Some, None, Bool, true, false, ◌&&◌, refl, sym, ap, ◌∙◌, arith, append_assoc}
+use Rattle.std.proofs.Common.{◌≡◌, ◌≤◌, ◌+◌, ◌-◌, ℕ, List, [], ◌∷◌, ◌++◌, Bool, true, false, ◌&&◌, refl, sym, ap, ◌∙◌, arith, append_assoc}
 use Rattle.std.specs.Prelude.{nat_le, not}
 use Rattle.std.proofs.lemmas.List.{append-nil}
 use Rattle.std.proofs.lemmas.Bool.Decides.{nat_tests}
 use Rattle.script_tree.specs.declared.symbol.Fixed.TheVariants as x
-use Rattle.script_tree.specs.declared.symbol.Symbol.TheVariants as s
 use Rattle.script_tree.specs.declared.lexeme.Lexeme.{Lexeme}
-use Rattle.script_tree.specs.declared.lexeme.Lexeme.TheVariants as t
-use Rattle.script_tree.specs.declared.tree.Who.TheVariants as w
 use Rattle.script_tree.specs.declared.tree.Over.{Over}
 use Rattle.script_tree.specs.declared.tree.Over.TheVariants as v
 use Rattle.script_tree.specs.Words.{is_identifier}
 use Rattle.script_tree.specs.Numbers.{is_fixed}
 use Rattle.script_tree.specs.Tree as tree
 use Rattle.script_tree.specs.Tree.{Bytes, Expression, Statement, Statements, add}
-use Rattle.script_tree.specs.Spelling.{fixed, spell_expression, spell_over, braced, spell_statement, spell_statements, fits, over_fits, statement_fits, statements_fit, is_script}
-use Rattle.script_tree.specs.Grammar.{Part, Item, AName, AnOver, ATree, AStatement, ABlock, Make, Making, Adding, Branching, Otherwise, Looping, Walking, Level, One, Name, Stmts, Block, MoreIf, Verdict, Fine, make, verdict, script_of}
-use Rattle.script_tree.specs.Grammar as g
-use Rattle.script_print.proofs.Levels.{lasts, made}
+use Rattle.script_tree.specs.Spelling.{fixed, spell_expression, braced, spell_statement, spell_statements, fits, over_fits, statement_fits, statements_fit, is_script}
+use Rattle.script_tree.specs.Grammar.{Part, Item, AName, AnOver, ATree, AStatement, ABlock, Make, Making, Branching, Otherwise, Looping, Walking, Level, One, Stmts, Block, MoreIf, Fine, make, verdict, script_of}
 use Rattle.script_print.proofs.Expressions.{and_parts, le_is, again}
 use Rattle.script_print.proofs.Statements.{more, added, assigning, on_entities}
 use Rattle.script_print.proofs.Activities.{on_activities, timer_again, doing, usage, rollback}

@@ -1,5 +1,5 @@
 -- The spelling of a script has only tokens that can be written.
-use Rattle.std.proofs.Common.{◌≡◌, ◌+◌, ◌-◌, ℕ, Bool, true, false, cond, ◌&&◌, List, [], ◌∷◌, ◌++◌, Option, Some, None, refl, sym, ap, ◌∙◌}
+use Rattle.std.proofs.Common.{◌≡◌, ◌+◌, ◌-◌, ℕ, Bool, true, false, cond, ◌&&◌, List, [], ◌∷◌, ◌++◌, Option, Some, None, refl}
 use Rattle.std.specs.Prelude.{nat_le}
 use Rattle.std.specs.List.{list_all}
 use Rattle.slee_value.specs.declared.keep.Keep.{Keep}
@@ -23,7 +23,7 @@ use Rattle.script_tree.specs.Reading.{can_be_written}
 use Rattle.script_tree.specs.Grammar.{level_of}
 use Rattle.script_tree.specs.Tree.{Bytes, Expression, Leaf, Unary, Binary, Ask, Assigning, OnEntities, OnActivities, SettingTimer, Statement, Statements}
 use Rattle.script_tree.specs.Tree as tree
-use Rattle.script_tree.specs.Spelling.{fixed, at_level, left_level, level, prefix_level, prefix_token, before_asked, behind_asked, spell_leaf, spell_expression, spell_who, spell_over, spell_assigning, spell_priority, spell_more, spell_arguments, spell_result, spell_on_entities, spell_service, spell_field, spell_more_fields, spell_fields, spell_on_activities, spell_repeat, spell_keep, spell_timer, ended, braced, spell_statement, spell_statements, depth_at, leaf_fits, query_fits, fits, option_fits, who_fits, over_fits, assigning_fits, on_entities_fits, field_fits, on_activities_fits, repeat_fits, timer_fits, statement_fits, statements_fit, is_script}
+use Rattle.script_tree.specs.Spelling.{fixed, at_level, left_level, level, prefix_level, prefix_token, before_asked, behind_asked, spell_leaf, spell_expression, spell_who, spell_over, spell_assigning, spell_priority, spell_more, spell_arguments, spell_result, spell_on_entities, spell_service, spell_field, spell_more_fields, spell_fields, spell_on_activities, spell_repeat, spell_keep, spell_timer, ended, braced, spell_statement, spell_statements, depth_at, leaf_fits, query_fits, fits, option_fits, who_fits, over_fits, assigning_fits, on_entities_fits, field_fits, on_activities_fits, repeat_fits, timer_fits, statement_fits, statements_fit}
 
 and_parts : (a b : Bool) → (a && b) ≡ true → (a ≡ true) × (b ≡ true)
 and_parts true b h = (refl, h)

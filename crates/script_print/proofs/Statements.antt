@@ -1,13 +1,8 @@
 -- A statement without blocks, list it is spelled, is read list that statement.
-use Rattle.std.proofs.Common.{◌≡◌, ◌≤◌, ◌<◌, ◌+◌, ◌-◌, ℕ, List, [], ◌∷◌, ◌++◌, Option, Some, None, Bool, true, false, cond, ◌&&◌, refl, sym, ap, ◌∙◌, arith, append_assoc}
-use Rattle.std.specs.Prelude.{nat_le, ◌==◌}
+use Rattle.std.proofs.Common.{◌≡◌, ◌+◌, ◌-◌, ℕ, List, [], ◌∷◌, ◌++◌, Option, Some, None, Bool, true, false, cond, ◌&&◌, refl, sym, ap, ◌∙◌, append_assoc}
+use Rattle.std.specs.Prelude.{nat_le}
 use Rattle.std.specs.List.{list_all}
 use Rattle.std.proofs.lemmas.List.{append-nil}
-use Rattle.std.proofs.lemmas.Bool.Decides.{nat_tests}
-use Rattle.slee_value.specs.declared.keep.Keep.{Keep}
-use Rattle.slee_value.specs.declared.keep.Keep.TheVariants as keeps
-use Rattle.script_tree.specs.declared.symbol.Function.{Function}
-use Rattle.script_tree.specs.declared.symbol.Operator.TheVariants as o
 use Rattle.script_tree.specs.declared.symbol.Fixed.TheVariants as x
 use Rattle.script_tree.specs.declared.symbol.Symbol.TheVariants as s
 use Rattle.script_tree.specs.declared.lexeme.Lexeme.{Lexeme}
@@ -18,13 +13,11 @@ use Rattle.script_tree.specs.declared.tree.Prefix.{Prefix}
 use Rattle.script_tree.specs.declared.tree.Prefix.TheVariants as prefixes
 use Rattle.script_tree.specs.declared.tree.Query.{Query}
 use Rattle.script_tree.specs.declared.tree.Query.TheVariants as q
-use Rattle.script_tree.specs.declared.tree.Who.TheVariants as w
-use Rattle.script_tree.specs.Words.{is_identifier, is_literal}
+use Rattle.script_tree.specs.Words.{is_identifier}
 use Rattle.script_tree.specs.Tree as tree
 use Rattle.script_tree.specs.Tree.{Bytes, Expression, Leaf, Unary, Binary, Ask, Assigning, OnEntities, OnActivities, SettingTimer, Statement, Statements, add}
-use Rattle.script_tree.specs.Spelling.{fixed, level, left_level, prefix_level, at_level, before_asked, behind_asked, prefix_token, spell_leaf, spell_expression, spell_who, spell_assigning, spell_priority, spell_more, spell_arguments, spell_result, spell_on_entities, spell_service, spell_field, spell_more_fields, spell_fields, spell_on_activities, spell_repeat, spell_keep, spell_timer, ended, fits, option_fits, who_fits, assigning_fits, on_entities_fits, field_fits, on_activities_fits, repeat_fits, timer_fits}
-use Rattle.script_tree.specs.Grammar.{Part, Item, AName, AText, AWho, ATree, AStatement, ABlock, Next, Stops, Goes, Make, Adding, Letting, SettingVariable, SettingField, SettingAttribute, Calling, WithArgument, WithPriority, SettingPriority, Attaching, Detaching, Masking, Unmasking, Firing, ForService, WithField, Binding, Repeating, Doing, CountingUsage, Name, Text, Level, One, Stmts, NextArgument, Arguments, MoreResult, MoreService, MoreFields, NextField, MoreRepeat, MoreKeep, verdict, verdict_at, goes_on, then_parts, eat, level_after, level_of}
-use Rattle.script_tree.specs.Grammar as g
+use Rattle.script_tree.specs.Spelling.{fixed, level, left_level, prefix_level, at_level, before_asked, behind_asked, prefix_token, spell_leaf, spell_expression, spell_assigning, spell_more, spell_arguments, spell_result, spell_on_entities, ended, fits, option_fits, assigning_fits, on_entities_fits}
+use Rattle.script_tree.specs.Grammar.{Part, Item, AName, ATree, AStatement, ABlock, Next, Stops, Goes, Make, Adding, Letting, SettingVariable, SettingField, SettingAttribute, Calling, WithArgument, WithPriority, SettingPriority, Name, Level, One, Stmts, NextArgument, Arguments, MoreResult, verdict, verdict_at, goes_on, then_parts, eat, level_after, level_of}
 use Rattle.script_print.proofs.Levels.{lasts, made, opened, closed}
 use Rattle.script_print.proofs.Expressions.{and_parts, le_is, depth_fits, again}
 

@@ -1,6 +1,6 @@
 -- Texts whose tokens spell a script are read as that script.
-use Rattle.std.proofs.Common.{◌≡◌, List, ◌++◌, length, drop, Bool, true, refl, sym, ap, ◌∙◌}
-use Rattle.std.specs.Prelude.{Result, Ok}
+use Rattle.std.proofs.Common.{◌≡◌, ◌++◌, length, drop, true, refl, sym, ap, ◌∙◌}
+use Rattle.std.specs.Prelude.{Ok}
 use Rattle.std.proofs.lemmas.List.{drop_at}
 use Rattle.script_tree.specs.Tree.{Bytes, Statements}
 use Rattle.script_tree.specs.Lexer.{spots_of, lexemes_of}

@@ -1,5 +1,4 @@
-use Rattle.std.proofs.Common.{rules, ◌≡◌, ◌++◌, arith}
-use Rattle.std.proofs.lemmas.Grind.{common_steps}
+use Rattle.std.proofs.Common.{rules, ◌≡◌, ◌++◌}
 use Rattle.script_tree.specs.Reading.{printed}
 use Rattle.script_tree.specs.Script.{tree_of_script}
 use Rattle.script_print.proofs.Texts.{added_again}
