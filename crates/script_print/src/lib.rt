@@ -10,3 +10,6 @@ pub use laws::{
     spelled_is_read_as_itself,
 };
 pub use printing::print;
+
+#[cfg(test)]
+mod tests;
