@@ -1,0 +1,203 @@
+ghost use Rattle.std.specs.Prelude.{◌≡◌, ◌≤◌, ◌<◌, ◌+◌, ◌∷◌, [], length, true, MatchResult, MatchOption};
+ghost use Rattle.script_tree.specs.declared.lexeme.Lexeme.{Lexeme as ALexeme};
+ghost use Rattle.script_tree.specs.Grammar.{Stmt as AStmt, AStatement, stmt_fixed, stmt_after};
+ghost use Rattle.script_tree.specs.Spelling.{statement_fits, statements_fit};
+ghost use Rattle.script_expression.specs.Takes.{Begun, Took, Fails, begins};
+ghost use Rattle.handler_lang.specs.Bodies.{TookStmts, FailStmts, TookBlock, FailsBlock, starts_stmt, block_word_at, block_word_in};
+ghost use Rattle.script_tree.specs.Tree.{statement_of, statements_of};
+
+use script_expression::{
+    ReadError, behind as behind_word, close, expression, name, over, too_deep, unexpected, want,
+};
+use script_statement::plain_statement;
+use script_tree::{Fixed, Lexeme, Stmt, Symbol};
+use std::alloc::Global;
+
+/// The first word of a statement with a block.
+#[derive(Clone, Copy)]
+pub enum BlockWord {
+    If,
+    While,
+    For,
+}
+
+/// Whether a statement begins here.
+fn starts(ts: &[Lexeme]) -> bool
+    ensures { result ≡ starts_stmt ts.now }
+{
+    match ts {
+        [] => false,
+        [first, ..] => starts_with(first),
+    }
+}
+
+fn starts_with(token: &Lexeme) -> bool
+    ensures { result ≡ begins (stmt_after token.now) }
+{
+    match token {
+        Lexeme::Name(_) | Lexeme::Symbol(Symbol::Verb(_)) => true,
+        Lexeme::Symbol(Symbol::Fixed(word)) => is_first(*word),
+        Lexeme::Int(_) | Lexeme::Text(_) | Lexeme::Symbol(_) | Lexeme::Bad => false,
+    }
+}
+
+/// Whether a statement begins with this word.
+fn is_first(word: Fixed) -> bool
+    ensures { result ≡ begins (stmt_fixed word) }
+{
+    matches!(
+        word,
+        Fixed::Let
+            | Fixed::Own
+            | Fixed::Attr
+            | Fixed::If
+            | Fixed::While
+            | Fixed::For
+            | Fixed::Create
+            | Fixed::Remove
+            | Fixed::Priority
+            | Fixed::Attach
+            | Fixed::Detach
+            | Fixed::Mask
+            | Fixed::Unmask
+            | Fixed::Fire
+            | Fixed::Null
+            | Fixed::Timer
+            | Fixed::Bind
+            | Fixed::Usage
+            | Fixed::Call
+            | Fixed::Rollback
+    )
+}
+
+/// As many statements as come, and what follows them.
+#[cycle(stmts)]
+pub fn statements(
+    alloc: Global,
+    ts: &[Lexeme],
+    depth: u32,
+) -> Result<(Vec<Stmt>, &[Lexeme]), ReadError>
+    requires { depth ≤ 64 }
+    ensures { MatchResult result (λ x. TookStmts [] depth ts.now (statements_of x.0.items) (statements_fit depth (statements_of x.0.items)) x.1.now) (λ e. FailStmts depth ts.now e) }
+{
+    let mut list = Vec::new(alloc);
+    let mut rest = ts;
+    'more: while starts(rest) {
+        let (next, behind) = statement(alloc, rest, depth)?;
+        list.push(next)?;
+        rest = behind;
+    }
+    Ok((list, rest))
+}
+
+/// The word with which a statement with a block begins, and what follows it.
+fn block_word(ts: &[Lexeme]) -> Option<(BlockWord, &[Lexeme])>
+    ensures { MatchOption result (block_word_in ts.now ≡ None) (λ x. (block_word_in ts.now ≡ Some x.0) × ((first : ALexeme) × (ts.now ≡ first ∷ x.1.now))) }
+{
+    let [first, rest @ ..] = ts else {
+        return None;
+    };
+    let word = block_word_of(first)?;
+    Some((word, rest))
+}
+
+fn block_word_of(token: &Lexeme) -> Option<BlockWord>
+    ensures { result ≡ block_word_at token.now }
+{
+    match token {
+        Lexeme::Symbol(Symbol::Fixed(Fixed::If)) => Some(BlockWord::If),
+        Lexeme::Symbol(Symbol::Fixed(Fixed::While)) => Some(BlockWord::While),
+        Lexeme::Symbol(Symbol::Fixed(Fixed::For)) => Some(BlockWord::For),
+        _ => None,
+    }
+}
+
+/// A statement, and what follows it.
+#[cycle(stmts)]
+fn statement(alloc: Global, ts: &[Lexeme], depth: u32) -> Result<(Stmt, &[Lexeme]), ReadError>
+    requires { depth ≤ 64 }
+    ensures { MatchResult result (λ x. Took AStmt [] depth ts.now (AStatement (statement_of x.0) ∷ []) (statement_fits depth (statement_of x.0)) x.1.now) (λ e. Fails AStmt depth ts.now e) }
+{
+    let Some((word, behind)) = block_word(ts) else {
+        return plain_statement(alloc, ts, depth);
+    };
+    match word {
+        BlockWord::If => branch(alloc, ts, behind, depth),
+        BlockWord::While => repeat(alloc, ts, behind, depth),
+        BlockWord::For => walk(alloc, ts, behind, depth),
+    }
+}
+
+/// `if e { .. } else { .. }`
+#[cycle(stmts)]
+fn branch<'a>(
+    alloc: Global,
+    ts: &'a [Lexeme],
+    behind: &'a [Lexeme],
+    depth: u32,
+) -> Result<(Stmt, &'a [Lexeme]), ReadError>
+    requires deep { depth ≤ 64 }
+    requires begun { Begun AStmt (stmt_fixed Fixed.If) depth ts.now behind.now }
+    ensures { MatchResult result (λ x. Took AStmt [] depth ts.now (AStatement (statement_of x.0) ∷ []) (statement_fits depth (statement_of x.0)) x.1.now) (λ e. Fails AStmt depth ts.now e) }
+{
+    let (test, rest) = expression(alloc, behind, depth)?;
+    let (body, rest) = block(alloc, rest, depth)?;
+    let Some(behind) = behind_word(rest, Fixed::Else) else {
+        return Ok((Stmt::If(test, body), rest));
+    };
+    let (other, rest) = block(alloc, behind, depth)?;
+    Ok((Stmt::IfElse(test, body, other), rest))
+}
+
+/// `while e { .. }`
+#[cycle(stmts)]
+fn repeat<'a>(
+    alloc: Global,
+    ts: &'a [Lexeme],
+    behind: &'a [Lexeme],
+    depth: u32,
+) -> Result<(Stmt, &'a [Lexeme]), ReadError>
+    requires deep { depth ≤ 64 }
+    requires begun { Begun AStmt (stmt_fixed Fixed.While) depth ts.now behind.now }
+    ensures { MatchResult result (λ x. Took AStmt [] depth ts.now (AStatement (statement_of x.0) ∷ []) (statement_fits depth (statement_of x.0)) x.1.now) (λ e. Fails AStmt depth ts.now e) }
+{
+    let (test, rest) = expression(alloc, behind, depth)?;
+    let (body, rest) = block(alloc, rest, depth)?;
+    Ok((Stmt::While(test, body), rest))
+}
+
+/// `for NAME in RELATION { .. }`
+#[cycle(stmts)]
+fn walk<'a>(
+    alloc: Global,
+    ts: &'a [Lexeme],
+    behind: &'a [Lexeme],
+    depth: u32,
+) -> Result<(Stmt, &'a [Lexeme]), ReadError>
+    requires deep { depth ≤ 64 }
+    requires begun { Begun AStmt (stmt_fixed Fixed.For) depth ts.now behind.now }
+    ensures { MatchResult result (λ x. Took AStmt [] depth ts.now (AStatement (statement_of x.0) ∷ []) (statement_fits depth (statement_of x.0)) x.1.now) (λ e. Fails AStmt depth ts.now e) }
+{
+    let (name, rest) = name(alloc, behind, depth)?;
+    let rest = want(rest, Fixed::In, depth)?;
+    let (over, rest) = over(alloc, rest, depth)?;
+    let (body, rest) = block(alloc, rest, depth)?;
+    Ok((Stmt::For(name, over, body), rest))
+}
+
+/// Statements in braces, and what follows them.
+#[cycle(stmts)]
+fn block(alloc: Global, ts: &[Lexeme], depth: u32) -> Result<(Vec<Stmt>, &[Lexeme]), ReadError>
+    requires { depth ≤ 64 }
+    ensures { MatchResult result (λ x. TookBlock depth ts.now (statements_of x.0.items) (statements_fit (depth + 1) (statements_of x.0.items)) x.1.now) (λ e. FailsBlock depth ts.now e) }
+{
+    let Some(inner) = behind_word(ts, Fixed::OpenCurly) else {
+        return Err(unexpected(ts));
+    };
+    if depth == 64 {
+        return Err(too_deep(ts));
+    }
+    let (body, rest) = statements(alloc, inner, depth + 1)?;
+    let rest = close(rest, Fixed::CloseCurly, depth)?;
+    Ok((body, rest))
+}

@@ -1,0 +1,6 @@
+pub mod Machine
+pub mod Symbols
+pub mod Operators
+pub mod Choices
+pub mod Queries
+pub mod Followed

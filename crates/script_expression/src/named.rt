@@ -1,0 +1,94 @@
+ghost use Rattle.std.specs.Prelude.{◌≡◌, ◌≤◌, ◌<◌, ◌+◌, ◌∷◌, [], length, true, MatchResult};
+ghost use Rattle.script_tree.specs.Grammar.{Level, ATree, prim_fixed};
+ghost use Rattle.script_expression.specs.Takes.{Begun, Took, Fails, fits_at};
+ghost use Rattle.script_tree.specs.Tree.{tree_of};
+
+use crate::query::closed_name;
+use crate::refusal::ReadError;
+use crate::take::{name, open, want};
+use script_tree::{Expr, Fixed, Leaf, Lexeme};
+use std::alloc::Global;
+
+/// `self.NAME`
+#[tactic(auto, using(crate::proofs::Machine::made))]
+pub fn field<'a>(
+    alloc: Global,
+    ts: &'a [Lexeme],
+    behind: &'a [Lexeme],
+    depth: u32,
+) -> Result<(Expr, &'a [Lexeme]), ReadError>
+    requires deep { depth ≤ 64 }
+    requires begun { Begun (Level 0) (prim_fixed Fixed.Own) depth ts.now behind.now }
+    ensures { MatchResult result (λ x. Took (Level 0) [] depth ts.now (ATree (tree_of x.0) ∷ []) (fits_at 0 depth (tree_of x.0)) x.1.now) (λ e. Fails (Level 0) depth ts.now e) }
+{
+    let rest = want(behind, Fixed::Dot, depth)?;
+    let (name, rest) = name(alloc, rest, depth)?;
+    Ok((Expr::Leaf(Leaf::Field(name)), rest))
+}
+
+/// `event.NAME`
+#[tactic(auto, using(crate::proofs::Machine::made))]
+pub fn event_field<'a>(
+    alloc: Global,
+    ts: &'a [Lexeme],
+    behind: &'a [Lexeme],
+    depth: u32,
+) -> Result<(Expr, &'a [Lexeme]), ReadError>
+    requires deep { depth ≤ 64 }
+    requires begun { Begun (Level 0) (prim_fixed Fixed.Event) depth ts.now behind.now }
+    ensures { MatchResult result (λ x. Took (Level 0) [] depth ts.now (ATree (tree_of x.0) ∷ []) (fits_at 0 depth (tree_of x.0)) x.1.now) (λ e. Fails (Level 0) depth ts.now e) }
+{
+    let rest = want(behind, Fixed::Dot, depth)?;
+    let (name, rest) = name(alloc, rest, depth)?;
+    Ok((Expr::Leaf(Leaf::EventField(name)), rest))
+}
+
+/// `table(NAME)`
+pub fn table<'a>(
+    alloc: Global,
+    ts: &'a [Lexeme],
+    behind: &'a [Lexeme],
+    depth: u32,
+) -> Result<(Expr, &'a [Lexeme]), ReadError>
+    requires deep { depth ≤ 64 }
+    requires begun { Begun (Level 0) (prim_fixed Fixed.Table) depth ts.now behind.now }
+    ensures { MatchResult result (λ x. Took (Level 0) [] depth ts.now (ATree (tree_of x.0) ∷ []) (fits_at 0 depth (tree_of x.0)) x.1.now) (λ e. Fails (Level 0) depth ts.now e) }
+{
+    let inner = open(behind, Fixed::OpenRound, depth)?;
+    let (name, rest) = closed_name(alloc, inner, depth)?;
+    Ok((Expr::Leaf(Leaf::Table(name)), rest))
+}
+
+/// `count(RELATION)`
+#[tactic(auto, using(crate::proofs::Machine::made))]
+pub fn count<'a>(
+    alloc: Global,
+    ts: &'a [Lexeme],
+    behind: &'a [Lexeme],
+    depth: u32,
+) -> Result<(Expr, &'a [Lexeme]), ReadError>
+    requires deep { depth ≤ 64 }
+    requires begun { Begun (Level 0) (prim_fixed Fixed.Count) depth ts.now behind.now }
+    ensures { MatchResult result (λ x. Took (Level 0) [] depth ts.now (ATree (tree_of x.0) ∷ []) (fits_at 0 depth (tree_of x.0)) x.1.now) (λ e. Fails (Level 0) depth ts.now e) }
+{
+    let inner = open(behind, Fixed::OpenRound, depth)?;
+    let (name, rest) = closed_name(alloc, inner, depth)?;
+    Ok((Expr::Leaf(Leaf::Count(name)), rest))
+}
+
+/// `priority(CHILD)`
+#[tactic(auto, using(crate::proofs::Machine::made))]
+pub fn priority<'a>(
+    alloc: Global,
+    ts: &'a [Lexeme],
+    behind: &'a [Lexeme],
+    depth: u32,
+) -> Result<(Expr, &'a [Lexeme]), ReadError>
+    requires deep { depth ≤ 64 }
+    requires begun { Begun (Level 0) (prim_fixed Fixed.Priority) depth ts.now behind.now }
+    ensures { MatchResult result (λ x. Took (Level 0) [] depth ts.now (ATree (tree_of x.0) ∷ []) (fits_at 0 depth (tree_of x.0)) x.1.now) (λ e. Fails (Level 0) depth ts.now e) }
+{
+    let inner = open(behind, Fixed::OpenRound, depth)?;
+    let (name, rest) = closed_name(alloc, inner, depth)?;
+    Ok((Expr::Leaf(Leaf::Priority(name)), rest))
+}

@@ -1,0 +1,21 @@
+use Rattle.std.proofs.Common.{arith, refl, ◌∙◌}
+use Rattle.std.proofs.lemmas.Result.{err_from_is_err_and}
+use Rattle.script_expression.proofs.Followed.{fails_before, fails_making}
+use Rattle.script_statement.proofs.activities.bind.Goals as goal
+
+pub returns-in_err-key : goal.returns-in_err-key
+returns-in_err-key c =
+    let p = err_from_is_err_and c.from_residual.result c.from_residual.ensures.1 in
+    rw (p.1, p.2) (fails_before _ _ _ _ _ _ _ _ (λ ps i. c.requires.begun.goes_on ps i) _ c.in_err-key.ensures)
+
+pub returns-in_err-e : goal.returns-in_err-e
+returns-in_err-e c =
+    let p = err_from_is_err_and c.from_residual-in_err-e.result c.from_residual-in_err-e.ensures.1 in
+    rw (p.1, p.2) (fails_making _ _ _ _ _ _ _ _ _ (λ ps i. c.requires.begun.goes_on ps i ∙ c.in_ok-key.ensures.goes_on _ _) _ c.in_err-e.ensures)
+
+pub returns : goal.returns
+returns c = rw c.into_inner.ensures (record {
+  shorter = omega (arith, c.requires.begun.shorter, c.in_ok-key.ensures.shorter, c.in_ok-e.ensures.shorter);
+  good_one = rw (c.in_ok-key.ensures.good_one, c.in_ok-e.ensures.good_one) refl;
+  goes_on = λ ps i. c.requires.begun.goes_on ps i ∙ c.in_ok-key.ensures.goes_on _ _ ∙ c.in_ok-e.ensures.makes _ _ _;
+})

@@ -1,0 +1,27 @@
+use Rattle.std.proofs.Common.{arith, refl, ◌∙◌}
+use Rattle.std.proofs.lemmas.Result.{err_from_is_err_and}
+use Rattle.script_expression.proofs.Machine.{fails_at}
+use Rattle.script_expression.proofs.Followed.{fails_making}
+use Rattle.script_statement.proofs.activities.detach.Goals as goal
+
+pub returns-in_err-who : goal.returns-in_err-who
+returns-in_err-who c =
+    let p = err_from_is_err_and c.from_residual.result c.from_residual.ensures.1 in
+    rw (p.1, p.2) (fails_at _ _ _ _ _ _ _ _ (λ ps i. c.requires.begun.goes_on ps i) _ c.in_err-who.ensures)
+
+pub returns-in_err-rest : goal.returns-in_err-rest
+returns-in_err-rest c =
+    let p = err_from_is_err_and c.from_residual-in_err-rest.result c.from_residual-in_err-rest.ensures.1 in
+    rw (p.1, p.2) (fails_at _ _ _ _ _ _ _ _ (λ ps i. c.requires.begun.goes_on ps i ∙ c.in_ok-who.ensures.goes_on _ _) _ c.in_err-rest.ensures)
+
+pub returns-in_err-e : goal.returns-in_err-e
+returns-in_err-e c =
+    let p = err_from_is_err_and c.from_residual-in_err-e.result c.from_residual-in_err-e.ensures.1 in
+    rw (p.1, p.2) (fails_making _ _ _ _ _ _ _ _ _ (λ ps i. c.requires.begun.goes_on ps i ∙ c.in_ok-who.ensures.goes_on _ _ ∙ c.in_ok-rest.ensures.goes_on _ _) _ c.in_err-e.ensures)
+
+pub returns : goal.returns
+returns c = record {
+  shorter = omega (arith, c.requires.begun.shorter, c.in_ok-who.ensures.shorter, c.in_ok-rest.ensures.shorter, c.in_ok-e.ensures.shorter);
+  good_one = rw (c.in_ok-who.ensures.good_one, c.in_ok-e.ensures.good_one) refl;
+  goes_on = λ ps i. c.requires.begun.goes_on ps i ∙ c.in_ok-who.ensures.goes_on _ _ ∙ c.in_ok-rest.ensures.goes_on _ _ ∙ c.in_ok-e.ensures.makes _ _ _;
+}

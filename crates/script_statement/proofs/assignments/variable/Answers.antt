@@ -1,0 +1,28 @@
+use Rattle.std.proofs.Common.{arith, ap, ◌∙◌, sym, ◌∷◌}
+use Rattle.std.proofs.lemmas.Result.{err_from_is_err_and}
+use Rattle.script_tree.specs.Grammar.{verdict, SettingVariable, AName, AStatement}
+use Rattle.script_tree.specs.Tree as tree
+use Rattle.script_tree.specs.Tree.{tree_of}
+use Rattle.script_tree.specs.Words.{is_identifier}
+use Rattle.script_expression.proofs.Operators.{and_join}
+use Rattle.script_expression.proofs.Machine.{fails_at}
+use Rattle.script_expression.proofs.Followed.{fails_making}
+use Rattle.script_statement.proofs.assignments.variable.Goals as goal
+
+pub returns-in_err-rest : goal.returns-in_err-rest
+returns-in_err-rest c =
+    let p = err_from_is_err_and c.from_residual-in_err-rest.result c.from_residual-in_err-rest.ensures.1 in
+    rw (p.1, p.2) (fails_at _ _ _ _ _ _ _ _ (λ ps i. c.requires.begun.goes_on ps i) _ c.in_err-rest.ensures)
+
+pub returns-in_err-e : goal.returns-in_err-e
+returns-in_err-e c =
+    let p = err_from_is_err_and c.from_residual-in_err-e.result c.from_residual-in_err-e.ensures.1 in
+    rw (p.1, p.2) (fails_making _ _ _ _ _ _ _ _ _ (λ ps i. c.requires.begun.goes_on ps i ∙ c.in_ok-rest.ensures.goes_on _ _) _ c.in_err-e.ensures)
+
+pub returns : goal.returns
+returns c = record {
+  shorter = omega (arith, c.requires.begun.shorter, c.in_ok-rest.ensures.shorter, c.in_ok-e.ensures.shorter);
+  good_one = and_join _ _ (ap is_identifier c.in_ok-name.ensures.same ∙ c.in_ok-name.ensures.identifier) c.in_ok-e.ensures.good_one;
+  goes_on = λ ps i. c.requires.begun.goes_on ps i ∙ c.in_ok-rest.ensures.goes_on _ _ ∙ c.in_ok-e.ensures.makes SettingVariable ps (AName c.args.name.now ∷ i)
+      ∙ ap (λ n. verdict ps (AStatement (tree.Assign (tree.Variable n (tree_of c.in_ok-e.e))) ∷ i) c.args.depth c.in_ok-e.rest.now) (sym c.in_ok-name.ensures.same);
+}

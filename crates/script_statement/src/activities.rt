@@ -1,0 +1,113 @@
+ghost use Rattle.std.specs.Prelude.{◌≡◌, ◌≤◌, ◌<◌, ◌+◌, ◌∷◌, [], length, true, MatchResult};
+ghost use Rattle.script_tree.specs.Grammar.{Stmt as AStmt, AStatement, stmt_fixed};
+ghost use Rattle.script_tree.specs.Spelling.{statement_fits};
+ghost use Rattle.script_expression.specs.Takes.{Begun, Took, Fails};
+ghost use Rattle.script_tree.specs.Tree.{statement_of};
+
+use script_expression::{ReadError, before, boxed_before, name, text, want, who};
+use script_tree::{ActivityStmt, Fixed, Lexeme, Stmt};
+use std::alloc::Global;
+
+/// `attach WHO to a;`
+pub fn attach<'a>(
+    alloc: Global,
+    ts: &'a [Lexeme],
+    behind: &'a [Lexeme],
+    depth: u32,
+) -> Result<(Stmt, &'a [Lexeme]), ReadError>
+    requires deep { depth ≤ 64 }
+    requires begun { Begun AStmt (stmt_fixed Fixed.Attach) depth ts.now behind.now }
+    ensures { MatchResult result (λ x. Took AStmt [] depth ts.now (AStatement (statement_of x.0) ∷ []) (statement_fits depth (statement_of x.0)) x.1.now) (λ e. Fails AStmt depth ts.now e) }
+{
+    let (who, rest) = who(alloc, behind, depth)?;
+    let rest = want(rest, Fixed::To, depth)?;
+    let (e, rest) = before(alloc, rest, Fixed::Semicolon, depth)?;
+    Ok((Stmt::Activity(ActivityStmt::Attach(who, e)), rest))
+}
+
+/// `detach WHO from a;`
+pub fn detach<'a>(
+    alloc: Global,
+    ts: &'a [Lexeme],
+    behind: &'a [Lexeme],
+    depth: u32,
+) -> Result<(Stmt, &'a [Lexeme]), ReadError>
+    requires deep { depth ≤ 64 }
+    requires begun { Begun AStmt (stmt_fixed Fixed.Detach) depth ts.now behind.now }
+    ensures { MatchResult result (λ x. Took AStmt [] depth ts.now (AStatement (statement_of x.0) ∷ []) (statement_fits depth (statement_of x.0)) x.1.now) (λ e. Fails AStmt depth ts.now e) }
+{
+    let (who, rest) = who(alloc, behind, depth)?;
+    let rest = want(rest, Fixed::From, depth)?;
+    let (e, rest) = before(alloc, rest, Fixed::Semicolon, depth)?;
+    Ok((Stmt::Activity(ActivityStmt::Detach(who, e)), rest))
+}
+
+/// `mask TEXT on a;`
+pub fn mask<'a>(
+    alloc: Global,
+    ts: &'a [Lexeme],
+    behind: &'a [Lexeme],
+    depth: u32,
+) -> Result<(Stmt, &'a [Lexeme]), ReadError>
+    requires deep { depth ≤ 64 }
+    requires begun { Begun AStmt (stmt_fixed Fixed.Mask) depth ts.now behind.now }
+    ensures { MatchResult result (λ x. Took AStmt [] depth ts.now (AStatement (statement_of x.0) ∷ []) (statement_fits depth (statement_of x.0)) x.1.now) (λ e. Fails AStmt depth ts.now e) }
+{
+    let (event, rest) = text(alloc, behind, depth)?;
+    let rest = want(rest, Fixed::On, depth)?;
+    let (e, rest) = before(alloc, rest, Fixed::Semicolon, depth)?;
+    Ok((Stmt::Activity(ActivityStmt::Mask(event, e)), rest))
+}
+
+/// `unmask TEXT on a;`
+pub fn unmask<'a>(
+    alloc: Global,
+    ts: &'a [Lexeme],
+    behind: &'a [Lexeme],
+    depth: u32,
+) -> Result<(Stmt, &'a [Lexeme]), ReadError>
+    requires deep { depth ≤ 64 }
+    requires begun { Begun AStmt (stmt_fixed Fixed.Unmask) depth ts.now behind.now }
+    ensures { MatchResult result (λ x. Took AStmt [] depth ts.now (AStatement (statement_of x.0) ∷ []) (statement_fits depth (statement_of x.0)) x.1.now) (λ e. Fails AStmt depth ts.now e) }
+{
+    let (event, rest) = text(alloc, behind, depth)?;
+    let rest = want(rest, Fixed::On, depth)?;
+    let (e, rest) = before(alloc, rest, Fixed::Semicolon, depth)?;
+    Ok((Stmt::Activity(ActivityStmt::Unmask(event, e)), rest))
+}
+
+/// `null as NAME;`
+pub fn null<'a>(
+    alloc: Global,
+    ts: &'a [Lexeme],
+    behind: &'a [Lexeme],
+    depth: u32,
+) -> Result<(Stmt, &'a [Lexeme]), ReadError>
+    requires deep { depth ≤ 64 }
+    requires begun { Begun AStmt (stmt_fixed Fixed.Null) depth ts.now behind.now }
+    ensures { MatchResult result (λ x. Took AStmt [] depth ts.now (AStatement (statement_of x.0) ∷ []) (statement_fits depth (statement_of x.0)) x.1.now) (λ e. Fails AStmt depth ts.now e) }
+{
+    let rest = want(behind, Fixed::As, depth)?;
+    let (name, rest) = name(alloc, rest, depth)?;
+    let rest = want(rest, Fixed::Semicolon, depth)?;
+    Ok((Stmt::Activity(ActivityStmt::Null(name)), rest))
+}
+
+/// `bind e to a;`
+pub fn bind<'a>(
+    alloc: Global,
+    ts: &'a [Lexeme],
+    behind: &'a [Lexeme],
+    depth: u32,
+) -> Result<(Stmt, &'a [Lexeme]), ReadError>
+    requires deep { depth ≤ 64 }
+    requires begun { Begun AStmt (stmt_fixed Fixed.Bind) depth ts.now behind.now }
+    ensures { MatchResult result (λ x. Took AStmt [] depth ts.now (AStatement (statement_of x.0) ∷ []) (statement_fits depth (statement_of x.0)) x.1.now) (λ e. Fails AStmt depth ts.now e) }
+{
+    let (key, rest) = boxed_before(alloc, behind, Fixed::To, depth)?;
+    let (e, rest) = before(alloc, rest, Fixed::Semicolon, depth)?;
+    Ok((
+        Stmt::Activity(ActivityStmt::Bind(Box::into_inner(key), e)),
+        rest,
+    ))
+}

@@ -1,0 +1,86 @@
+ghost use Rattle.std.specs.Prelude.{◌≡◌, ◌≤◌, ◌<◌, ◌+◌, ◌∷◌, [], length, true, MatchResult};
+ghost use Rattle.script_tree.specs.declared.lexeme.Lexeme.TheVariants as t;
+ghost use Rattle.script_tree.specs.Grammar.{Stmt as AStmt, AStatement, stmt_fixed, stmt_after};
+ghost use Rattle.script_tree.specs.Spelling.{statement_fits};
+ghost use Rattle.script_expression.specs.Takes.{Begun, Took, Fails};
+ghost use Rattle.script_tree.specs.Tree.{statement_of};
+
+use script_expression::{ReadError, before, boxed_before, close, name, open, want};
+use script_tree::{Assignment, Fixed, Identifier, Lexeme, Stmt};
+use std::alloc::Global;
+
+/// `let NAME = e;`
+pub fn new_variable<'a>(
+    alloc: Global,
+    ts: &'a [Lexeme],
+    behind: &'a [Lexeme],
+    depth: u32,
+) -> Result<(Stmt, &'a [Lexeme]), ReadError>
+    requires deep { depth ≤ 64 }
+    requires begun { Begun AStmt (stmt_fixed Fixed.Let) depth ts.now behind.now }
+    ensures { MatchResult result (λ x. Took AStmt [] depth ts.now (AStatement (statement_of x.0) ∷ []) (statement_fits depth (statement_of x.0)) x.1.now) (λ e. Fails AStmt depth ts.now e) }
+{
+    let (name, rest) = name(alloc, behind, depth)?;
+    let rest = want(rest, Fixed::Assign, depth)?;
+    let (e, rest) = before(alloc, rest, Fixed::Semicolon, depth)?;
+    Ok((Stmt::Assign(Assignment::New(name, e)), rest))
+}
+
+/// `self.NAME = e;`
+pub fn field<'a>(
+    alloc: Global,
+    ts: &'a [Lexeme],
+    behind: &'a [Lexeme],
+    depth: u32,
+) -> Result<(Stmt, &'a [Lexeme]), ReadError>
+    requires deep { depth ≤ 64 }
+    requires begun { Begun AStmt (stmt_fixed Fixed.Own) depth ts.now behind.now }
+    ensures { MatchResult result (λ x. Took AStmt [] depth ts.now (AStatement (statement_of x.0) ∷ []) (statement_fits depth (statement_of x.0)) x.1.now) (λ e. Fails AStmt depth ts.now e) }
+{
+    let rest = want(behind, Fixed::Dot, depth)?;
+    let (name, rest) = name(alloc, rest, depth)?;
+    let rest = want(rest, Fixed::Assign, depth)?;
+    let (e, rest) = before(alloc, rest, Fixed::Semicolon, depth)?;
+    Ok((Stmt::Assign(Assignment::Field(name, e)), rest))
+}
+
+/// `attr(a, NAME) = e;`
+pub fn attribute<'a>(
+    alloc: Global,
+    ts: &'a [Lexeme],
+    behind: &'a [Lexeme],
+    depth: u32,
+) -> Result<(Stmt, &'a [Lexeme]), ReadError>
+    requires deep { depth ≤ 64 }
+    requires begun { Begun AStmt (stmt_fixed Fixed.Attr) depth ts.now behind.now }
+    ensures { MatchResult result (λ x. Took AStmt [] depth ts.now (AStatement (statement_of x.0) ∷ []) (statement_fits depth (statement_of x.0)) x.1.now) (λ e. Fails AStmt depth ts.now e) }
+{
+    let rest = open(behind, Fixed::OpenRound, depth)?;
+    let (activity, rest) = boxed_before(alloc, rest, Fixed::Comma, depth + 1)?;
+    let (name, rest) = name(alloc, rest, depth + 1)?;
+    let rest = close(rest, Fixed::CloseRound, depth)?;
+    let rest = want(rest, Fixed::Assign, depth)?;
+    let (e, rest) = before(alloc, rest, Fixed::Semicolon, depth)?;
+    Ok((
+        Stmt::Assign(Assignment::Attribute(Box::into_inner(activity), name, e)),
+        rest,
+    ))
+}
+
+/// `NAME = e;`
+pub fn variable<'a>(
+    alloc: Global,
+    ts: &'a [Lexeme],
+    name: &Identifier,
+    behind: &'a [Lexeme],
+    depth: u32,
+) -> Result<(Stmt, &'a [Lexeme]), ReadError>
+    requires deep { depth ≤ 64 }
+    requires begun { Begun AStmt (stmt_after (t.Name name.now)) depth ts.now behind.now }
+    ensures { MatchResult result (λ x. Took AStmt [] depth ts.now (AStatement (statement_of x.0) ∷ []) (statement_fits depth (statement_of x.0)) x.1.now) (λ e. Fails AStmt depth ts.now e) }
+{
+    let name = name.copy(alloc)?;
+    let rest = want(behind, Fixed::Assign, depth)?;
+    let (e, rest) = before(alloc, rest, Fixed::Semicolon, depth)?;
+    Ok((Stmt::Assign(Assignment::Variable(name, e)), rest))
+}

@@ -1,0 +1,56 @@
+ghost use Rattle.std.specs.Prelude.{◌≡◌, ◌≤◌, ◌<◌, ◌+◌, ◌∷◌, [], length, true, MatchResult};
+ghost use Rattle.script_tree.specs.declared.symbol.Symbol.TheVariants as s;
+ghost use Rattle.script_tree.specs.Grammar.{Stmt as AStmt, AStatement, stmt_fixed, stmt_symbol};
+ghost use Rattle.script_tree.specs.Spelling.{statement_fits};
+ghost use Rattle.script_expression.specs.Takes.{Begun, Took, Fails};
+ghost use Rattle.script_tree.specs.Tree.{statement_of};
+
+use script_expression::{ReadError, before, name, want};
+use script_tree::{Fixed, Lexeme, Stmt, Verb};
+use std::alloc::Global;
+
+/// `emit e;` and its kin
+pub fn verb<'a>(
+    alloc: Global,
+    ts: &'a [Lexeme],
+    verb: Verb,
+    behind: &'a [Lexeme],
+    depth: u32,
+) -> Result<(Stmt, &'a [Lexeme]), ReadError>
+    requires deep { depth ≤ 64 }
+    requires begun { Begun AStmt (stmt_symbol (s.Verb verb)) depth ts.now behind.now }
+    ensures { MatchResult result (λ x. Took AStmt [] depth ts.now (AStatement (statement_of x.0) ∷ []) (statement_fits depth (statement_of x.0)) x.1.now) (λ e. Fails AStmt depth ts.now e) }
+{
+    let (e, rest) = before(alloc, behind, Fixed::Semicolon, depth)?;
+    Ok((Stmt::Do(verb, e), rest))
+}
+
+/// `usage NAME e;`
+pub fn usage<'a>(
+    alloc: Global,
+    ts: &'a [Lexeme],
+    behind: &'a [Lexeme],
+    depth: u32,
+) -> Result<(Stmt, &'a [Lexeme]), ReadError>
+    requires deep { depth ≤ 64 }
+    requires begun { Begun AStmt (stmt_fixed Fixed.Usage) depth ts.now behind.now }
+    ensures { MatchResult result (λ x. Took AStmt [] depth ts.now (AStatement (statement_of x.0) ∷ []) (statement_fits depth (statement_of x.0)) x.1.now) (λ e. Fails AStmt depth ts.now e) }
+{
+    let (name, rest) = name(alloc, behind, depth)?;
+    let (e, rest) = before(alloc, rest, Fixed::Semicolon, depth)?;
+    Ok((Stmt::Usage(name, e), rest))
+}
+
+/// `rollback;`
+pub fn rollback<'a>(
+    ts: &'a [Lexeme],
+    behind: &'a [Lexeme],
+    depth: u32,
+) -> Result<(Stmt, &'a [Lexeme]), ReadError>
+    requires deep { depth ≤ 64 }
+    requires begun { Begun AStmt (stmt_fixed Fixed.Rollback) depth ts.now behind.now }
+    ensures { MatchResult result (λ x. Took AStmt [] depth ts.now (AStatement (statement_of x.0) ∷ []) (statement_fits depth (statement_of x.0)) x.1.now) (λ e. Fails AStmt depth ts.now e) }
+{
+    let rest = want(behind, Fixed::Semicolon, depth)?;
+    Ok((Stmt::Rollback, rest))
+}

@@ -1,0 +1,69 @@
+ghost use Rattle.std.specs.Prelude.{◌≡◌, ◌≤◌, ◌<◌, ◌+◌, ◌∷◌, [], length, true, MatchResult};
+ghost use Rattle.script_tree.specs.Grammar.{Stmt as AStmt, AStatement, stmt_fixed};
+ghost use Rattle.script_tree.specs.Spelling.{statement_fits};
+ghost use Rattle.script_expression.specs.Takes.{Begun, Took, Fails};
+ghost use Rattle.script_tree.specs.Tree.{statement_of};
+
+use script_expression::{ReadError, before, behind as behind_word, name, want};
+use script_tree::{EntityStmt, Fixed, Lexeme, Stmt};
+use std::alloc::Global;
+
+/// `create RELATION as NAME priority e;`
+pub fn create<'a>(
+    alloc: Global,
+    ts: &'a [Lexeme],
+    behind: &'a [Lexeme],
+    depth: u32,
+) -> Result<(Stmt, &'a [Lexeme]), ReadError>
+    requires deep { depth ≤ 64 }
+    requires begun { Begun AStmt (stmt_fixed Fixed.Create) depth ts.now behind.now }
+    ensures { MatchResult result (λ x. Took AStmt [] depth ts.now (AStatement (statement_of x.0) ∷ []) (statement_fits depth (statement_of x.0)) x.1.now) (λ e. Fails AStmt depth ts.now e) }
+{
+    let (relation, rest) = name(alloc, behind, depth)?;
+    let rest = want(rest, Fixed::As, depth)?;
+    let (child, rest) = name(alloc, rest, depth)?;
+    let Some(behind) = behind_word(rest, Fixed::Priority) else {
+        let last = want(rest, Fixed::Semicolon, depth)?;
+        return Ok((
+            Stmt::Entity(EntityStmt::Create(relation, child, None)),
+            last,
+        ));
+    };
+    let (e, after) = before(alloc, behind, Fixed::Semicolon, depth)?;
+    Ok((
+        Stmt::Entity(EntityStmt::Create(relation, child, Some(e))),
+        after,
+    ))
+}
+
+/// `remove NAME;`
+pub fn remove<'a>(
+    alloc: Global,
+    ts: &'a [Lexeme],
+    behind: &'a [Lexeme],
+    depth: u32,
+) -> Result<(Stmt, &'a [Lexeme]), ReadError>
+    requires deep { depth ≤ 64 }
+    requires begun { Begun AStmt (stmt_fixed Fixed.Remove) depth ts.now behind.now }
+    ensures { MatchResult result (λ x. Took AStmt [] depth ts.now (AStatement (statement_of x.0) ∷ []) (statement_fits depth (statement_of x.0)) x.1.now) (λ e. Fails AStmt depth ts.now e) }
+{
+    let (child, rest) = name(alloc, behind, depth)?;
+    let rest = want(rest, Fixed::Semicolon, depth)?;
+    Ok((Stmt::Entity(EntityStmt::Remove(child)), rest))
+}
+
+/// `priority NAME e;`
+pub fn priority<'a>(
+    alloc: Global,
+    ts: &'a [Lexeme],
+    behind: &'a [Lexeme],
+    depth: u32,
+) -> Result<(Stmt, &'a [Lexeme]), ReadError>
+    requires deep { depth ≤ 64 }
+    requires begun { Begun AStmt (stmt_fixed Fixed.Priority) depth ts.now behind.now }
+    ensures { MatchResult result (λ x. Took AStmt [] depth ts.now (AStatement (statement_of x.0) ∷ []) (statement_fits depth (statement_of x.0)) x.1.now) (λ e. Fails AStmt depth ts.now e) }
+{
+    let (child, rest) = name(alloc, behind, depth)?;
+    let (e, rest) = before(alloc, rest, Fixed::Semicolon, depth)?;
+    Ok((Stmt::Entity(EntityStmt::Priority(child, e)), rest))
+}
