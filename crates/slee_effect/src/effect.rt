@@ -1,5 +1,6 @@
 ghost use Rattle.std.specs.Prelude.{◌≡◌, IfOk};
 
+use crate::making::{create, fire, set_attr, set_field, set_mask, set_timer, usage};
 use crate::{FiredFields, Ref, Val};
 use slee_value::{Keep, NoMemory, Text};
 use std::alloc::Global;
@@ -103,71 +104,30 @@ impl Effect {
                 entity,
                 name,
                 value,
-            } => {
-                let name = name.copy(alloc)?;
-                Ok(Effect::SetField {
-                    entity: *entity,
-                    name,
-                    value: value.copy(alloc)?,
-                })
-            }
+            } => Ok(set_field(*entity, name.copy(alloc)?, value.copy(alloc)?)),
             Effect::SetAttr {
                 activity,
                 key,
                 value,
-            } => {
-                let key = key.copy(alloc)?;
-                Ok(Effect::SetAttr {
-                    activity: *activity,
-                    key,
-                    value: value.copy(alloc)?,
-                })
-            }
+            } => Ok(set_attr(*activity, key.copy(alloc)?, value.copy(alloc)?)),
             Effect::Create {
                 parent,
                 relation,
                 priority,
-            } => {
-                let relation = relation.copy(alloc)?;
-                Ok(Effect::Create {
-                    parent: *parent,
-                    relation,
-                    priority: *priority,
-                })
-            }
-            Effect::Remove { entity } => Ok(Effect::Remove { entity: *entity }),
-            Effect::SetPriority { entity, priority } => {
-                Ok(Effect::SetPriority {
-                    entity: *entity,
-                    priority: *priority,
-                })
-            }
-            Effect::Attach { entity, activity } => {
-                Ok(Effect::Attach {
-                    entity: *entity,
-                    activity: *activity,
-                })
-            }
-            Effect::Detach { entity, activity } => {
-                Ok(Effect::Detach {
-                    entity: *entity,
-                    activity: *activity,
-                })
-            }
+            } => Ok(create(*parent, relation.copy(alloc)?, *priority)),
+            &Effect::Remove { entity } => Ok(Effect::Remove { entity }),
+            &Effect::SetPriority { entity, priority } => Ok(Effect::SetPriority {
+                entity,
+                priority,
+            }),
+            &Effect::Attach { entity, activity } => Ok(Effect::Attach { entity, activity }),
+            &Effect::Detach { entity, activity } => Ok(Effect::Detach { entity, activity }),
             Effect::SetMask {
                 entity,
                 activity,
                 event,
                 on,
-            } => {
-                let event = event.copy(alloc)?;
-                Ok(Effect::SetMask {
-                    entity: *entity,
-                    activity: *activity,
-                    event,
-                    on: *on,
-                })
-            }
+            } => Ok(set_mask(*entity, *activity, event.copy(alloc)?, *on)),
             Effect::Fire {
                 activity,
                 event,
@@ -176,61 +136,34 @@ impl Effect {
             } => {
                 let event = event.copy(alloc)?;
                 let service = copied_text(alloc, service)?;
-                let fields = fields.copy(alloc)?;
-                Ok(Effect::Fire {
-                    activity: *activity,
-                    event,
-                    service,
-                    fields,
-                })
+                Ok(fire(*activity, event, service, fields.copy(alloc)?))
             }
             Effect::NewNull => Ok(Effect::NewNull),
-            Effect::EndNull { activity } => Ok(Effect::EndNull {
-                activity: *activity,
-            }),
-            Effect::SetTimer {
+            &Effect::EndNull { activity } => Ok(Effect::EndNull { activity }),
+            &Effect::SetTimer {
                 activity,
                 start,
                 period,
                 times,
                 keep,
-            } => Ok(Effect::SetTimer {
+            } => Ok(set_timer(activity, start, period, times, keep)),
+            &Effect::CancelTimer { timer } => Ok(Effect::CancelTimer { timer }),
+            Effect::Bind { name, activity } => Ok(Effect::Bind {
+                name: name.copy(alloc)?,
                 activity: *activity,
-                start: *start,
-                period: *period,
-                times: *times,
-                keep: *keep,
             }),
-            Effect::CancelTimer { timer } => Ok(Effect::CancelTimer { timer: *timer }),
-            Effect::Bind { name, activity } => {
-                let name = name.copy(alloc)?;
-                Ok(Effect::Bind {
-                    name,
-                    activity: *activity,
-                })
-            }
             Effect::Unbind { name } => Ok(Effect::Unbind {
                 name: name.copy(alloc)?,
             }),
-            Effect::Emit { entity, text } => {
-                let text = text.copy(alloc)?;
-                Ok(Effect::Emit {
-                    entity: *entity,
-                    text,
-                })
-            }
+            Effect::Emit { entity, text } => Ok(Effect::Emit {
+                entity: *entity,
+                text: text.copy(alloc)?,
+            }),
             Effect::Usage {
                 entity,
                 name,
                 amount,
-            } => {
-                let name = name.copy(alloc)?;
-                Ok(Effect::Usage {
-                    entity: *entity,
-                    name,
-                    amount: *amount,
-                })
-            }
+            } => Ok(usage(*entity, name.copy(alloc)?, *amount)),
         }
     }
 }

@@ -6,6 +6,7 @@ mod effects;
 mod fault;
 mod fired;
 mod laws;
+mod making;
 mod names;
 mod next;
 mod parts;

@@ -8,6 +8,7 @@ ghost use Rattle.slee_effect.specs.Fitting.{FitEffects};
 ghost use Rattle.slee_effect.specs.Lists.{IsRead, StandsRight, Answers};
 ghost use Rattle.slee_effect.specs.Reading.{effect_at, bodies, no_effect, items_at, list_of};
 
+use crate::making::{create, fire, set_attr, set_field, set_mask, set_timer, usage};
 use crate::parts::{
     read_binding, read_creation, read_fire, read_mask, read_named, read_priority, read_ref,
     read_setting, read_timer, read_two, read_usage,
@@ -87,36 +88,15 @@ fn read_body(alloc: Global, tag: u8, rest: &[u8]) -> Result<(Effect, &[u8]), Par
     match tag {
         1 => {
             let ((entity, (name, value)), rest) = read_setting(alloc, rest)?;
-            Ok((
-                Effect::SetField {
-                    entity,
-                    name,
-                    value,
-                },
-                rest,
-            ))
+            Ok((set_field(entity, name, value), rest))
         }
         2 => {
             let ((activity, (key, value)), rest) = read_setting(alloc, rest)?;
-            Ok((
-                Effect::SetAttr {
-                    activity,
-                    key,
-                    value,
-                },
-                rest,
-            ))
+            Ok((set_attr(activity, key, value), rest))
         }
         3 => {
             let ((parent, (relation, priority)), rest) = read_creation(alloc, rest)?;
-            Ok((
-                Effect::Create {
-                    parent,
-                    relation,
-                    priority,
-                },
-                rest,
-            ))
+            Ok((create(parent, relation, priority), rest))
         }
         4 => {
             let (entity, rest) = read_ref(rest)?;
@@ -136,27 +116,11 @@ fn read_body(alloc: Global, tag: u8, rest: &[u8]) -> Result<(Effect, &[u8]), Par
         }
         8 => {
             let ((entity, (activity, (event, on))), rest) = read_mask(alloc, rest)?;
-            Ok((
-                Effect::SetMask {
-                    entity,
-                    activity,
-                    event,
-                    on,
-                },
-                rest,
-            ))
+            Ok((set_mask(entity, activity, event, on), rest))
         }
         9 => {
             let ((activity, (event, (service, fields))), rest) = read_fire(alloc, rest)?;
-            Ok((
-                Effect::Fire {
-                    activity,
-                    event,
-                    service,
-                    fields,
-                },
-                rest,
-            ))
+            Ok((fire(activity, event, service, fields), rest))
         }
         10 => Ok((Effect::NewNull, rest)),
         11 => {
@@ -165,16 +129,7 @@ fn read_body(alloc: Global, tag: u8, rest: &[u8]) -> Result<(Effect, &[u8]), Par
         }
         12 => {
             let ((activity, (start, (period, (times, keep)))), rest) = read_timer(rest)?;
-            Ok((
-                Effect::SetTimer {
-                    activity,
-                    start,
-                    period,
-                    times,
-                    keep,
-                },
-                rest,
-            ))
+            Ok((set_timer(activity, start, period, times, keep), rest))
         }
         13 => {
             let (timer, rest) = read_ref(rest)?;
@@ -194,14 +149,7 @@ fn read_body(alloc: Global, tag: u8, rest: &[u8]) -> Result<(Effect, &[u8]), Par
         }
         17 => {
             let ((entity, (name, amount)), rest) = read_usage(alloc, rest)?;
-            Ok((
-                Effect::Usage {
-                    entity,
-                    name,
-                    amount,
-                },
-                rest,
-            ))
+            Ok((usage(entity, name, amount), rest))
         }
         _ => Err(PartFault::Bad {
             left: rest.len() + 1,

@@ -5,7 +5,6 @@ ghost use Rattle.slee_effect.specs.Resolving.{resolved_ref, resolved_val, resolv
 use crate::next::Next;
 use crate::{Effect, FiredFields, Ref, Val};
 use slee_value::{ActivityId, Text, TimerId, Value};
-use std::mem;
 
 /// Puts numbers in place of what the effects create.
 pub(crate) fn resolve_all(effects: &mut [Effect], next: Next)
@@ -13,8 +12,7 @@ pub(crate) fn resolve_all(effects: &mut [Effect], next: Next)
     ensures { effects.new ≡ map (resolved_effect next) effects.old }
 {
     for effect in effects.iter_mut() {
-        let taken = mem::replace(effect, Effect::NewNull);
-        *effect = resolved(taken, next);
+        resolve_one(effect, next);
     }
 }
 
@@ -24,148 +22,88 @@ pub(crate) fn resolve_fields(fields: &mut [(Text, Val)], next: Next)
     ensures { fields.new ≡ map (resolved_field next) fields.old }
 {
     for field in fields.iter_mut() {
-        let taken = mem::replace(&mut field.1, Val::NewActivity(0));
-        field.1 = value_of(taken, next);
+        resolve_val(&mut field.1, next);
     }
 }
 
-fn resolved(effect: Effect, next: Next) -> Effect
-    requires { CanResolve next effect }
-    ensures { result ≡ resolved_effect next effect }
+fn resolve_one(effect: &mut Effect, next: Next)
+    requires { CanResolve next effect.old }
+    ensures { effect.new ≡ resolved_effect next effect.old }
 {
     match effect {
-        Effect::SetField {
-            entity,
-            name,
-            value,
-        } => Effect::SetField {
-            entity: number_of(entity, next.entity),
-            name,
-            value: value_of(value, next),
-        },
+        Effect::SetField { entity, value, .. } => {
+            resolve_ref(entity, next.entity);
+            resolve_val(value, next);
+        }
         Effect::SetAttr {
             activity,
-            key,
             value,
-        } => Effect::SetAttr {
-            activity: number_of(activity, next.activity),
-            key,
-            value: value_of(value, next),
-        },
-        Effect::Create {
-            parent,
-            relation,
-            priority,
-        } => Effect::Create {
-            parent: number_of(parent, next.entity),
-            relation,
-            priority,
-        },
-        Effect::Remove { entity } => Effect::Remove {
-            entity: number_of(entity, next.entity),
-        },
-        Effect::SetPriority { entity, priority } => Effect::SetPriority {
-            entity: number_of(entity, next.entity),
-            priority,
-        },
-        Effect::Attach { entity, activity } => Effect::Attach {
-            entity: number_of(entity, next.entity),
-            activity: number_of(activity, next.activity),
-        },
-        Effect::Detach { entity, activity } => Effect::Detach {
-            entity: number_of(entity, next.entity),
-            activity: number_of(activity, next.activity),
-        },
+            ..
+        } => {
+            resolve_ref(activity, next.activity);
+            resolve_val(value, next);
+        }
+        Effect::Create { parent, .. } => resolve_ref(parent, next.entity),
+        Effect::Remove { entity } => resolve_ref(entity, next.entity),
+        Effect::SetPriority { entity, .. } => resolve_ref(entity, next.entity),
+        Effect::Attach { entity, activity } => resolve_two(entity, activity, next),
+        Effect::Detach { entity, activity } => resolve_two(entity, activity, next),
         Effect::SetMask {
             entity,
             activity,
-            event,
-            on,
-        } => Effect::SetMask {
-            entity: number_of(entity, next.entity),
-            activity: number_of(activity, next.activity),
-            event,
-            on,
-        },
+            ..
+        } => resolve_two(entity, activity, next),
         Effect::Fire {
             activity,
-            event,
-            service,
             fields,
-        } => Effect::Fire {
-            activity: number_of(activity, next.activity),
-            event,
-            service,
-            fields: fields_of(fields, next),
-        },
-        Effect::NewNull => Effect::NewNull,
-        Effect::EndNull { activity } => Effect::EndNull {
-            activity: number_of(activity, next.activity),
-        },
-        Effect::SetTimer {
-            activity,
-            start,
-            period,
-            times,
-            keep,
-        } => Effect::SetTimer {
-            activity: number_of(activity, next.activity),
-            start,
-            period,
-            times,
-            keep,
-        },
-        Effect::CancelTimer { timer } => Effect::CancelTimer {
-            timer: number_of(timer, next.timer),
-        },
-        Effect::Bind { name, activity } => Effect::Bind {
-            name,
-            activity: number_of(activity, next.activity),
-        },
-        Effect::Unbind { name } => Effect::Unbind { name },
-        Effect::Emit { entity, text } => Effect::Emit {
-            entity: number_of(entity, next.entity),
-            text,
-        },
-        Effect::Usage {
-            entity,
-            name,
-            amount,
-        } => Effect::Usage {
-            entity: number_of(entity, next.entity),
-            name,
-            amount,
-        },
+            ..
+        } => {
+            resolve_ref(activity, next.activity);
+            fields.resolve(next);
+        }
+        Effect::NewNull => {}
+        Effect::EndNull { activity } => resolve_ref(activity, next.activity),
+        Effect::SetTimer { activity, .. } => resolve_ref(activity, next.activity),
+        Effect::CancelTimer { timer } => resolve_ref(timer, next.timer),
+        Effect::Bind { activity, .. } => resolve_ref(activity, next.activity),
+        Effect::Unbind { .. } => {}
+        Effect::Emit { entity, .. } => resolve_ref(entity, next.entity),
+        Effect::Usage { entity, .. } => resolve_ref(entity, next.entity),
     }
 }
 
-fn number_of(one: Ref, next: u64) -> Ref
-    requires { CanResolveRef next one }
-    ensures { result ≡ resolved_ref next one }
+fn resolve_two(entity: &mut Ref, activity: &mut Ref, next: Next)
+    requires entity { CanResolveRef next.entity entity.old }
+    requires activity { CanResolveRef next.activity activity.old }
+    ensures entity { entity.new ≡ resolved_ref next.entity entity.old }
+    ensures activity { activity.new ≡ resolved_ref next.activity activity.old }
 {
-    match one {
-        Ref::Known(number) => Ref::Known(number),
-        Ref::Fresh(place) => Ref::Known(next + u64::from(place)),
+    resolve_ref(entity, next.entity);
+    resolve_ref(activity, next.activity);
+}
+
+fn resolve_ref(one: &mut Ref, next: u64)
+    requires { CanResolveRef next one.old }
+    ensures { one.new ≡ resolved_ref next one.old }
+{
+    if let Ref::Fresh(place) = *one {
+        *one = Ref::Known(next + u64::from(place));
     }
 }
 
-fn value_of(value: Val, next: Next) -> Val
-    requires { CanResolveVal next value }
-    ensures { result ≡ resolved_val next value }
+fn resolve_val(value: &mut Val, next: Next)
+    requires { CanResolveVal next value.old }
+    ensures { value.new ≡ resolved_val next value.old }
 {
     match value {
-        Val::Plain(value) => Val::Plain(value),
-        Val::NewActivity(place) => Val::Plain(Value::Activity(ActivityId(
-            next.activity + u64::from(place),
-        ))),
-        Val::NewTimer(place) => Val::Plain(Value::Timer(TimerId(next.timer + u64::from(place)))),
+        Val::Plain(_) => {}
+        Val::NewActivity(place) => {
+            let number = next.activity + u64::from(*place);
+            *value = Val::Plain(Value::Activity(ActivityId(number)));
+        }
+        Val::NewTimer(place) => {
+            let number = next.timer + u64::from(*place);
+            *value = Val::Plain(Value::Timer(TimerId(number)));
+        }
     }
-}
-
-fn fields_of(mut fields: FiredFields, next: Next) -> FiredFields
-    requires { AllByRecursion (CanResolveField next) fields }
-    ensures { result ≡ map (resolved_field next) fields }
-{
-    fields.resolve(next);
-    fields
 }

@@ -8,4 +8,4 @@ returns-in_err-activity-in-2 c =
     rw (p.1, p.2) (set_attr_fails c.in_err-activity-in-2.field-0.0 c.args.tag c.args.rest.now c.in-2.is c.in_err-activity-in-2.ensures)
 
 pub returns-in_ok-activity-in-2 : goal.returns-in_ok-activity-in-2
-returns-in_ok-activity-in-2 c = set_attr_read c.args.tag c.args.rest.now ((c.in_ok-activity-in-2.activity, (c.in_ok-activity-in-2.key, c.in_ok-activity-in-2.value)), c.in_ok-activity-in-2.rest.now) c.in-2.is c.in_ok-activity-in-2.ensures
+returns-in_ok-activity-in-2 c = rw c.set_attr.ensures (set_attr_read c.args.tag c.args.rest.now ((c.in_ok-activity-in-2.activity, (c.in_ok-activity-in-2.key, c.in_ok-activity-in-2.value)), c.in_ok-activity-in-2.rest.now) c.in-2.is c.in_ok-activity-in-2.ensures)
