@@ -1,7 +1,7 @@
 //! The scripts of the input.
 
 use crate::trouble::Trouble;
-use handler_lang::{Script, SyntaxBad, SyntaxFault, TokenKind, parse, tokens};
+use handler_lang::{Script, SyntaxBad, SyntaxFault, TokenKind, parse, print, tokens};
 use std::{env, io};
 
 /// Reads each script, or the whole input so many times.
@@ -35,15 +35,27 @@ fn print_row(rt: &HostRuntime, row: &str) -> Result<(), Trouble> {
     }
 }
 
-/// A script's statements, counted, and a letter for each token.
+/// A script's statements, counted, a letter for each token, and whether it is printed, read and printed alike.
 fn print_script(rt: &HostRuntime, script: &Script, row: &str) -> Result<(), Trouble> {
     let list = tokens(rt.alloc(), row)?;
     let mut letters = String::new(rt.alloc());
     for token in list.as_slice() {
         letters.push(letter(token.kind))?;
     }
-    println!(rt; "script {} {letters}", script.statements().len())?;
+    let text = printed(rt, script)?;
+    let again = printed(rt, &parse(rt.alloc(), &text)?)?;
+    let verdict = if again == text { "again" } else { "other" };
+    println!(rt; "script {} {letters} {verdict}", script.statements().len())?;
     Ok(())
+}
+
+fn printed(rt: &HostRuntime, script: &Script) -> Result<String, Trouble> {
+    let mut bytes = Vec::new(rt.alloc());
+    print(rt.alloc(), script, &mut bytes)?;
+    match String::from_utf8(bytes) {
+        Ok(text) => Ok(text),
+        Err(_) => Err(Trouble::Words),
+    }
 }
 
 fn letter(kind: TokenKind) -> char {

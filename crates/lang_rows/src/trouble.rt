@@ -1,13 +1,14 @@
 //! Why the scripts aren't all read.
 
 use handler_lang::SyntaxFault;
+use slee_value::NoMemory;
 use std::alloc::AllocError;
 use std::io;
 
 /// Why the program stops.
 #[derive(Debug, Drop)]
 pub(crate) enum Trouble {
-    /// The word behind the program's name is no number, or the script to repeat has a fault.
+    /// The word behind the program's name is no number, the script to repeat has a fault, or what is printed is no text.
     Words,
     Memory,
     Stream,
@@ -15,6 +16,12 @@ pub(crate) enum Trouble {
 
 impl From<AllocError> for Trouble {
     fn from(_: AllocError) -> Self {
+        Trouble::Memory
+    }
+}
+
+impl From<NoMemory> for Trouble {
+    fn from(_: NoMemory) -> Self {
         Trouble::Memory
     }
 }
