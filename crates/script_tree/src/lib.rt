@@ -29,3 +29,6 @@ pub use tree::{
     ActivityStmt, Assignment, EntityStmt, Expr, FieldValue, Leaf, Over, Prefix, Query, Repeat,
     Stmt, TimerStmt, Who,
 };
+
+#[cfg(test)]
+mod tests;
