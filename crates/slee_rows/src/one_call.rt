@@ -1,8 +1,8 @@
 //! One call from its first line to its last: its lines, its trace, and what is kept behind each of its entries.
 use crate::running::{Ran, disk_of, run_over};
 use slee_disk::{MemoryDisk, Side};
-use std::alloc::Global;
 use slee_value::NoMemory;
+use std::alloc::Global;
 
 /// Words that play all of the call.
 pub const PLAY: &[&str] = &["play", "1", "100"];

@@ -93,7 +93,12 @@ pub fn run_alone(
 }
 
 /// Runs words on lines over a disk, where nothing fails but what the disk fails.
-pub fn run_over(alloc: Global, words: &[&str], lines: &str, disk: MemoryDisk) -> Result<Ran, NoMemory> {
+pub fn run_over(
+    alloc: Global,
+    words: &[&str],
+    lines: &str,
+    disk: MemoryDisk,
+) -> Result<Ran, NoMemory> {
     run_failing(alloc, words, lines.as_bytes(), SOUND, disk)
 }
 
