@@ -4,3 +4,4 @@ pub mod Operators
 pub mod Choices
 pub mod Queries
 pub mod Followed
+pub mod Chains

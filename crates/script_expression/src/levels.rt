@@ -1,4 +1,4 @@
-ghost use Rattle.std.specs.Prelude.{◌≡◌, ◌≤◌, ◌<◌, ◌+◌, ◌-◌, ◌∷◌, [], length, true, MatchResult};
+ghost use Rattle.std.specs.Prelude.{◌≡◌, ◌≤◌, ◌<◌, ◌+◌, ◌-◌, ◌∷◌, [], length, true, MatchResult, IfOk, OnErr, Err};
 ghost use Rattle.script_tree.specs.declared.symbol.Symbol.TheVariants as s;
 ghost use Rattle.script_tree.specs.declared.lexeme.Lexeme.TheVariants as t;
 ghost use Rattle.script_tree.specs.Grammar as g;
@@ -6,13 +6,14 @@ ghost use Rattle.script_tree.specs.Grammar.{Level, More, ATree, turn_of, Stays};
 ghost use Rattle.script_tree.specs.Spelling.{chain_level, fits};
 ghost use Rattle.script_expression.specs.Takes.{Begun, Took, TookBefore, Fails, FailsBefore, fits_at};
 ghost use Rattle.script_expression.specs.Queries.{word_next};
-ghost use Rattle.script_tree.specs.Tree.{tree_of};
+ghost use Rattle.script_tree.specs.Tree.{tree_of, joined};
+ghost use Rattle.script_expression.specs.declared.refusal.ReadError.TheVariants as errors;
 
 use crate::named::{count, event_field, field, priority, table};
 use crate::query::{QueryWord, query_head, query_tail};
 use crate::refusal::{ReadError, too_deep, unexpected};
 use crate::take::{close, operator, prefix, want};
-use script_tree::{Expr, Fixed, Leaf, Lexeme, Symbol};
+use script_tree::{Expr, Fixed, Leaf, Lexeme, Operator, Symbol};
 use std::alloc::Global;
 
 /// The level of comparisons, which make no chains.
@@ -85,16 +86,29 @@ fn level(
         let (e, rest) = prim(alloc, ts, depth)?;
         return Ok((e, rest));
     }
-    let (mut left, mut rest) = operand(alloc, ts, level_now, depth)?;
+    let (first, mut rest) = operand(alloc, ts, level_now, depth)?;
+    let mut more = Vec::new(alloc);
     'operators: while let Some((op, behind)) = operator(rest, level_now) {
         let (right, after) = level(alloc, behind, level_now - 1, depth)?;
-        left = Expr::Binary(op, Box::new(alloc, left)?, Box::new(alloc, right)?);
+        more.push((op, right))?;
         rest = after;
         if level_now == COMPARISON {
-            return Ok((left, rest));
+            return Ok((chain(alloc, first, more)?, rest));
         }
     }
-    Ok((left, rest))
+    Ok((chain(alloc, first, more)?, rest))
+}
+
+/// Operands joined from left to right, or the first alone.
+#[tactic(auto, using(crate::proofs::Chains::chain_tree))]
+fn chain(alloc: Global, first: Expr, more: Vec<(Operator, Expr)>) -> Result<Expr, ReadError>
+    ensures ok { IfOk result (λ e. tree_of e ≡ joined (tree_of first) more.items) }
+    ensures err { OnErr result (result ≡ Err errors.NoMemory) }
+{
+    if more.is_empty() {
+        return Ok(first);
+    }
+    Ok(Expr::Chain(Box::new(alloc, first)?, more))
 }
 
 /// What stands before the operators of a level: an expression of the level below, maybe behind `-` or `not`.

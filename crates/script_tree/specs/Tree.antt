@@ -8,7 +8,7 @@ use Rattle.script_tree.specs.declared.tree.Prefix.{Prefix}
 use Rattle.script_tree.specs.declared.tree.Query.{Query}
 use Rattle.script_tree.specs.declared.tree.Who.{Who}
 use Rattle.script_tree.specs.declared.tree.Over.{Over}
-use Rattle.script_tree.specs.declared.tree.Expr.{Expr}
+use Rattle.script_tree.specs.declared.tree.Expr.{Expr, Row_of-Expr-Chain-1-2, end_of-Expr-Chain-1-2, more_of-Expr-Chain-1-2}
 use Rattle.script_tree.specs.declared.tree.Expr.TheVariants as e
 use Rattle.script_tree.specs.declared.tree.FieldValue.{FieldValue}
 use Rattle.script_tree.specs.declared.tree.Repeat.{Repeat}
@@ -85,11 +85,22 @@ add Nothing x = Then x Nothing
 add (Then y ys) x = Then y (add ys x)
 
 -- the tree that is kept in memory, as a value
-abbrev pub tree_of : Expr → Expression
-tree_of (e.Leaf l) = Leaf l
-tree_of (e.Unary' op _ x) = Unary op (tree_of x)
-tree_of (e.Binary' op _ x _ y) = Binary op (tree_of x) (tree_of y)
-tree_of (e.Ask' query _ x) = Ask query (tree_of x)
+abbrev mutual
+  pub tree_of : Expr → Expression
+  tree_of (e.Leaf l) = Leaf l
+  tree_of (e.Unary' op _ x) = Unary op (tree_of x)
+  tree_of (e.Chain' _ x _ more) = joined_row (tree_of x) more
+  tree_of (e.Ask' query _ x) = Ask query (tree_of x)
+
+  -- operands that are joined from left to right
+  pub joined_row : {n : _} → Expression → Row_of-Expr-Chain-1-2 n → Expression
+  joined_row x end_of-Expr-Chain-1-2 = x
+  joined_row x (more_of-Expr-Chain-1-2 op y more) = joined_row (Binary op x (tree_of y)) more
+
+-- the same, over a list
+abbrev pub joined : Expression → List (Operator × Expr) → Expression
+joined x [] = x
+joined x (y ∷ more) = joined (Binary y.0 x (tree_of y.1)) more
 
 abbrev pub tree_of_some : Option Expr → Option Expression
 tree_of_some None = None

@@ -1,12 +1,14 @@
 use crate::{Constant, Function, Identifier, Literal, Number, Operator, Verb};
 use slee_value::Keep;
 
-/// An expression. Operators are left-associative, and a parenthesis makes no node.
+/// An expression. A parenthesis makes no node.
 #[derive(Drop)]
 pub enum Expr {
     Leaf(Leaf),
     Unary(Prefix, Box<Expr>),
-    Binary(Operator, Box<Expr>, Box<Expr>),
+    /// An operand, and others behind it with the operators that join them from left to right. They stand side by side and
+    /// not in one another, so that a long row of them is no deep tree.
+    Chain(Box<Expr>, Vec<(Operator, Expr)>),
     Ask(Query, Box<Expr>),
 }
 

@@ -1,14 +1,15 @@
-use Rattle.std.proofs.Common.{rules, ◌≡◌, ◌+◌, ◌-◌, arith, ◌∷◌, [], ◌++◌, refl, sym, ap, ◌∙◌}
+use Rattle.std.proofs.Common.{rules, ◌≡◌, ◌+◌, ◌-◌, arith, ◌∷◌, [], ◌++◌, refl, sym, ap, subst, ◌∙◌}
 use Rattle.std.proofs.lemmas.Result.{err_from_is_err_and}
 use Rattle.script_tree.specs.declared.lexeme.Lexeme.TheVariants as t
 use Rattle.script_tree.specs.declared.symbol.Symbol.TheVariants as s
 use Rattle.script_tree.specs.declared.symbol.Fixed.TheVariants as x
 use Rattle.script_tree.specs.Grammar.{Level, More, One, Make, Operating, Prefixing, ATree, again, verdict}
 use Rattle.script_tree.specs.Spelling.{chain_level}
-use Rattle.script_expression.specs.Takes.{prefix_in}
-use Rattle.script_tree.specs.Tree.{tree_of}
+use Rattle.script_expression.specs.Takes.{Took, fits_at, prefix_in}
+use Rattle.script_tree.specs.Tree.{Expression, Binary, tree_of, joined}
 use Rattle.script_expression.proofs.Machine.{fails_at, prim_begun}
 use Rattle.script_expression.proofs.Operators.{opens, skip_more, unary_took, binary_took, fits_chain, fits_unchained, no_prim, refuse_prim, not_five, group_took, group_opens, group_deep, operates, prefixed}
+use Rattle.script_expression.proofs.Chains.{joined_last}
 use Rattle.script_expression.proofs.levels.+exprs.Goals as goal
 
 pub operand-returns-in_err-e-in-None : goal.operand-returns-in_err-e-in-None
@@ -38,28 +39,39 @@ pub level-returns : goal.level-returns
 level-returns m c =
     let took = c.operators.invariant in
     let n = c.args.level_now in
-    record {
+    let e = joined (tree_of c.operators.first-1) c.operators.more.items in
+    subst (λ (x : Expression). Took (Level n) [] c.args.depth c.args.ts.now (ATree x ∷ []) (fits_at n c.args.depth x) c.operators.rest.now) (sym c.in_ok-chain-2.ensures.ok)
+    (record {
       shorter = took.shorter;
-      good_one = fits_unchained n c.args.depth (tree_of c.operators.left) took.good_one;
-      goes_on = λ ps is. took.goes_on ps is ∙ skip_more n ps (ATree (tree_of c.operators.left) ∷ is) c.args.depth c.operators.rest.now c.in_default.ensures;
-    }
+      good_one = fits_unchained n c.args.depth e took.good_one;
+      goes_on = λ ps is. took.goes_on ps is ∙ skip_more n ps (ATree e ∷ is) c.args.depth c.operators.rest.now c.in_default.ensures;
+    })
 
 pub level-operators-preserved : goal.level-operators-preserved
 level-operators-preserved m c =
     let n = c.args.level_now in
     let far : n ≡ 5 → ⊥ = c.if-level_now-eq-COMPARISON.false in
     let p = not_five n far in
-    binary_took n (chain_level n) c.args.depth (More n ∷ []) c.args.ts.now c.operators.rest.now c.in-Some.behind.now c.in_ok-right.after.now c.in-Some.op
-    (tree_of c.operators.left) (tree_of c.in_ok-right.right) (tree_of c.in_ok-new.field-0.value) (tree_of c.in_ok-new-2.field-0.value)
-    c.operators.invariant c.in-Some.ensures.0 c.in-Some.ensures.1 c.in_ok-right.ensures (ap tree_of c.in_ok-new.ensures.ok) (ap tree_of c.in_ok-new-2.ensures.ok) p.0 p.1
+    let a = tree_of c.operators.first-1 in
+    let e = joined a c.operators.more.items in
+    let b = tree_of c.in_ok-right.right in
+    let same : joined a c.push.new.self.items ≡ Binary c.in-Some.op e b = ap (joined a) c.in_ok-push.ensures.items ∙ joined_last a c.operators.more.items (c.in-Some.op, c.in_ok-right.right) in
+    subst (λ (x : Expression). Took (Level n) (More n ∷ []) c.args.depth c.args.ts.now (ATree x ∷ []) (fits_at (chain_level n) c.args.depth x) c.in_ok-right.after.now) (sym same)
+    (binary_took n (chain_level n) c.args.depth (More n ∷ []) c.args.ts.now c.operators.rest.now c.in-Some.behind.now c.in_ok-right.after.now c.in-Some.op
+    e b e b c.operators.invariant c.in-Some.ensures.0 c.in-Some.ensures.1 c.in_ok-right.ensures refl refl p.0 p.1)
 
 pub level-returns-then-level_now-eq-COMPARISON : goal.level-returns-then-level_now-eq-COMPARISON
 level-returns-then-level_now-eq-COMPARISON m c =
     let n = c.args.level_now in
     let five : n ≡ 5 = c.if-level_now-eq-COMPARISON.true in
-    binary_took n n c.args.depth [] c.args.ts.now c.operators.rest.now c.in-Some.behind.now c.in_ok-right.after.now c.in-Some.op
-    (tree_of c.operators.left) (tree_of c.in_ok-right.right) (tree_of c.in_ok-new.field-0.value) (tree_of c.in_ok-new-2.field-0.value)
-    c.operators.invariant c.in-Some.ensures.0 c.in-Some.ensures.1 c.in_ok-right.ensures (ap tree_of c.in_ok-new.ensures.ok) (ap tree_of c.in_ok-new-2.ensures.ok) refl (sym (ap again five))
+    let a = tree_of c.operators.first-1 in
+    let e = joined a c.operators.more.items in
+    let b = tree_of c.in_ok-right.right in
+    let same : tree_of c.in_ok-chain.field-0 ≡ Binary c.in-Some.op e b =
+    c.in_ok-chain.ensures.ok ∙ ap (joined a) c.in_ok-push.ensures.items ∙ joined_last a c.operators.more.items (c.in-Some.op, c.in_ok-right.right) in
+    subst (λ (x : Expression). Took (Level n) [] c.args.depth c.args.ts.now (ATree x ∷ []) (fits_at n c.args.depth x) c.in_ok-right.after.now) (sym same)
+    (binary_took n n c.args.depth [] c.args.ts.now c.operators.rest.now c.in-Some.behind.now c.in_ok-right.after.now c.in-Some.op
+    e b e b c.operators.invariant c.in-Some.ensures.0 c.in-Some.ensures.1 c.in_ok-right.ensures refl refl refl (sym (ap again five)))
 
 pub group-returns : goal.group-returns
 group-returns m c =
@@ -107,7 +119,7 @@ level-returns-in_err-right m c =
     let p = err_from_is_err_and c.from_residual-in_err-right.result c.from_residual-in_err-right.ensures.1 in
     let d = c.args.depth in
     let n = c.args.level_now in
-    let left = tree_of c.operators.left in
+    let left = joined (tree_of c.operators.first-1) c.operators.more.items in
     let op = c.in-Some.op in
     rw (p.1, p.2) (fails_at (Level n) (Level (n - 1)) d d c.args.ts.now c.in-Some.behind.now (λ ps. Make (Operating op) ∷ (again n ++ ps)) (λ is. ATree left ∷ is)
     (λ ps i. c.operators.invariant.goes_on ps i ∙ ap (verdict (More n ∷ ps) (ATree left ∷ i) d) c.in-Some.ensures.0 ∙ operates n ps (ATree left ∷ i) d op c.in-Some.behind.now c.in-Some.ensures.1) _ c.in_err-right.ensures)

@@ -2,7 +2,7 @@ use Rattle.std.proofs.Common.{length, ◌+◌, ◌*◌, ◌∷◌, []}
 use Rattle.script_tree.specs.Grammar.{Level, More, ATree}
 use Rattle.script_tree.specs.Spelling.{chain_level}
 use Rattle.script_expression.specs.Takes.{Took, fits_at}
-use Rattle.script_tree.specs.Tree.{tree_of}
+use Rattle.script_tree.specs.Tree.{tree_of, joined}
 use Rattle.script_expression.proofs.levels.+exprs.Given as goal
 
 abbrev pub decreases-expression : goal.decreases-expression
@@ -24,7 +24,7 @@ abbrev pub decreases-group : goal.decreases-group
 decreases-group l = 32 * length l.ts.now + 3
 
 abbrev pub invariant-level-operators : goal.invariant-level-operators
-invariant-level-operators l = Took (Level l.level_now) (More l.level_now ∷ []) l.depth l.ts (ATree (tree_of l.left) ∷ []) (fits_at (chain_level l.level_now) l.depth (tree_of l.left)) l.rest
+invariant-level-operators l = Took (Level l.level_now) (More l.level_now ∷ []) l.depth l.ts (ATree (joined (tree_of l.first) l.more.items) ∷ []) (fits_at (chain_level l.level_now) l.depth (joined (tree_of l.first) l.more.items)) l.rest
 
 abbrev pub decreases-level-operators : goal.decreases-level-operators
 decreases-level-operators l = length l.rest
