@@ -3,12 +3,11 @@ ghost use Rattle.std.specs.List.{list_all, prefix_len};
 ghost use Rattle.slee_value.specs.Name.{is_letter, is_digit, is_byte_of_name};
 ghost use Rattle.script_tree.specs.Lexer.{spots_of, lexemes_of, cut, word_cut, number_cut, decimal_in, is_bad, is_blank, is_in_line, Gap};
 ghost use Rattle.script_tree.specs.Reading.{tokens_of, token_of, token_kind, symbol_kind, token_answer};
-ghost use Rattle.script_tree.specs.Words.{find_word};
 
 use crate::lexeme::{Cut, Lexeme};
 use crate::quote::quoted;
+use crate::reserve::reserved;
 use crate::sign::sign;
-use crate::symbol::WORDS;
 use crate::{Identifier, NUMBER_LIMIT, Number, Symbol, Token, TokenKind};
 use slee_value::{NAME_LIMIT, Name, NoMemory};
 use std::alloc::Global;
@@ -31,8 +30,8 @@ pub fn lex(alloc: Global, text: &str) -> Result<Lexed, NoMemory>
     ensures answer { IfOk result (λ x. tokens_of text.now ≡ token_answer text.now x.bad x.tokens.items) }
 {
     let bytes = text.as_bytes();
-    let mut lexemes = Vec::new(alloc);
-    let mut tokens = Vec::new(alloc);
+    let mut lexemes = Vec::with_capacity(alloc, bytes.len() / 4)?;
+    let mut tokens = Vec::with_capacity(alloc, bytes.len() / 4)?;
     let mut at = gap_len(bytes);
     'tokens: while at < bytes.len() {
         let Cut { lexeme, size } = token_at(alloc, text, at)?;
@@ -143,7 +142,7 @@ fn word(alloc: Global, run: &[u8]) -> Result<Cut, NoMemory>
     ensures { IfOk result (λ x. x ≡ word_cut run.now) }
 {
     let size = run.len();
-    if let Some(symbol) = find_word(&WORDS, run) {
+    if let Some(symbol) = reserved(run) {
         return Ok(Cut {
             lexeme: Lexeme::Symbol(symbol),
             size,
@@ -160,18 +159,6 @@ fn word(alloc: Global, run: &[u8]) -> Result<Cut, NoMemory>
         lexeme: Lexeme::Name(name),
         size,
     })
-}
-
-/// The word among these that is spelled so.
-fn find_word(words: &[Symbol], bytes: &[u8]) -> Option<Symbol>
-    ensures { result ≡ find_word words.now bytes.now }
-{
-    for word in words {
-        if word.as_bytes() == bytes {
-            return Some(*word);
-        }
-    }
-    None
 }
 
 /// The number that digits write, without zeros in front.
