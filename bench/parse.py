@@ -3,8 +3,8 @@
 
     python3 bench/parse.py
 
-Each line is the median of five runs over one text of about a megabyte, in megabytes of script text a second of the
-processor. It is to be at least 20. Build the program first: cd crates/lang_rows && rt run < stdin
+Each line is the median of five runs over texts of one size, in megabytes of script text a second of the processor. It is
+to be at least 20. Build the program first: cd crates/lang_rows && rt run < stdin
 """
 import os
 import resource
@@ -14,8 +14,8 @@ import sys
 
 HERE = os.path.dirname(os.path.abspath(__file__))
 PROGRAM = os.path.join(HERE, "..", "crates", "lang_rows", "out", "lang_rows")
-SIZE = 1_000_000
-TIMES = 20
+SIZES = (2_000, 16_000, 1_000_000)
+WHOLE = 20_000_000
 RUNS = 5
 
 PREPAID = (
@@ -51,17 +51,19 @@ def seconds(text, times):
 
 def speed(text):
     """Megabytes a second, without what the program takes to begin and to read its input."""
-    return len(text) * TIMES / (seconds(text, TIMES) - seconds(text, 0)) / 1e6
+    times = WHOLE // len(text)
+    return len(text) * times / (seconds(text, times) - seconds(text, 0)) / 1e6
 
 
 def main():
     if not os.path.exists(PROGRAM):
         sys.exit("build it first: cd crates/lang_rows && rt run < stdin")
-    print(f"{'text':>12} {'MB/s':>6} {'least':>6} {'most':>6}")
+    print(f"{'text':>12} {'bytes':>8} {'MB/s':>6} {'least':>6} {'most':>6}")
     for name, piece in (("prepaid", PREPAID), ("statements", STATEMENTS), ("expressions", EXPRESSIONS), ("commented", COMMENTED)):
-        text = piece * (SIZE // len(piece))
-        speeds = sorted(speed(text) for _ in range(RUNS))
-        print(f"{name:>12} {statistics.median(speeds):>6.1f} {speeds[0]:>6.1f} {speeds[-1]:>6.1f}")
+        for size in SIZES:
+            text = piece * (size // len(piece))
+            speeds = sorted(speed(text) for _ in range(RUNS))
+            print(f"{name:>12} {len(text):>8} {statistics.median(speeds):>6.1f} {speeds[0]:>6.1f} {speeds[-1]:>6.1f}")
 
 
 if __name__ == "__main__":

@@ -25,6 +25,7 @@ pub record TookStmts (more : List Part) (d : ℕ) (ts : List Lexeme) (body : Sta
   pub good_one : IsTrue good
   pub goes_on : (ps : List Part) (is : List Item) → verdict (Stmts ∷ ps) (ABlock tree.Nothing ∷ is) d ts ≡ verdict (more ++ ps) (ABlock body ∷ is) d rest
 
+-- the fault stands within the statements, whatever follows them
 abbrev pub FailStmts : ℕ → List Lexeme → ReadError → Type 0
 FailStmts d ts errors.NoMemory = Unit {0}
 FailStmts d ts (errors.Misfit f) = (ps : List Part) (is : List Item) → verdict (Stmts ∷ ps) (ABlock tree.Nothing ∷ is) d ts ≡ Faulty f
@@ -36,6 +37,7 @@ pub record TookBlock (d : ℕ) (ts : List Lexeme) (body : Statements) (good : Bo
   pub room : IsTrue (nat_le (d + 1) 64)
   pub goes_on : (m : Making) (ps : List Part) (is : List Item) → verdict (Block m ∷ ps) is d ts ≡ verdict ps (make m (ABlock body ∷ is)) d rest
 
+-- the fault stands within the block, whatever is made of it
 abbrev pub FailsBlock : ℕ → List Lexeme → ReadError → Type 0
 FailsBlock d ts errors.NoMemory = Unit {0}
 FailsBlock d ts (errors.Misfit f) = (m : Making) (ps : List Part) (is : List Item) → verdict (Block m ∷ ps) is d ts ≡ Faulty f
@@ -47,14 +49,17 @@ block_word_fixed x.While = Some words.While
 block_word_fixed x.For = Some words.For
 block_word_fixed _ = None
 
+-- the same of a token
 abbrev pub block_word_at : Lexeme → Option BlockWord
 block_word_at (t.Symbol (s.Fixed y)) = block_word_fixed y
 block_word_at _ = None
 
+-- the same of the first of some tokens
 abbrev pub block_word_in : List Lexeme → Option BlockWord
 block_word_in [] = None
 block_word_in (token ∷ ts) = block_word_at token
 
+-- the word itself
 abbrev pub fixed_of : BlockWord → Fixed
 fixed_of words.If = x.If
 fixed_of words.While = x.While

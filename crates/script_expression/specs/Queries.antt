@@ -47,6 +47,7 @@ items_before h.Attribute = []
 items_before (h.Profile table) = AName table ∷ []
 items_before (h.HasProfile table) = AName table ∷ []
 
+-- whether the names and texts before the expression are ones of a script
 abbrev pub head_fits : QueryHead → Bool
 head_fits (h.Plain f) = true
 head_fits (h.Masked event) = is_literal event
@@ -67,6 +68,7 @@ pub record TookTail (d : ℕ) (head : QueryHead) (ts : List Lexeme) (query : Que
   pub good_one : head_fits head ≡ true → query_fits query ≡ true
   pub goes_on : (a : Expression) (ps : List Part) (is : List Item) → verdict (parts_behind head ++ ps) (ATree a ∷ (items_before head ++ is)) (d + 1) ts ≡ verdict ps (ATree (Ask query a) ∷ is) d rest
 
+-- the fault stands behind the expression
 abbrev pub FailsTail : ℕ → QueryHead → List Lexeme → ReadError → Type 0
 FailsTail d head ts errors.NoMemory = Unit {0}
 FailsTail d head ts (errors.Misfit f) = (a : Expression) (ps : List Part) (is : List Item) → verdict (parts_behind head ++ ps) (ATree a ∷ (items_before head ++ is)) (d + 1) ts ≡ Faulty f
@@ -77,6 +79,7 @@ pub record TookNamed (before : List Part) (d e : ℕ) (ts : List Lexeme) (name :
   pub good_one : is_identifier name ≡ true
   pub goes_on : (m : Making) (ps : List Part) (is : List Item) → verdict (before ++ (Name ∷ Make m ∷ One x.CloseRound ∷ ps)) is d ts ≡ verdict ps (make m (AName name ∷ is)) e rest
 
+-- the fault stands before the name, at it or behind it
 abbrev pub FailsNamed : List Part → ℕ → List Lexeme → ReadError → Type 0
 FailsNamed before d ts errors.NoMemory = Unit {0}
 FailsNamed before d ts (errors.Misfit f) = (m : Making) (ps : List Part) (is : List Item) → verdict (before ++ (Name ∷ Make m ∷ One x.CloseRound ∷ ps)) is d ts ≡ Faulty f

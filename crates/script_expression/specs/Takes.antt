@@ -32,10 +32,12 @@ abbrev pub parts_of : Next → List Part
 parts_of Stops = []
 parts_of (Goes qs js) = qs
 
+-- and what the token itself is
 abbrev pub items_of : Next → List Item
 items_of Stops = []
 items_of (Goes qs js) = js
 
+-- whether a token begins the part
 abbrev pub begins : Next → Bool
 begins Stops = false
 begins (Goes qs js) = true
@@ -66,18 +68,22 @@ abbrev pub prefix_at : ℕ → Lexeme → Option Prefix
 prefix_at n (t.Symbol y) = prefix_of n y
 prefix_at n _ = None
 
+-- the same of the first of some tokens
 abbrev pub prefix_in : ℕ → List Lexeme → Option Prefix
 prefix_in n [] = None
 prefix_in n (token ∷ ts) = prefix_at n token
 
+-- the operator of a level that a symbol is
 abbrev pub operator_of : ℕ → Symbol → Option Operator
 operator_of n (s.Operator op) = if level_of op == n then Some op else None
 operator_of n _ = None
 
+-- the same of a token
 abbrev pub operator_at : ℕ → Lexeme → Option Operator
 operator_at n (t.Symbol y) = operator_of n y
 operator_at n _ = None
 
+-- the same of the first of some tokens
 abbrev pub operator_in : ℕ → List Lexeme → Option Operator
 operator_in n [] = None
 operator_in n (token ∷ ts) = operator_at n token
@@ -93,6 +99,7 @@ pub record TookAll (parts more : List Part) (d e : ℕ) (ts : List Lexeme) (set 
   pub good_one : IsTrue good
   pub goes_on : (ps : List Part) (is : List Item) → verdict (parts ++ ps) is d ts ≡ verdict (more ++ ps) (set is) e rest
 
+-- the fault stands within these parts, whatever follows them
 abbrev pub FailsAll : List Part → ℕ → List Lexeme → ReadError → Type 0
 FailsAll parts d ts errors.NoMemory = Unit {0}
 FailsAll parts d ts (errors.Misfit f) = (ps : List Part) (is : List Item) → verdict (parts ++ ps) is d ts ≡ Faulty f
@@ -104,6 +111,7 @@ pub record TookBefore (y : Fixed) (d : ℕ) (ts : List Lexeme) (a : Expression) 
   pub goes_on : (ps : List Part) (is : List Item) → verdict (Level 8 ∷ One y ∷ ps) is d ts ≡ verdict ps (ATree a ∷ is) d rest
   pub makes : (m : Making) (ps : List Part) (is : List Item) → verdict (Level 8 ∷ Make m ∷ One y ∷ ps) is d ts ≡ verdict ps (make m (ATree a ∷ is)) d rest
 
+-- the fault stands in the expression or at what has to come behind it
 abbrev pub FailsBefore : Fixed → ℕ → List Lexeme → ReadError → Type 0
 FailsBefore y d ts errors.NoMemory = Unit {0}
 FailsBefore y d ts (errors.Misfit f) = ((ps : List Part) (is : List Item) → verdict (Level 8 ∷ One y ∷ ps) is d ts ≡ Faulty f) × ((m : Making) (ps : List Part) (is : List Item) → verdict (Level 8 ∷ Make m ∷ One y ∷ ps) is d ts ≡ Faulty f)

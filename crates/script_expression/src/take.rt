@@ -35,8 +35,8 @@ pub fn behind(ts: &[Lexeme], fixed: Fixed) -> Option<&[Lexeme]>
     }
 }
 
-#[tactic(auto, using(crate::proofs::Machine::refuse_fixed), unfolding(script_tree::specs::Grammar::verdict))]
 /// What follows a word or sign that has to come and is no bracket.
+#[tactic(auto, using(crate::proofs::Machine::refuse_fixed), unfolding(script_tree::specs::Grammar::verdict))]
 pub fn want(ts: &[Lexeme], fixed: Fixed, depth: u32) -> Result<&[Lexeme], ReadError>
     requires deep { depth ≤ 64 }
     requires no_bracket { turn_of fixed ≡ g.Stays }
@@ -48,8 +48,8 @@ pub fn want(ts: &[Lexeme], fixed: Fixed, depth: u32) -> Result<&[Lexeme], ReadEr
     }
 }
 
-#[tactic(auto, using(crate::proofs::Machine::refuse_fixed), unfolding(script_tree::specs::Grammar::verdict))]
 /// What follows a bracket that has to be opened.
+#[tactic(auto, using(crate::proofs::Machine::refuse_fixed), unfolding(script_tree::specs::Grammar::verdict))]
 pub fn open(ts: &[Lexeme], fixed: Fixed, depth: u32) -> Result<&[Lexeme], ReadError>
     requires deep { depth ≤ 64 }
     requires bracket { turn_of fixed ≡ g.Opens }

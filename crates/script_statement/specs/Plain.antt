@@ -13,6 +13,7 @@ has_block x.While = true
 has_block x.For = true
 has_block _ = false
 
+-- the same of a token
 abbrev pub opens_block : Lexeme → Bool
 opens_block (t.Symbol (s.Fixed y)) = has_block y
 opens_block _ = false

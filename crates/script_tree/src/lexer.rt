@@ -1,15 +1,13 @@
-ghost use Rattle.std.specs.Prelude.{◌≡◌, ◌≤◌, ◌-◌, ◌∷◌, ℕ, List, map, take, drop, length, slice_index, IfOk, IsTrue};
-ghost use Rattle.script_tree.specs.declared.symbol.TheConstants.{WORDS};
+ghost use Rattle.std.specs.Prelude.{◌≡◌, ◌≤◌, map, drop, length, slice_index, IfOk, IsTrue};
 ghost use Rattle.std.specs.List.{list_all, prefix_len};
 ghost use Rattle.slee_value.specs.Name.{is_letter, is_digit, is_byte_of_name};
 ghost use Rattle.script_tree.specs.Lexer.{spots_of, lexemes_of, cut, word_cut, number_cut, decimal_in, is_bad, is_blank, is_in_line, Gap};
 ghost use Rattle.script_tree.specs.Reading.{tokens_of, token_of, token_kind, symbol_kind, token_answer};
-ghost use Rattle.script_tree.specs.Words.{find_word, reserved};
 
 use crate::lexeme::{Cut, Lexeme};
 use crate::quote::quoted;
+use crate::reserve::reserved;
 use crate::sign::sign;
-use crate::symbol::WORDS;
 use crate::{Identifier, NUMBER_LIMIT, Number, Symbol, Token, TokenKind};
 use slee_value::{NAME_LIMIT, Name, NoMemory};
 use std::alloc::Global;
@@ -32,8 +30,8 @@ pub fn lex(alloc: Global, text: &str) -> Result<Lexed, NoMemory>
     ensures answer { IfOk result (λ x. tokens_of text.now ≡ token_answer text.now x.bad x.tokens.items) }
 {
     let bytes = text.as_bytes();
-    let mut lexemes = Vec::new(alloc);
-    let mut tokens = Vec::new(alloc);
+    let mut lexemes = Vec::with_capacity(alloc, bytes.len() / 4)?;
+    let mut tokens = Vec::with_capacity(alloc, bytes.len() / 4)?;
     let mut at = gap_len(bytes);
     'tokens: while at < bytes.len() {
         let Cut { lexeme, size } = token_at(alloc, text, at)?;
@@ -161,66 +159,6 @@ fn word(alloc: Global, run: &[u8]) -> Result<Cut, NoMemory>
         lexeme: Lexeme::Name(name),
         size,
     })
-}
-
-/// The word of the language that is spelled so.
-fn reserved(run: &[u8]) -> Option<Symbol>
-    ensures { result ≡ reserved run.now }
-{
-    let [first, ..] = run else {
-        return None;
-    };
-    let (from, to) = words_with(*first);
-    find_word(&WORDS[from..to], run)
-}
-
-/// Where the words that begin with this letter stand among all words, which are in byte order.
-fn words_with(letter: u8) -> (usize, usize)
-    ensures order { result.0 ≤ result.1 }
-    ensures within { result.1 ≤ 61 }
-    ensures found { (bytes : List ℕ) → find_word (take (result.1 - result.0) (drop result.0 WORDS)) (letter ∷ bytes) ≡ find_word WORDS (letter ∷ bytes) }
-{
-    match letter {
-        b'a' => (0, 10),
-        b'b' => (10, 12),
-        b'c' => (12, 16),
-        b'd' => (16, 17),
-        b'e' => (17, 22),
-        b'f' => (22, 27),
-        b'h' => (27, 29),
-        b'i' => (29, 31),
-        b'k' => (31, 32),
-        b'l' => (32, 36),
-        b'm' => (36, 38),
-        b'n' => (38, 42),
-        b'o' => (42, 44),
-        b'p' => (44, 46),
-        b'r' => (46, 49),
-        b's' => (49, 50),
-        b't' => (50, 57),
-        b'u' => (57, 60),
-        b'w' => (60, 61),
-        b'g' => (0, 0),
-        b'j' => (0, 0),
-        b'q' => (0, 0),
-        b'v' => (0, 0),
-        b'x' => (0, 0),
-        b'y' => (0, 0),
-        b'z' => (0, 0),
-        _ => (0, 61),
-    }
-}
-
-/// The word among these that is spelled so.
-fn find_word(words: &[Symbol], bytes: &[u8]) -> Option<Symbol>
-    ensures { result ≡ find_word words.now bytes.now }
-{
-    for word in words {
-        if word.as_bytes() == bytes {
-            return Some(*word);
-        }
-    }
-    None
 }
 
 /// The number that digits write, without zeros in front.

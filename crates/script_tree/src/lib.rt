@@ -8,6 +8,7 @@ mod lexer;
 mod literal;
 mod number;
 mod quote;
+mod reserve;
 mod scanning;
 mod script;
 mod sign;

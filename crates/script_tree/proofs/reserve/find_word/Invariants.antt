@@ -1,6 +1,6 @@
 use Rattle.std.proofs.Common.{◌≡◌, drop}
 use Rattle.script_tree.specs.Words.{find_word}
-use Rattle.script_tree.proofs.lexer.find_word.Given as goal
+use Rattle.script_tree.proofs.reserve.find_word.Given as goal
 
 -- no word before this one is it
 abbrev pub invariant-loop-word : goal.invariant-loop-word
