@@ -1,4 +1,5 @@
 pub mod Rows
+pub mod Chains
 pub mod Printed
 pub mod Spelled
 pub mod Levels

@@ -1,6 +1,7 @@
 ghost use Rattle.std.specs.Prelude.{◌≡◌, ◌≤◌, ◌++◌, ◌∷◌, [], OnOk, map, not, nat_le};
 ghost use Rattle.script_tree.specs.Spelling as spelling;
 ghost use Rattle.script_tree.specs.Reading.{opening, closing};
+ghost use Rattle.script_print.specs.Chains.{openings, operations};
 ghost use Rattle.script_tree.specs.Tree.{tree_of, assigning_of, on_entities_of, on_activities_of, field_of, repeat_of, setting_of, statement_of, statements_of};
 
 use script_tree::{
@@ -111,6 +112,7 @@ impl Speller {
         }
     }
 
+    #[cycle(expressions)]
     fn expression(&mut self, e: &Expr) -> Result<(), NoMemory>
         ensures { OnOk result (self.new.tokens.items ≡ self.old.tokens.items ++ spelling.spell_expression (tree_of e.now)) }
     {
@@ -123,16 +125,11 @@ impl Speller {
                 self.expression(inner)?;
                 self.close(brackets)
             }
-            Expr::Binary(operator, left, right) => {
-                let outer = needs_brackets(left, left_level(*operator));
-                self.open(outer)?;
-                self.expression(left)?;
-                self.close(outer)?;
-                self.symbol(Symbol::Operator(*operator))?;
-                let inner = needs_brackets(right, operator.level() - 1);
-                self.open(inner)?;
-                self.expression(right)?;
-                self.close(inner)
+            Expr::Chain(first, more) => {
+                let left = level_of(first);
+                self.openings(more, left)?;
+                self.expression(first)?;
+                self.operations(more, left)
             }
             Expr::Ask(query, inner) => {
                 self.before(query)?;
@@ -140,6 +137,36 @@ impl Speller {
                 self.behind(query)
             }
         }
+    }
+
+    /// The brackets that open before the first operand of a chain, which has this level.
+    fn openings(&mut self, more: &[(Operator, Expr)], level: u8) -> Result<(), NoMemory>
+        ensures { OnOk result (self.new.tokens.items ≡ self.old.tokens.items ++ openings level more.now) }
+    {
+        let mut left = level;
+        for (operator, _) in more {
+            self.open(left > left_level(*operator))?;
+            left = operator.level();
+        }
+        Ok(())
+    }
+
+    /// What stands behind the first operand of a chain, which has this level.
+    #[cycle(expressions)]
+    fn operations(&mut self, more: &[(Operator, Expr)], level: u8) -> Result<(), NoMemory>
+        ensures { OnOk result (self.new.tokens.items ≡ self.old.tokens.items ++ operations level more.now) }
+    {
+        let mut left = level;
+        for (operator, operand) in more {
+            self.close(left > left_level(*operator))?;
+            self.symbol(Symbol::Operator(*operator))?;
+            let inner = needs_brackets(operand, operator.level() - 1);
+            self.open(inner)?;
+            self.expression(operand)?;
+            self.close(inner)?;
+            left = operator.level();
+        }
+        Ok(())
     }
 
     fn before(&mut self, query: &Query) -> Result<(), NoMemory>
@@ -543,7 +570,10 @@ fn level_of(e: &Expr) -> u8
     match e {
         Expr::Leaf(_) => 0,
         Expr::Unary(prefix, _) => prefix_level(*prefix),
-        Expr::Binary(operator, _, _) => operator.level(),
+        Expr::Chain(first, more) => match more.last() {
+            Some((operator, _)) => operator.level(),
+            None => level_of(first),
+        },
         Expr::Ask(_, _) => 0,
     }
 }

@@ -1,0 +1,93 @@
+-- A chain of operators is spelled as the tree that it stands for.
+use Rattle.std.proofs.Common.{◌≡◌, ◌≤◌, ◌<◌, ◌-◌, ℕ, length, get_or, arith, List, [], ◌∷◌, ◌++◌, Bool, true, false, Vec, Box, Global, refl, sym, ap, ◌∙◌, append_assoc}
+use Rattle.std.specs.Prelude.{not, nat_le}
+use Rattle.std.proofs.lemmas.List.{append-nil}
+use mathlib.Core.Former.{Count}
+use native.Mathlib.Numerals.{unary_clauses}
+use Rattle.script_tree.specs.declared.symbol.Operator.{Operator}
+use Rattle.script_tree.specs.declared.symbol.Symbol.TheVariants as s
+use Rattle.script_tree.specs.declared.lexeme.Lexeme.{Lexeme}
+use Rattle.script_tree.specs.declared.lexeme.Lexeme.TheVariants as t
+use Rattle.script_tree.specs.declared.tree.Expr.{Expr, Chain, Chain', Row_of-Expr-Chain-1-2, end_of-Expr-Chain-1-2, more_of-Expr-Chain-1-2, items-the_row-Expr-Chain-1-2, items_hidden-the_row-Expr-Chain-1-2-0}
+use Rattle.script_tree.specs.Grammar.{level_of}
+use Rattle.script_tree.specs.Tree.{Expression, Binary, tree_of, joined_row, joined}
+use Rattle.script_tree.specs.Spelling.{fixed, level, left_level, at_level, spell_expression}
+use Rattle.script_tree.specs.Reading.{opening, closing}
+use Rattle.script_print.specs.Chains.{chain_level, openings, operation, operations}
+use Rattle.script_print.proofs.Rows.{bracketed}
+
+row_joined : (x : Expression) (n : _) (row : Row_of-Expr-Chain-1-2 n) → joined_row x row ≡ joined x (items-the_row-Expr-Chain-1-2 n row)
+row_joined x n end_of-Expr-Chain-1-2 = refl
+row_joined x n (more_of-Expr-Chain-1-2 op y more) = row_joined (Binary op x (tree_of y)) _ more
+
+abbrev chain_row : Expr → (n : Count) × Row_of-Expr-Chain-1-2 n
+chain_row (Chain' _ x _ row) = (_, row)
+chain_row _ = (_, end_of-Expr-Chain-1-2)
+
+pub chain_tree : (x : Box Expr Global) (v : Vec (Operator × Expr) Global) → tree_of (Chain x v) ≡ joined (tree_of x.value) v.items
+chain_tree x v =
+    let row = chain_row (Chain x v) in
+    row_joined (tree_of x.value) row.0 row.1 ∙ ap (joined (tree_of x.value)) (items_hidden-the_row-Expr-Chain-1-2-0 v)
+
+pub joined_level : (x : Expression) (xs : List (Operator × Expr)) → level (joined x xs) ≡ chain_level (level x) xs
+joined_level x [] = refl
+joined_level x (y ∷ xs) = joined_level (Binary y.0 x (tree_of y.1)) xs
+
+-- brackets that open are all alike
+turned : (a b : Bool) (ts : List Lexeme) → opening a ++ (opening b ++ ts) ≡ opening b ++ (opening a ++ ts)
+turned true true ts = refl
+turned true false ts = refl
+turned false true ts = refl
+turned false false ts = refl
+
+opened : (b : Bool) (n : ℕ) (xs : List (Operator × Expr)) → openings n xs ++ opening b ≡ opening b ++ openings n xs
+opened b n [] = sym (append-nil (opening b))
+opened b n (y ∷ xs) =
+    let c = not (nat_le n (left_level y.0)) in
+    let os = openings (level_of y.0) xs in
+    append_assoc (opening c) os (opening b) ∙ ap (λ ts. opening c ++ ts) (opened b (level_of y.0) xs) ∙ turned c b os
+
+-- the left side of an operator and its right operand
+one_spelled : (x : Expression) (y : Operator × Expr) → spell_expression (Binary y.0 x (tree_of y.1)) ≡ opening (not (nat_le (level x) (left_level y.0))) ++ (spell_expression x ++ (closing (not (nat_le (level x) (left_level y.0))) ++ operation y))
+one_spelled x y =
+    let b = nat_le (level x) (left_level y.0) in
+    let ts = spell_expression x in
+    ap (λ l. l ++ operation y) (sym (bracketed b ts))
+    ∙ append_assoc (opening (not b)) (ts ++ closing (not b)) (operation y)
+    ∙ ap (λ l. opening (not b) ++ l) (append_assoc ts (closing (not b)) (operation y))
+
+pub joined_spelled : (x : Expression) (xs : List (Operator × Expr)) → spell_expression (joined x xs) ≡ openings (level x) xs ++ (spell_expression x ++ operations (level x) xs)
+joined_spelled x [] = sym (append-nil (spell_expression x))
+joined_spelled x (y ∷ xs) =
+    let b = not (nat_le (level x) (left_level y.0)) in
+    let ts = spell_expression x in
+    let os = openings (level_of y.0) xs in
+    let more = operations (level_of y.0) xs in
+    joined_spelled (Binary y.0 x (tree_of y.1)) xs
+    ∙ ap (λ l. os ++ (l ++ more)) (one_spelled x y)
+    ∙ ap (λ l. os ++ l) (append_assoc (opening b) (ts ++ (closing b ++ operation y)) more)
+    ∙ sym (append_assoc os (opening b) ((ts ++ (closing b ++ operation y)) ++ more))
+    ∙ ap (λ l. l ++ ((ts ++ (closing b ++ operation y)) ++ more)) (opened b (level_of y.0) xs)
+    ∙ ap (λ l. (opening b ++ os) ++ l) (append_assoc ts (closing b ++ operation y) more ∙ ap (λ l. ts ++ l) (append_assoc (closing b) (operation y) more))
+
+pub chain_spelled : (x : Box Expr Global) (v : Vec (Operator × Expr) Global) (y : Expr) (n : ℕ) (old first more : List Lexeme) → y ≡ Chain x v → n ≡ level (tree_of x.value) → first ≡ old ++ openings n v.items → more ≡ first ++ spell_expression (tree_of x.value) → more ++ operations n v.items ≡ old ++ spell_expression (tree_of y)
+chain_spelled x v y n old first more is m f s =
+    let ts = spell_expression (tree_of x.value) in
+    let os = openings n v.items in
+    let ps = operations n v.items in
+    let whole = ap tree_of is ∙ chain_tree x v in
+    ap (λ l. l ++ ps) (s ∙ ap (λ l. l ++ ts) f ∙ append_assoc old os ts) ∙ append_assoc old (os ++ ts) ps
+    ∙ ap (λ l. old ++ l) (append_assoc os ts ps ∙ ap (λ k. openings k v.items ++ (ts ++ operations k v.items)) m)
+    ∙ ap (λ l. old ++ l) (sym (ap spell_expression whole ∙ joined_spelled (tree_of x.value) v.items))
+
+pub chain_leveled : (x : Box Expr Global) (v : Vec (Operator × Expr) Global) (y : Expr) → y ≡ Chain x v → level (tree_of y) ≡ chain_level (level (tree_of x.value)) v.items
+chain_leveled x v y is = ap level (ap tree_of is ∙ chain_tree x v) ∙ joined_level (tree_of x.value) v.items
+
+pub chain_last : (n : ℕ) (xs : List (Operator × Expr)) (y : Operator × Expr) → 0 < length xs → y ≡ get_or xs (length xs - 1) y → chain_level n xs ≡ level_of y.0
+chain_last n [] y lt h = absurd (omega arith)
+chain_last n (z ∷ []) y lt h = ap (λ w. level_of w.0) (sym h)
+chain_last n (z ∷ w ∷ xs) y lt h = chain_last (level_of z.0) (w ∷ xs) y (omega arith) (simp unary_clauses (simp unary_clauses at h))
+
+pub chain_alone : (n : ℕ) (xs : List (Operator × Expr)) → length xs ≤ 0 → chain_level n xs ≡ n
+chain_alone n [] le = refl
+chain_alone n (z ∷ xs) le = absurd (omega arith)

@@ -1,0 +1,20 @@
+use Rattle.std.proofs.Common.{◌≡◌, ◌∙◌, ℕ, sym, ap}
+use Rattle.script_print.proofs.Chains.{chain_leveled, chain_last, chain_alone}
+use Rattle.script_print.specs.Chains.{chain_level}
+use Rattle.script_tree.specs.Spelling.{level}
+use Rattle.script_tree.specs.Tree.{tree_of}
+use Rattle.script_print.proofs.speller.+level_of.Goals as goal
+
+pub returns-in-Some : goal.returns-in-Some
+returns-in-Some t c =
+    let whole = chain_leveled _ _ _ c.in-Chain.is in
+    let item = rw c.deref.ensures.value at c.in-Some.ensures.item in
+    let last = chain_last (level (tree_of c.in-Chain.first.value)) c.in-Chain.more.items _ item.3.0 item.1 in
+    c.level.ensures ∙ sym (whole ∙ last)
+
+pub returns-in-None : goal.returns-in-None
+returns-in-None t c =
+    let whole = chain_leveled _ _ _ c.in-Chain.is in
+    let first = rw c.deref-in-None.ensures at c.level_of.ensures in
+    let none = rw c.deref.ensures.value at c.in-None.ensures.item in
+    first ∙ sym (whole ∙ chain_alone (level (tree_of c.in-Chain.first.value)) c.in-Chain.more.items none.3)
