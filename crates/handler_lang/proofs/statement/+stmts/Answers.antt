@@ -31,13 +31,13 @@ branch-returns-in_err-body m c =
 pub branch-returns-in_err-other : goal.branch-returns-in_err-other
 branch-returns-in_err-other m c =
     let p = err_from_is_err_and c.from_residual-in_err-other.result c.from_residual-in_err-other.ensures.1 in
-    rw (p.1, p.2) (fails_block _ _ _ _ _ _ _ _ (to_other _ _ _ _ _ _ _ c.in_ok-body.body c.requires.begun c.in_ok-test.ensures c.in_ok-body.ensures c.in-Some.ensures) _ c.in_err-other.ensures)
+    rw (p.1, p.2) (fails_block _ _ _ _ _ _ _ _ (to_other _ _ _ _ _ _ c.in_ok-test.test c.in_ok-body.body c.requires.begun c.in_ok-test.ensures c.in_ok-body.ensures c.in-Some.ensures) _ c.in_err-other.ensures)
 
 pub branch-returns-in_default : goal.branch-returns-in_default
-branch-returns-in_default m c = if_took _ _ _ _ _ _ c.in_ok-body.body c.requires.begun c.in_ok-test.ensures c.in_ok-body.ensures c.in_default.ensures
+branch-returns-in_default m c = if_took _ _ _ _ _ c.in_ok-test.test c.in_ok-body.body c.requires.begun c.in_ok-test.ensures c.in_ok-body.ensures c.in_default.ensures
 
 pub branch-returns : goal.branch-returns
-branch-returns m c = if_else_took _ _ _ _ _ _ _ _ c.in_ok-body.body c.in_ok-other.other c.requires.begun c.in_ok-test.ensures c.in_ok-body.ensures c.in-Some.ensures c.in_ok-other.ensures
+branch-returns m c = if_else_took _ _ _ _ _ _ _ c.in_ok-test.test c.in_ok-body.body c.in_ok-other.other c.requires.begun c.in_ok-test.ensures c.in_ok-body.ensures c.in-Some.ensures c.in_ok-other.ensures
 
 pub repeat-returns-in_err-test : goal.repeat-returns-in_err-test
 repeat-returns-in_err-test m c =
@@ -50,7 +50,7 @@ repeat-returns-in_err-body m c =
     rw (p.1, p.2) (fails_block _ _ _ _ _ _ _ _ (λ ps i. c.requires.begun.goes_on ps i ∙ c.in_ok-test.ensures.goes_on _ _) _ c.in_err-body.ensures)
 
 pub repeat-returns : goal.repeat-returns
-repeat-returns m c = while_took _ _ _ _ _ _ c.in_ok-body.body c.requires.begun c.in_ok-test.ensures c.in_ok-body.ensures
+repeat-returns m c = while_took _ _ _ _ _ c.in_ok-test.test c.in_ok-body.body c.requires.begun c.in_ok-test.ensures c.in_ok-body.ensures
 
 pub walk-returns-in_err-name : goal.walk-returns-in_err-name
 walk-returns-in_err-name m c =
