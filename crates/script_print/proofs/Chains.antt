@@ -5,13 +5,11 @@ use Rattle.std.proofs.lemmas.List.{append-nil}
 use mathlib.Core.Former.{Count}
 use native.Mathlib.Numerals.{unary_clauses}
 use Rattle.script_tree.specs.declared.symbol.Operator.{Operator}
-use Rattle.script_tree.specs.declared.symbol.Symbol.TheVariants as s
 use Rattle.script_tree.specs.declared.lexeme.Lexeme.{Lexeme}
-use Rattle.script_tree.specs.declared.lexeme.Lexeme.TheVariants as t
 use Rattle.script_tree.specs.declared.tree.Expr.{Expr, Chain, Chain', Row_of-Expr-Chain-1-2, end_of-Expr-Chain-1-2, more_of-Expr-Chain-1-2, items-the_row-Expr-Chain-1-2, items_hidden-the_row-Expr-Chain-1-2-0}
 use Rattle.script_tree.specs.Grammar.{level_of}
 use Rattle.script_tree.specs.Tree.{Expression, Binary, tree_of, joined_row, joined}
-use Rattle.script_tree.specs.Spelling.{fixed, level, left_level, at_level, spell_expression}
+use Rattle.script_tree.specs.Spelling.{level, left_level, spell_expression}
 use Rattle.script_tree.specs.Reading.{opening, closing}
 use Rattle.script_print.specs.Chains.{chain_level, openings, operation, operations}
 use Rattle.script_print.proofs.Rows.{bracketed}

@@ -1,6 +1,5 @@
-use Rattle.std.proofs.Common.{◌≡◌, ◌∙◌, ℕ, sym, ap}
+use Rattle.std.proofs.Common.{◌∙◌, sym}
 use Rattle.script_print.proofs.Chains.{chain_leveled, chain_last, chain_alone}
-use Rattle.script_print.specs.Chains.{chain_level}
 use Rattle.script_tree.specs.Spelling.{level}
 use Rattle.script_tree.specs.Tree.{tree_of}
 use Rattle.script_print.proofs.speller.+level_of.Goals as goal
