@@ -30,8 +30,8 @@ pub fn lex(alloc: Global, text: &str) -> Result<Lexed, NoMemory>
     ensures answer { IfOk result (λ x. tokens_of text.now ≡ token_answer text.now x.bad x.tokens.items) }
 {
     let bytes = text.as_bytes();
-    let mut lexemes = Vec::with_capacity(alloc, bytes.len() / 4)?;
-    let mut tokens = Vec::with_capacity(alloc, bytes.len() / 4)?;
+    let mut lexemes = Vec::with_capacity(alloc, bytes.len() / 3)?;
+    let mut tokens = Vec::with_capacity(alloc, bytes.len() / 3)?;
     let mut at = gap_len(bytes);
     'tokens: while at < bytes.len() {
         let Cut { lexeme, size } = token_at(alloc, text, at)?;
