@@ -87,6 +87,9 @@ fn level(
         return Ok((e, rest));
     }
     let (first, mut rest) = operand(alloc, ts, level_now, depth)?;
+    if operator(rest, level_now).is_none() {
+        return Ok((first, rest));
+    }
     let mut more = Vec::new(alloc);
     'operators: while let Some((op, behind)) = operator(rest, level_now) {
         let (right, after) = level(alloc, behind, level_now - 1, depth)?;

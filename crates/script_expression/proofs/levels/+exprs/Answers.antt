@@ -1,4 +1,4 @@
-use Rattle.std.proofs.Common.{rules, ◌≡◌, ◌+◌, ◌-◌, arith, ◌∷◌, [], ◌++◌, refl, sym, ap, subst, ◌∙◌}
+use Rattle.std.proofs.Common.{rules, ◌≡◌, ◌+◌, ◌-◌, arith, ◌∷◌, [], ◌++◌, refl, sym, ap, subst, ◌∙◌, not}
 use Rattle.std.proofs.lemmas.Result.{err_from_is_err_and}
 use Rattle.script_tree.specs.declared.lexeme.Lexeme.TheVariants as t
 use Rattle.script_tree.specs.declared.symbol.Symbol.TheVariants as s
@@ -9,7 +9,7 @@ use Rattle.script_expression.specs.Takes.{Took, fits_at, prefix_in}
 use Rattle.script_tree.specs.Tree.{Expression, Binary, tree_of, joined}
 use Rattle.script_expression.proofs.Machine.{fails_at, prim_begun}
 use Rattle.script_expression.proofs.Operators.{opens, skip_more, unary_took, binary_took, fits_chain, fits_unchained, no_prim, refuse_prim, not_five, group_took, group_opens, group_deep, operates, prefixed}
-use Rattle.script_expression.proofs.Chains.{joined_last}
+use Rattle.script_expression.proofs.Chains.{joined_last, where_none}
 use Rattle.script_expression.proofs.levels.+exprs.Goals as goal
 
 pub operand-returns-in_err-e-in-None : goal.operand-returns-in_err-e-in-None
@@ -46,6 +46,17 @@ level-returns m c =
       good_one = fits_unchained n c.args.depth e took.good_one;
       goes_on = λ ps is. took.goes_on ps is ∙ skip_more n ps (ATree e ∷ is) c.args.depth c.operators.rest.now c.in_default.ensures;
     })
+
+pub level-returns-then-is_none : goal.level-returns-then-is_none
+level-returns-then-is_none m c =
+    let took = c.in_ok-first.ensures in
+    let n = c.args.level_now in
+    let e = tree_of c.in_ok-first.first in
+    record {
+      shorter = took.shorter;
+      good_one = fits_unchained n c.args.depth e took.good_one;
+      goes_on = λ ps is. took.goes_on ps is ∙ skip_more n ps (ATree e ∷ is) c.args.depth c.in_ok-first.rest.now (where_none _ _ c.operator.result (ap not c.if-is_none.ensures) c.operator.ensures);
+    }
 
 pub level-operators-preserved : goal.level-operators-preserved
 level-operators-preserved m c =
