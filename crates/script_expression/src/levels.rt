@@ -12,7 +12,7 @@ ghost use Rattle.script_expression.specs.declared.refusal.ReadError.TheVariants 
 use crate::named::{count, event_field, field, priority, table};
 use crate::query::{QueryWord, query_head, query_tail};
 use crate::refusal::{ReadError, too_deep, unexpected};
-use crate::take::{close, operator, prefix, want};
+use crate::take::{close, operator, prefix, stands_alone, want};
 use script_tree::{Expr, Fixed, Leaf, Lexeme, Operator, Symbol};
 use std::alloc::Global;
 
@@ -85,6 +85,10 @@ fn level(
     if level_now == 0 {
         let (e, rest) = prim(alloc, ts, depth)?;
         return Ok((e, rest));
+    }
+    if stands_alone(ts, level_now) {
+        let (leaf, rest) = prim(alloc, ts, depth)?;
+        return Ok((leaf, rest));
     }
     let (first, mut rest) = operand(alloc, ts, level_now, depth)?;
     if operator(rest, level_now).is_none() {

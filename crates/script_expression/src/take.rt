@@ -5,7 +5,7 @@ ghost use Rattle.script_tree.specs.declared.lexeme.Lexeme.TheVariants as t;
 ghost use Rattle.script_tree.specs.Grammar as g;
 ghost use Rattle.script_tree.specs.Grammar.{level_of, turn_of};
 ghost use Rattle.script_tree.specs.Numbers.{is_fixed};
-ghost use Rattle.script_expression.specs.Takes.{Took, Turned, Fails, prefix_at, prefix_in, operator_in, starts};
+ghost use Rattle.script_expression.specs.Takes.{Took, Turned, Fails, prefix_at, prefix_in, operator_in, starts, is_operand, joins, ends_operand, stands_alone};
 ghost use Rattle.script_tree.specs.Spelling.{over_fits, who_fits};
 ghost use Rattle.script_tree.specs.Words.{is_identifier, is_literal};
 
@@ -124,6 +124,44 @@ pub fn operator(ts: &[Lexeme], level: u8) -> Option<(Operator, &[Lexeme])>
             None
         }
         _ => None,
+    }
+}
+
+/// Whether the first token is a whole operand of a level: no operator of the level or below follows it.
+pub fn stands_alone(ts: &[Lexeme], level: u8) -> bool
+    ensures { result ≡ stands_alone level ts.now }
+{
+    let [first, rest @ ..] = ts else {
+        return false;
+    };
+    is_operand(first) && ends_operand(rest, level)
+}
+
+fn is_operand(token: &Lexeme) -> bool
+    ensures { result ≡ is_operand token.now }
+{
+    match token {
+        Lexeme::Int(_) | Lexeme::Text(_) | Lexeme::Name(_) | Lexeme::Symbol(Symbol::Constant(_)) =>
+            true,
+        _ => false,
+    }
+}
+
+fn ends_operand(ts: &[Lexeme], level: u8) -> bool
+    ensures { result ≡ ends_operand level ts.now }
+{
+    match ts {
+        [] => true,
+        [first, ..] => !joins(first, level),
+    }
+}
+
+fn joins(token: &Lexeme, level: u8) -> bool
+    ensures { result ≡ joins level token.now }
+{
+    match token {
+        Lexeme::Symbol(Symbol::Operator(found)) => found.level() <= level,
+        _ => false,
     }
 }
 

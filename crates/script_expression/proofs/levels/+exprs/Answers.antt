@@ -8,7 +8,7 @@ use Rattle.script_tree.specs.Spelling.{chain_level}
 use Rattle.script_expression.specs.Takes.{Took, fits_at, prefix_in}
 use Rattle.script_tree.specs.Tree.{Expression, Binary, tree_of, joined}
 use Rattle.script_expression.proofs.Machine.{fails_at, prim_begun}
-use Rattle.script_expression.proofs.Operators.{opens, skip_more, unary_took, binary_took, fits_chain, fits_unchained, no_prim, refuse_prim, not_five, group_took, group_opens, group_deep, operates, prefixed}
+use Rattle.script_expression.proofs.Operators.{alone, alone_took, opens, skip_more, unary_took, binary_took, fits_chain, fits_unchained, no_prim, refuse_prim, not_five, group_took, group_opens, group_deep, operates, prefixed}
 use Rattle.script_expression.proofs.Chains.{joined_last, where_none}
 use Rattle.script_expression.proofs.levels.+exprs.Goals as goal
 
@@ -157,3 +157,11 @@ worded-query-requires-in-Profile m c = (search rules, (c.requires.deep, prim_beg
 
 pub worded-query-requires-in-HasProfile : goal.worded-query-requires-in-HasProfile
 worded-query-requires-in-HasProfile m c = (search rules, (c.requires.deep, prim_begun (t.Symbol (s.Fixed x.HasProfile)) c.args.depth c.args.ts.now c.args.behind.now (c.requires.begins ∙ ap (λ y. t.Symbol (s.Fixed y) ∷ c.args.behind.now) c.in-HasProfile.is) refl refl))
+
+pub level-returns-then-stands_alone : goal.level-returns-then-stands_alone
+level-returns-then-stands_alone m c = alone_took _ _ _ _ _ (sym c.stands_alone.ensures ∙ c.if-stands_alone.true) c.in_ok-leaf.ensures
+
+pub level-returns-in_err-leaf : goal.level-returns-in_err-leaf
+level-returns-in_err-leaf m c =
+    let p = err_from_is_err_and c.from_residual-in_err-leaf.result c.from_residual-in_err-leaf.ensures.1 in
+    rw (p.1, p.2) (fails_at (Level c.args.level_now) (Level 0) c.args.depth c.args.depth c.args.ts.now c.args.ts.now (λ ps. ps) (λ i. i) (λ ps i. alone c.args.level_now ps i c.args.depth c.args.ts.now (sym c.stands_alone.ensures ∙ c.if-stands_alone.true)) _ c.in_err-leaf.ensures)
