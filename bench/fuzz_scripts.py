@@ -3,8 +3,8 @@
 
     python3 bench/fuzz_scripts.py [COUNT] [SEED]
 
-It makes COUNT scripts from the grammar, spoils most of them a little, and asks both what each is. Build the program
-first: cd crates/lang_rows && rt run < stdin
+It makes COUNT scripts from the grammar, spoils most of them a little, and asks both what each is; each good one has to be
+printed, read and printed again alike. Build the program first: cd crates/lang_rows && rt run < stdin
 """
 import os
 import random
@@ -246,7 +246,7 @@ class Reader:
             before = self.text[:place]
             return f"{before.count(10) + 1}:{place - (before.rfind(10) + 1) + 1} {kind}"
         letters = {"word": "w", "name": "w", "int": "i", "text": "t", "sign": "s"}
-        return f"script {self.count} {''.join(letters[kind] for kind, _, _ in self.tokens)}"
+        return f"script {self.count} {''.join(letters[kind] for kind, _, _ in self.tokens)} again"
 
 
 NAMES = ("x", "leg", "ends", "selfish", "a" * 64, "count_of")
