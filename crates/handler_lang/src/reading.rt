@@ -6,7 +6,7 @@ ghost use Rattle.handler_lang.specs.Parts.{IsMisfit, start_at};
 
 use crate::statement::statements;
 use script_expression::{ReadError, unexpected};
-use script_tree::{Lexeme, Script, SyntaxFault, Token, fault_at, lex};
+use script_tree::{Lexemes, Script, SyntaxFault, Token, fault_at, lex};
 use slee_value::NoMemory;
 use std::alloc::Global;
 
@@ -32,7 +32,7 @@ pub fn parse(alloc: Global, text: &str) -> Result<Script, SyntaxFault>
 
 /// The script that tokens are.
 #[tactic(auto, using(crate::proofs::Whole::script_fine, crate::proofs::Whole::script_left, crate::proofs::Whole::script_fails))]
-fn script(alloc: Global, ts: &[Lexeme]) -> Result<Script, ReadError>
+fn script(alloc: Global, ts: Lexemes) -> Result<Script, ReadError>
     ensures { MatchResult result (λ x. script_of ts.now ≡ Fine (tree_of_script x)) (IsMisfit (script_of ts.now)) }
 {
     let (list, rest) = statements(alloc, ts, 0)?;

@@ -1,6 +1,7 @@
 ghost use Rattle.std.specs.Prelude.{◌≡◌, IsTrue, IfOk};
 ghost use Rattle.script_tree.specs.Words.{is_identifier};
 
+use crate::NameRef;
 use slee_value::{Name, NoMemory};
 use std::alloc::Global;
 use std::marker::Model;
@@ -35,6 +36,14 @@ impl Identifier {
         ensures identifier { IsTrue (is_identifier self.now) }
     {
         &self.name
+    }
+
+    /// The name where it stands.
+    pub fn as_ref(&self) -> NameRef
+        ensures same { result ≡ self.now }
+        ensures identifier { IsTrue (is_identifier self.now) }
+    {
+        NameRef::new(self.name.as_bytes())
     }
 
     pub fn copy(&self, alloc: Global) -> Result<Self, NoMemory>

@@ -8,15 +8,15 @@ use crate::lexeme::{Cut, Lexeme};
 use crate::quote::quoted;
 use crate::reserve::reserved;
 use crate::sign::sign;
-use crate::{Identifier, NUMBER_LIMIT, Number, Symbol, Token, TokenKind};
-use slee_value::{NAME_LIMIT, Name, NoMemory};
+use crate::{NUMBER_LIMIT, NameRef, Number, Symbol, Token, TokenKind};
+use slee_value::{NAME_LIMIT, NoMemory};
 use std::alloc::Global;
 
 /// The tokens of a text, up to the first place where none begins.
 #[derive(Drop)]
-pub struct Lexed {
+pub struct Lexed<'a> {
     /// What each token says; a bad one is the last.
-    pub lexemes: Vec<Lexeme>,
+    pub lexemes: Vec<Lexeme<'a>>,
     /// The kind and place of each.
     pub tokens: Vec<Token>,
     /// Where a bad token begins.
@@ -104,7 +104,7 @@ fn token_at(alloc: Global, text: &str, at: usize) -> Result<Cut, NoMemory>
         });
     };
     if first.is_ascii_lowercase() {
-        return word(alloc, &here[..name_len(here)]);
+        return Ok(word(&here[..name_len(here)]));
     }
     if first.is_ascii_digit() {
         return Ok(number(&here[..digits_len(here)]));
@@ -136,29 +136,28 @@ fn digits_len(bytes: &[u8]) -> usize
 }
 
 /// A word of the language, else a name, if it isn't too long.
-fn word(alloc: Global, run: &[u8]) -> Result<Cut, NoMemory>
+fn word(run: &[u8]) -> Cut
     requires first { IsTrue (is_letter (slice_index run.now 0)) }
     requires all { IsTrue (list_all is_byte_of_name run.now) }
-    ensures { IfOk result (λ x. x ≡ word_cut run.now) }
+    ensures { result ≡ word_cut run.now }
 {
     let size = run.len();
     if let Some(symbol) = reserved(run) {
-        return Ok(Cut {
+        return Cut {
             lexeme: Lexeme::Symbol(symbol),
             size,
-        });
+        };
     }
     if size > NAME_LIMIT {
-        return Ok(Cut {
+        return Cut {
             lexeme: Lexeme::Bad,
             size,
-        });
+        };
     }
-    let name = Identifier::new(Name::from_slice(alloc, run)?);
-    Ok(Cut {
-        lexeme: Lexeme::Name(name),
+    Cut {
+        lexeme: Lexeme::Name(NameRef::new(run)),
         size,
-    })
+    }
 }
 
 /// The number that digits write, without zeros in front.
