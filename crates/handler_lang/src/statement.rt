@@ -81,7 +81,11 @@ pub fn statements(
     ensures { MatchResult result (λ x. TookStmts [] depth ts.now (statements_of x.0.items) (statements_fit depth (statements_of x.0.items)) x.1.now) (λ e. FailStmts depth ts.now e) }
 {
     let mut list = Vec::new(alloc);
-    let mut rest = ts;
+    if !starts(ts) {
+        return Ok((list, ts));
+    }
+    let (first, mut rest) = statement(alloc, ts, depth)?;
+    list.push(first)?;
     'more: while starts(rest) {
         let (next, behind) = statement(alloc, rest, depth)?;
         list.push(next)?;
