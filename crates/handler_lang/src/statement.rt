@@ -72,11 +72,7 @@ fn is_first(word: Fixed) -> bool
 
 /// As many statements as come, and what follows them.
 #[cycle(stmts)]
-pub fn statements(
-    alloc: Global,
-    ts: Lexemes,
-    depth: u32,
-) -> Result<(Vec<Stmt>, Lexemes), ReadError>
+pub fn statements(alloc: Global, ts: Lexemes, depth: u32) -> Result<(Vec<Stmt>, Lexemes), ReadError>
     requires { depth ≤ 64 }
     ensures { MatchResult result (λ x. TookStmts [] depth ts.now (statements_of x.0.items) (statements_fit depth (statements_of x.0.items)) x.1.now) (λ e. FailStmts depth ts.now e) }
 {

@@ -265,8 +265,8 @@ chain_more n m d more ts mid behind rest op a b c left is on right at many =
     record {
       shorter = omega (arith, ap length is, left.shorter, right.shorter);
       good_one = λ h.
-      let fine_b : fits (depth_at (left_level op) b d) b ≡ true = ap (λ i. fits (depth_at (chain_level i) b d) b) on ∙ left.good_one h in
-      rw le (and_join _ _ fine_b fine_c);
+          let fine_b : fits (depth_at (left_level op) b d) b ≡ true = ap (λ i. fits (depth_at (chain_level i) b d) b) on ∙ left.good_one h in
+          rw le (and_join _ _ fine_b fine_c);
       goes_on = λ ps i. left.goes_on ps i ∙ ap (verdict (More n ∷ ps) (ATree b ∷ i) d) is ∙ operates n ps (ATree b ∷ i) d op behind on
           ∙ right.goes_on (Make (Operating op) ∷ (again n ++ ps)) (ATree b ∷ i) ∙ made (Operating op) (again n ++ ps) (ATree c ∷ ATree b ∷ i) d rest
           ∙ ap (λ l. verdict (l ++ ps) (ATree (Binary op b c) ∷ i) d rest) (sym many);

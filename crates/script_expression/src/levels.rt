@@ -80,12 +80,7 @@ pub struct Operand {
 
 /// An expression with operators of this level and below: its first operand, and then level by level what is joined to it.
 #[cycle(exprs)]
-fn level(
-    alloc: Global,
-    ts: Lexemes,
-    highest: u8,
-    depth: u32,
-) -> Result<(Expr, Lexemes), ReadError>
+fn level(alloc: Global, ts: Lexemes, highest: u8, depth: u32) -> Result<(Expr, Lexemes), ReadError>
     requires level { highest ≤ 8 }
     requires deep { depth ≤ 64 }
     ensures { MatchResult result (λ x. Took (Level highest) [] depth ts.now (ATree (tree_of x.0) ∷ []) (fits_at highest depth (tree_of x.0)) x.1.now) (λ e. Fails (Level highest) depth ts.now e) }

@@ -76,11 +76,7 @@ fn inside(
 }
 
 /// `TEXT ,`
-fn text_and_comma(
-    alloc: Global,
-    ts: Lexemes,
-    depth: u32,
-) -> Result<(Literal, Lexemes), ReadError>
+fn text_and_comma(alloc: Global, ts: Lexemes, depth: u32) -> Result<(Literal, Lexemes), ReadError>
     requires { depth ≤ 64 }
     ensures { MatchResult result (λ x. TookAll (g.Text ∷ One Fixed.Comma ∷ []) [] depth depth ts.now (λ is. AText x.0 ∷ is) (is_literal x.0) x.1.now) (λ e. FailsAll (g.Text ∷ One Fixed.Comma ∷ []) depth ts.now e) }
 {

@@ -11,7 +11,9 @@ ghost use Rattle.script_tree.specs.Spelling.{over_fits, who_fits};
 ghost use Rattle.script_tree.specs.Words.{is_identifier, is_literal};
 
 use crate::refusal::{ReadError, too_deep, unexpected};
-use script_tree::{Fixed, Identifier, Lexeme, Lexemes, Literal, Operator, Over, Prefix, Symbol, Who};
+use script_tree::{
+    Fixed, Identifier, Lexeme, Lexemes, Literal, Operator, Over, Prefix, Symbol, Who,
+};
 use std::alloc::Global;
 
 /// Whether a token is this word or sign.

@@ -49,11 +49,7 @@ fn arguments(alloc: Global, ts: Lexemes, depth: u32) -> Result<(Vec<Expr>, Lexem
 }
 
 /// An argument and more of them, each behind a comma.
-fn argument_list(
-    alloc: Global,
-    ts: Lexemes,
-    depth: u32,
-) -> Result<(Vec<Expr>, Lexemes), ReadError>
+fn argument_list(alloc: Global, ts: Lexemes, depth: u32) -> Result<(Vec<Expr>, Lexemes), ReadError>
     requires { depth ≤ 64 }
     ensures { MatchResult result (λ x. TookAll (Level 8 ∷ Make WithArgument ∷ NextArgument ∷ []) [] depth depth ts.now (with_arguments (map tree_of x.0.items)) (list_all (fits depth) (map tree_of x.0.items)) x.1.now) (λ e. FailsAll (Level 8 ∷ Make WithArgument ∷ NextArgument ∷ []) depth ts.now e) }
 {

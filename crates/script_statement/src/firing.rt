@@ -38,11 +38,7 @@ pub fn fire<'a>(
 }
 
 /// `for TEXT`, where it comes.
-fn service(
-    alloc: Global,
-    ts: Lexemes,
-    depth: u32,
-) -> Result<(Option<Literal>, Lexemes), ReadError>
+fn service(alloc: Global, ts: Lexemes, depth: u32) -> Result<(Option<Literal>, Lexemes), ReadError>
     requires { depth ≤ 64 }
     ensures { MatchResult result (λ x. TookAll (MoreService ∷ []) [] depth depth ts.now (with_service x.0) (option_fits is_literal x.0) x.1.now) (λ e. Fails MoreService depth ts.now e) }
 {
@@ -54,11 +50,7 @@ fn service(
 }
 
 /// `{ NAME: e, .. }`, where it comes.
-fn fields(
-    alloc: Global,
-    ts: Lexemes,
-    depth: u32,
-) -> Result<(Vec<FieldValue>, Lexemes), ReadError>
+fn fields(alloc: Global, ts: Lexemes, depth: u32) -> Result<(Vec<FieldValue>, Lexemes), ReadError>
     requires { depth ≤ 64 }
     ensures { MatchResult result (λ x. TookAll (MoreFields ∷ []) [] depth depth ts.now (with_fields (map field_of x.0.items)) (list_all (field_fits (depth + 1)) (map field_of x.0.items)) x.1.now) (λ e. Fails MoreFields depth ts.now e) }
 {

@@ -14,11 +14,7 @@ use std::alloc::Global;
 
 /// A statement without a block, and what follows it.
 #[tactic(auto, unfolding(script_tree::specs::Grammar::verdict))]
-pub fn plain_statement(
-    alloc: Global,
-    ts: Lexemes,
-    depth: u32,
-) -> Result<(Stmt, Lexemes), ReadError>
+pub fn plain_statement(alloc: Global, ts: Lexemes, depth: u32) -> Result<(Stmt, Lexemes), ReadError>
     requires deep { depth ≤ 64 }
     requires plain { starts_block ts.now ≡ false }
     ensures { MatchResult result (λ x. Took AStmt [] depth ts.now (AStatement (statement_of x.0) ∷ []) (statement_fits depth (statement_of x.0)) x.1.now) (λ e. Fails AStmt depth ts.now e) }

@@ -12,25 +12,41 @@ use crate::{NUMBER_LIMIT, NameRef, Number, Symbol, Token, TokenKind};
 use slee_value::{NAME_LIMIT, NoMemory};
 use std::alloc::Global;
 
+/// What each token of a text says, up to the first place where none begins; a bad one is the last.
+pub fn lexemes(alloc: Global, text: &str) -> Result<Vec<Lexeme>, NoMemory>
+    ensures { IfOk result (λ x. x.items ≡ lexemes_of text.now) }
+{
+    let bytes = text.as_bytes();
+    let mut lexemes = Vec::with_capacity(alloc, bytes.len() / 3)?;
+    let mut at = gap_len(bytes);
+    'tokens: while at < bytes.len() {
+        let Cut { lexeme, size } = token_at(alloc, text, at)?;
+        let bad = is_bad(&lexeme);
+        let end = at + size;
+        lexemes.push(lexeme)?;
+        if bad {
+            return Ok(lexemes);
+        }
+        at = end + gap_len(&bytes[end..]);
+    }
+    Ok(lexemes)
+}
+
 /// The tokens of a text, up to the first place where none begins.
 #[derive(Drop)]
-pub struct Lexed<'a> {
-    /// What each token says; a bad one is the last.
-    pub lexemes: Vec<Lexeme<'a>>,
-    /// The kind and place of each.
+pub struct Lexed {
+    /// The kind and place of each; a bad one is the last.
     pub tokens: Vec<Token>,
     /// Where a bad token begins.
     pub bad: Option<usize>,
 }
 
-/// The tokens of a text.
+/// The kinds and places of a text's tokens.
 pub fn lex(alloc: Global, text: &str) -> Result<Lexed, NoMemory>
-    ensures lexemes { IfOk result (λ x. x.lexemes.items ≡ lexemes_of text.now) }
     ensures tokens { IfOk result (λ x. x.tokens.items ≡ map token_of (spots_of text.now)) }
     ensures answer { IfOk result (λ x. tokens_of text.now ≡ token_answer text.now x.bad x.tokens.items) }
 {
     let bytes = text.as_bytes();
-    let mut lexemes = Vec::with_capacity(alloc, bytes.len() / 3)?;
     let mut tokens = Vec::with_capacity(alloc, bytes.len() / 3)?;
     let mut at = gap_len(bytes);
     'tokens: while at < bytes.len() {
@@ -42,21 +58,15 @@ pub fn lex(alloc: Global, text: &str) -> Result<Lexed, NoMemory>
             start: at,
             end,
         })?;
-        lexemes.push(lexeme)?;
         if bad {
             return Ok(Lexed {
-                lexemes,
                 tokens,
                 bad: Some(at),
             });
         }
         at = end + gap_len(&bytes[end..]);
     }
-    Ok(Lexed {
-        lexemes,
-        tokens,
-        bad: None,
-    })
+    Ok(Lexed { tokens, bad: None })
 }
 
 /// How many bytes of blanks and comments come first.

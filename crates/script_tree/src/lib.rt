@@ -20,7 +20,7 @@ mod tree;
 pub use fault::{Misfit, SyntaxBad, SyntaxFault};
 pub use identifier::Identifier;
 pub use lexeme::{Lexeme, Lexemes};
-pub use lexer::{Lexed, lex};
+pub use lexer::{Lexed, lex, lexemes};
 pub use literal::{LITERAL_LIMIT, Literal};
 pub use name_ref::NameRef;
 pub use number::{NUMBER_LIMIT, Number};

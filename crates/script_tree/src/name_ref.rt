@@ -2,7 +2,7 @@ ghost use Rattle.std.specs.Prelude.{◌≡◌, IsTrue, IfOk};
 ghost use Rattle.script_tree.specs.Words.{is_identifier};
 
 use crate::Identifier;
-use slee_value::{Name, NoMemory};
+use slee_value::NoMemory;
 use std::alloc::Global;
 use std::marker::Model;
 
@@ -43,6 +43,6 @@ impl<'a> NameRef<'a> {
         ensures same { IfOk result (λ i. i ≡ self.now) }
         ensures identifier { IsTrue (is_identifier self.now) }
     {
-        Ok(Identifier::new(Name::from_slice(alloc, self.bytes)?))
+        Identifier::from_slice(alloc, self.bytes)
     }
 }
