@@ -42,9 +42,9 @@ start_there (spot ∷ spots) zero end = refl
 start_there (spot ∷ spots) (suc n) end = start_there spots n end
 
 -- the fault of a text stands where the tokens that are left begin
-pub misread : (text : Bytes) (ts : List Lexeme) (f : Misfit) → ts ≡ lexemes_of text → script_of ts ≡ Faulty f → script_read text ≡ Err (fault_at text (start_at (slice_get (map token_of (spots_of text)) (length (map token_of (spots_of text)) - f.left)) (length text)) f.kind)
-misread text ts f e h =
+pub misread : (text : Bytes) (f : Misfit) → script_of (lexemes_of text) ≡ Faulty f → script_read text ≡ Err (fault_at text (start_at (slice_get (map token_of (spots_of text)) (length (map token_of (spots_of text)) - f.left)) (length text)) f.kind)
+misread text f h =
     let there = start_there (spots_of text) (length (spots_of text) - f.left) (length text) in
-    ap (read_by text (spots_of text)) (ap script_of (sym e) ∙ h)
+    ap (read_by text (spots_of text)) h
     ∙ ap (λ at. Err (fault_at text at f.kind)) (sym there)
     ∙ ap (λ n. Err (fault_at text (start_at (slice_get (map token_of (spots_of text)) (n - f.left)) (length text)) f.kind)) (sym (length-map (spots_of text) token_of))

@@ -10,7 +10,7 @@ use script_expression::{
     ReadError, behind as behind_word, close, expression, name, over, too_deep, unexpected, want,
 };
 use script_statement::plain_statement;
-use script_tree::{Fixed, Lexeme, Stmt, Symbol};
+use script_tree::{Fixed, Lexeme, Lexemes, Stmt, Symbol};
 use std::alloc::Global;
 
 /// The first word of a statement with a block.
@@ -22,7 +22,7 @@ pub enum BlockWord {
 }
 
 /// Whether a statement begins here.
-fn starts(ts: &[Lexeme]) -> bool
+fn starts(ts: Lexemes) -> bool
     ensures { result ≡ starts_stmt ts.now }
 {
     match ts {
@@ -72,16 +72,16 @@ fn is_first(word: Fixed) -> bool
 
 /// As many statements as come, and what follows them.
 #[cycle(stmts)]
-pub fn statements(
-    alloc: Global,
-    ts: &[Lexeme],
-    depth: u32,
-) -> Result<(Vec<Stmt>, &[Lexeme]), ReadError>
+pub fn statements(alloc: Global, ts: Lexemes, depth: u32) -> Result<(Vec<Stmt>, Lexemes), ReadError>
     requires { depth ≤ 64 }
     ensures { MatchResult result (λ x. TookStmts [] depth ts.now (statements_of x.0.items) (statements_fit depth (statements_of x.0.items)) x.1.now) (λ e. FailStmts depth ts.now e) }
 {
     let mut list = Vec::new(alloc);
-    let mut rest = ts;
+    if !starts(ts) {
+        return Ok((list, ts));
+    }
+    let (first, mut rest) = statement(alloc, ts, depth)?;
+    list.push(first)?;
     'more: while starts(rest) {
         let (next, behind) = statement(alloc, rest, depth)?;
         list.push(next)?;
@@ -91,7 +91,7 @@ pub fn statements(
 }
 
 /// The word with which a statement with a block begins, and what follows it.
-fn block_word(ts: &[Lexeme]) -> Option<(BlockWord, &[Lexeme])>
+fn block_word(ts: Lexemes) -> Option<(BlockWord, Lexemes)>
     ensures { MatchOption result (block_word_in ts.now ≡ None) (λ x. (block_word_in ts.now ≡ Some x.0) × ((first : ALexeme) × (ts.now ≡ first ∷ x.1.now))) }
 {
     let [first, rest @ ..] = ts else {
@@ -114,7 +114,7 @@ fn block_word_of(token: &Lexeme) -> Option<BlockWord>
 
 /// A statement, and what follows it.
 #[cycle(stmts)]
-fn statement(alloc: Global, ts: &[Lexeme], depth: u32) -> Result<(Stmt, &[Lexeme]), ReadError>
+fn statement(alloc: Global, ts: Lexemes, depth: u32) -> Result<(Stmt, Lexemes), ReadError>
     requires { depth ≤ 64 }
     ensures { MatchResult result (λ x. Took AStmt [] depth ts.now (AStatement (statement_of x.0) ∷ []) (statement_fits depth (statement_of x.0)) x.1.now) (λ e. Fails AStmt depth ts.now e) }
 {
@@ -132,10 +132,10 @@ fn statement(alloc: Global, ts: &[Lexeme], depth: u32) -> Result<(Stmt, &[Lexeme
 #[cycle(stmts)]
 fn branch<'a>(
     alloc: Global,
-    ts: &'a [Lexeme],
-    behind: &'a [Lexeme],
+    ts: Lexemes<'a>,
+    behind: Lexemes<'a>,
     depth: u32,
-) -> Result<(Stmt, &'a [Lexeme]), ReadError>
+) -> Result<(Stmt, Lexemes<'a>), ReadError>
     requires deep { depth ≤ 64 }
     requires begun { Begun AStmt (stmt_fixed Fixed.If) depth ts.now behind.now }
     ensures { MatchResult result (λ x. Took AStmt [] depth ts.now (AStatement (statement_of x.0) ∷ []) (statement_fits depth (statement_of x.0)) x.1.now) (λ e. Fails AStmt depth ts.now e) }
@@ -153,10 +153,10 @@ fn branch<'a>(
 #[cycle(stmts)]
 fn repeat<'a>(
     alloc: Global,
-    ts: &'a [Lexeme],
-    behind: &'a [Lexeme],
+    ts: Lexemes<'a>,
+    behind: Lexemes<'a>,
     depth: u32,
-) -> Result<(Stmt, &'a [Lexeme]), ReadError>
+) -> Result<(Stmt, Lexemes<'a>), ReadError>
     requires deep { depth ≤ 64 }
     requires begun { Begun AStmt (stmt_fixed Fixed.While) depth ts.now behind.now }
     ensures { MatchResult result (λ x. Took AStmt [] depth ts.now (AStatement (statement_of x.0) ∷ []) (statement_fits depth (statement_of x.0)) x.1.now) (λ e. Fails AStmt depth ts.now e) }
@@ -170,10 +170,10 @@ fn repeat<'a>(
 #[cycle(stmts)]
 fn walk<'a>(
     alloc: Global,
-    ts: &'a [Lexeme],
-    behind: &'a [Lexeme],
+    ts: Lexemes<'a>,
+    behind: Lexemes<'a>,
     depth: u32,
-) -> Result<(Stmt, &'a [Lexeme]), ReadError>
+) -> Result<(Stmt, Lexemes<'a>), ReadError>
     requires deep { depth ≤ 64 }
     requires begun { Begun AStmt (stmt_fixed Fixed.For) depth ts.now behind.now }
     ensures { MatchResult result (λ x. Took AStmt [] depth ts.now (AStatement (statement_of x.0) ∷ []) (statement_fits depth (statement_of x.0)) x.1.now) (λ e. Fails AStmt depth ts.now e) }
@@ -187,7 +187,7 @@ fn walk<'a>(
 
 /// Statements in braces, and what follows them.
 #[cycle(stmts)]
-fn block(alloc: Global, ts: &[Lexeme], depth: u32) -> Result<(Vec<Stmt>, &[Lexeme]), ReadError>
+fn block(alloc: Global, ts: Lexemes, depth: u32) -> Result<(Vec<Stmt>, Lexemes), ReadError>
     requires { depth ≤ 64 }
     ensures { MatchResult result (λ x. TookBlock depth ts.now (statements_of x.0.items) (statements_fit (depth + 1) (statements_of x.0.items)) x.1.now) (λ e. FailsBlock depth ts.now e) }
 {

@@ -5,3 +5,4 @@ pub mod Choices
 pub mod Queries
 pub mod Followed
 pub mod Chains
+pub mod Climbing

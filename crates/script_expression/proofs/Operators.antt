@@ -18,7 +18,7 @@ use Rattle.script_expression.specs.declared.refusal.ReadError.TheVariants as err
 use Rattle.script_tree.specs.Tree.{Expression, Leaf, Unary, Binary, Ask}
 use Rattle.script_tree.specs.Spelling.{level, depth_at, leaf_fits, fits, prefix_level, chain_level, left_level}
 use Rattle.script_tree.specs.Grammar.{Part, Item, Next, Stops, Goes, Make, Prefixing, Operating, Level, More, ATree, One, prim_fixed, verdict, verdict_at, goes_on, then_parts, prefix_after, level_after, more_after, again, level_of, turn, Stays}
-use Rattle.script_expression.specs.Takes.{is_operand, joins, ends_operand, stands_alone, fits_at, prefix_at, prefix_in, operator_at, operator_in, Took, Turned, Fails, kind_at}
+use Rattle.script_expression.specs.Takes.{fits_at, prefix_at, prefix_in, operator_at, operator_in, Took, Turned, Fails, kind_at}
 use Rattle.script_expression.proofs.Machine.{made, refuse}
 
 joined : (next : Next) (q : Part) (ps : List Part) (is : List Item) → goes_on (then_parts next (q ∷ [])) ps is Stops ≡ goes_on next (q ∷ ps) is Stops
@@ -185,7 +185,7 @@ level_of_prefix n (t.Name y) op h = cc
 level_of_prefix n (t.Text y) op h = cc
 level_of_prefix n t.Bad op h = cc
 
-le_self : (n : ℕ) → nat_le n n ≡ true
+pub le_self : (n : ℕ) → nat_le n n ≡ true
 le_self n = grind (arith, nat_tests)
 
 -- an operand behind its prefix
@@ -200,21 +200,6 @@ unary_took n d ts behind rest op first a b h e is took same =
       good_one = rw le fine;
       goes_on = λ ps i. ap (verdict (Level n ∷ ps) i d) is ∙ prefixed n ps i d first behind op h at ∙ took.goes_on (Make (Prefixing op) ∷ More n ∷ ps) i
           ∙ made (Prefixing op) (More n ∷ ps) (ATree a ∷ i) d rest ∙ ap (λ c. verdict (More n ∷ ps) (ATree (Unary op c) ∷ i) d rest) (sym same);
-    }
-
--- two operands and what joins them
-pub binary_took : (n m d : ℕ) (more : List Part) (ts mid behind rest : List Lexeme) (op : Operator) (a b a' b' : Expression) → Took (Level n) (More n ∷ []) d ts (ATree a ∷ []) (fits_at (chain_level n) d a) mid → mid ≡ t.Symbol (s.Operator op) ∷ behind → level_of op ≡ n → Took (Level (n - 1)) [] d behind (ATree b ∷ []) (fits_at (n - 1) d b) rest → a' ≡ a → b' ≡ b → m ≡ n → more ≡ again n → Took (Level n) more d ts (ATree (Binary op a' b') ∷ []) (fits_at m d (Binary op a' b')) rest
-binary_took n m d more ts mid behind rest op a b a' b' left is on right sa sb at many =
-    let le : nat_le (level_of op) m ≡ true = ap (λ i. nat_le i m) on ∙ ap (nat_le n) at ∙ le_self n in
-    let fine_a : fits (depth_at (left_level op) a' d) a' ≡ true = ap (λ i. fits (depth_at (chain_level i) a' d) a') on ∙ ap (λ c. fits (depth_at (chain_level n) c d) c) sa ∙ left.good_one in
-    let fine_b : fits (depth_at (level_of op - 1) b' d) b' ≡ true = ap (λ i. fits (depth_at (i - 1) b' d) b') on ∙ ap (λ c. fits (depth_at (n - 1) c d) c) sb ∙ right.good_one in
-    record {
-      shorter = omega (arith, ap length is, left.shorter, right.shorter);
-      good_one = rw le (and_join _ _ fine_a fine_b);
-      goes_on = λ ps i. left.goes_on ps i ∙ ap (verdict (More n ∷ ps) (ATree a ∷ i) d) is ∙ operates n ps (ATree a ∷ i) d op behind on
-          ∙ right.goes_on (Make (Operating op) ∷ (again n ++ ps)) (ATree a ∷ i) ∙ made (Operating op) (again n ++ ps) (ATree b ∷ ATree a ∷ i) d rest
-          ∙ ap (λ l. verdict (l ++ ps) (ATree (Binary op a b) ∷ i) d rest) (sym many)
-          ∙ ap (λ c. verdict (more ++ ps) (ATree (Binary op c b) ∷ i) d rest) (sym sa) ∙ ap (λ c. verdict (more ++ ps) (ATree (Binary op a' c) ∷ i) d rest) (sym sb);
     }
 
 -- words with which no prim begins
@@ -255,75 +240,3 @@ group_took d ts behind mid rest a is lt took turned =
       good_one = fits_in_brackets a d took.good_one;
       goes_on = λ ps i. group_opens d ts behind is lt ps i ∙ took.goes_on (One x.CloseRound ∷ ps) i ∙ turned.goes_on ps (ATree a ∷ i);
     }
-
-no_join : (n : ℕ) (token : Lexeme) → not (joins n token) ≡ true → operator_at n token ≡ None
-no_join n (t.Symbol (s.Operator op)) h = let e : (level_of op == n) ≡ false = grind (arith, nat_tests) in rw e refl
-no_join n (t.Symbol (s.Fixed y)) h = refl
-no_join n (t.Symbol (s.Constant y)) h = refl
-no_join n (t.Symbol (s.Function y)) h = refl
-no_join n (t.Symbol (s.Verb y)) h = refl
-no_join n (t.Int y) h = refl
-no_join n (t.Name y) h = refl
-no_join n (t.Text y) h = refl
-no_join n t.Bad h = refl
-
-ends_none : (n : ℕ) (ts : List Lexeme) → ends_operand n ts ≡ true → operator_in n ts ≡ None
-ends_none n [] h = refl
-ends_none n (token ∷ ts) h = no_join n token h
-
-fewer_joins : (m : ℕ) (token : Lexeme) → not (joins (suc m) token) ≡ true → not (joins m token) ≡ true
-fewer_joins m (t.Symbol (s.Operator op)) h = grind (arith, nat_tests)
-fewer_joins m (t.Symbol (s.Fixed y)) h = refl
-fewer_joins m (t.Symbol (s.Constant y)) h = refl
-fewer_joins m (t.Symbol (s.Function y)) h = refl
-fewer_joins m (t.Symbol (s.Verb y)) h = refl
-fewer_joins m (t.Int y) h = refl
-fewer_joins m (t.Name y) h = refl
-fewer_joins m (t.Text y) h = refl
-fewer_joins m t.Bad h = refl
-
-ends_below : (m : ℕ) (ts : List Lexeme) → ends_operand (suc m) ts ≡ true → ends_operand m ts ≡ true
-ends_below m [] h = refl
-ends_below m (token ∷ ts) h = fewer_joins m token h
-
--- an operand of one token, with no operator of the level behind it
-leaf_ends : (n : ℕ) (ps : List Part) (is : List Item) (d : ℕ) (token : Lexeme) (ts : List Lexeme) → is_operand token ≡ true → operator_in n ts ≡ None → verdict (Level 0 ∷ More n ∷ ps) is d (token ∷ ts) ≡ verdict (Level 0 ∷ ps) is d (token ∷ ts)
-unfolding verdict
-leaf_ends n ps is d (t.Int y) ts h e = skip_more n ps (ATree (Leaf (l.Int y)) ∷ is) d ts e
-leaf_ends n ps is d (t.Text y) ts h e = skip_more n ps (ATree (Leaf (l.Text y)) ∷ is) d ts e
-leaf_ends n ps is d (t.Name y) ts h e = skip_more n ps (ATree (Leaf (l.Variable y)) ∷ is) d ts e
-leaf_ends n ps is d (t.Symbol (s.Constant y)) ts h e = skip_more n ps (ATree (Leaf (l.Constant y)) ∷ is) d ts e
-leaf_ends n ps is d (t.Symbol (s.Operator y)) ts h e = cc
-leaf_ends n ps is d (t.Symbol (s.Fixed y)) ts h e = cc
-leaf_ends n ps is d (t.Symbol (s.Function y)) ts h e = cc
-leaf_ends n ps is d (t.Symbol (s.Verb y)) ts h e = cc
-leaf_ends n ps is d t.Bad ts h e = cc
-
-leaf_prefix : (n : ℕ) (token : Lexeme) → is_operand token ≡ true → prefix_at n token ≡ None
-leaf_prefix n (t.Int y) h = refl
-leaf_prefix n (t.Text y) h = refl
-leaf_prefix n (t.Name y) h = refl
-leaf_prefix n (t.Symbol (s.Constant y)) h = refl
-leaf_prefix n (t.Symbol (s.Operator y)) h = cc
-leaf_prefix n (t.Symbol (s.Fixed y)) h = cc
-leaf_prefix n (t.Symbol (s.Function y)) h = cc
-leaf_prefix n (t.Symbol (s.Verb y)) h = cc
-leaf_prefix n t.Bad h = cc
-
-alone_by : (n : ℕ) (ps : List Part) (is : List Item) (d : ℕ) (token : Lexeme) (ts : List Lexeme) → is_operand token ≡ true → ends_operand n ts ≡ true → verdict (Level n ∷ ps) is d (token ∷ ts) ≡ verdict (Level 0 ∷ ps) is d (token ∷ ts)
-alone_by zero ps is d token ts h e = refl
-alone_by (suc m) ps is d token ts h e =
-    opens_by m ps is d (token ∷ ts) (leaf_prefix (suc m) token h)
-    ∙ alone_by m (More (suc m) ∷ ps) is d token ts h (ends_below m ts e)
-    ∙ leaf_ends (suc m) ps is d token ts h (ends_none (suc m) ts e)
-
-pub alone : (n : ℕ) (ps : List Part) (is : List Item) (d : ℕ) (ts : List Lexeme) → stands_alone n ts ≡ true → verdict (Level n ∷ ps) is d ts ≡ verdict (Level 0 ∷ ps) is d ts
-alone n ps is d [] h = cc
-alone n ps is d (token ∷ ts) h = let p = and_split _ _ h in alone_by n ps is d token ts p.0 p.1
-
-pub alone_took : (n d : ℕ) (ts rest : List Lexeme) (a : Expression) → stands_alone n ts ≡ true → Took (Level 0) [] d ts (ATree a ∷ []) (fits_at 0 d a) rest → Took (Level n) [] d ts (ATree a ∷ []) (fits_at n d a) rest
-alone_took n d ts rest a h took = record {
-  shorter = took.shorter;
-  good_one = fits_weaker 0 n d a (omega arith) took.good_one;
-  goes_on = λ ps i. alone n ps i d ts h ∙ took.goes_on ps i;
-}

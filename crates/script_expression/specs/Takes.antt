@@ -115,26 +115,3 @@ pub record TookBefore (y : Fixed) (d : ℕ) (ts : List Lexeme) (a : Expression) 
 abbrev pub FailsBefore : Fixed → ℕ → List Lexeme → ReadError → Type 0
 FailsBefore y d ts errors.NoMemory = Unit {0}
 FailsBefore y d ts (errors.Misfit f) = ((ps : List Part) (is : List Item) → verdict (Level 8 ∷ One y ∷ ps) is d ts ≡ Faulty f) × ((m : Making) (ps : List Part) (is : List Item) → verdict (Level 8 ∷ Make m ∷ One y ∷ ps) is d ts ≡ Faulty f)
-
--- a token that is an operand by itself
-abbrev pub is_operand : Lexeme → Bool
-is_operand (t.Int n) = true
-is_operand (t.Text n) = true
-is_operand (t.Name n) = true
-is_operand (t.Symbol (s.Constant y)) = true
-is_operand _ = false
-
--- an operator of the level or below
-abbrev pub joins : ℕ → Lexeme → Bool
-joins n (t.Symbol (s.Operator op)) = nat_le (level_of op) n
-joins n _ = false
-
--- no operator of the level or below comes next
-abbrev pub ends_operand : ℕ → List Lexeme → Bool
-ends_operand n [] = true
-ends_operand n (token ∷ ts) = not (joins n token)
-
--- the first token is a whole operand of the level
-abbrev pub stands_alone : ℕ → List Lexeme → Bool
-stands_alone n [] = false
-stands_alone n (token ∷ ts) = is_operand token && ends_operand n ts

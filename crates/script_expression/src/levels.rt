@@ -3,7 +3,8 @@ ghost use Rattle.script_tree.specs.declared.symbol.Symbol.TheVariants as s;
 ghost use Rattle.script_tree.specs.declared.lexeme.Lexeme.TheVariants as t;
 ghost use Rattle.script_tree.specs.Grammar as g;
 ghost use Rattle.script_tree.specs.Grammar.{Level, More, ATree, turn_of, Stays};
-ghost use Rattle.script_tree.specs.Spelling.{chain_level, fits};
+ghost use Rattle.script_tree.specs.Spelling.{fits};
+ghost use Rattle.script_expression.specs.Levels.{TookOperand, TookChain, FailsChain};
 ghost use Rattle.script_expression.specs.Takes.{Begun, Took, TookBefore, Fails, FailsBefore, fits_at};
 ghost use Rattle.script_expression.specs.Queries.{word_next};
 ghost use Rattle.script_tree.specs.Tree.{tree_of, joined};
@@ -12,8 +13,8 @@ ghost use Rattle.script_expression.specs.declared.refusal.ReadError.TheVariants 
 use crate::named::{count, event_field, field, priority, table};
 use crate::query::{QueryWord, query_head, query_tail};
 use crate::refusal::{ReadError, too_deep, unexpected};
-use crate::take::{close, operator, prefix, stands_alone, want};
-use script_tree::{Expr, Fixed, Leaf, Lexeme, Operator, Symbol};
+use crate::take::{close, next_level, operator, prefix, want};
+use script_tree::{Expr, Fixed, Leaf, Lexeme, Lexemes, Operator, Symbol};
 use std::alloc::Global;
 
 /// The level of comparisons, which make no chains.
@@ -21,7 +22,7 @@ const COMPARISON: u8 = 5;
 
 /// An expression, and what follows it.
 #[cycle(exprs)]
-pub fn expression(alloc: Global, ts: &[Lexeme], depth: u32) -> Result<(Expr, &[Lexeme]), ReadError>
+pub fn expression(alloc: Global, ts: Lexemes, depth: u32) -> Result<(Expr, Lexemes), ReadError>
     requires { depth ≤ 64 }
     ensures { MatchResult result (λ x. Took (Level 8) [] depth ts.now (ATree (tree_of x.0) ∷ []) (fits depth (tree_of x.0)) x.1.now) (λ e. Fails (Level 8) depth ts.now e) }
 {
@@ -32,10 +33,10 @@ pub fn expression(alloc: Global, ts: &[Lexeme], depth: u32) -> Result<(Expr, &[L
 /// An expression, the word or sign behind it, which is no bracket, and what follows them.
 pub fn before(
     alloc: Global,
-    ts: &[Lexeme],
+    ts: Lexemes,
     fixed: Fixed,
     depth: u32,
-) -> Result<(Expr, &[Lexeme]), ReadError>
+) -> Result<(Expr, Lexemes), ReadError>
     requires deep { depth ≤ 64 }
     requires no_bracket { turn_of fixed ≡ Stays }
     ensures { MatchResult result (λ x. TookBefore fixed depth ts.now (tree_of x.0) (fits depth (tree_of x.0)) x.1.now) (λ e. FailsBefore fixed depth ts.now e) }
@@ -48,10 +49,10 @@ pub fn before(
 /// The same in a box, for statements that hold it while they read on.
 pub fn boxed_before(
     alloc: Global,
-    ts: &[Lexeme],
+    ts: Lexemes,
     fixed: Fixed,
     depth: u32,
-) -> Result<(Box<Expr>, &[Lexeme]), ReadError>
+) -> Result<(Box<Expr>, Lexemes), ReadError>
     requires deep { depth ≤ 64 }
     requires no_bracket { turn_of fixed ≡ Stays }
     ensures { MatchResult result (λ x. TookBefore fixed depth ts.now (tree_of x.0.value) (fits depth (tree_of x.0.value)) x.1.now) (λ e. FailsBefore fixed depth ts.now e) }
@@ -62,7 +63,7 @@ pub fn boxed_before(
 
 /// An expression in a box, and what follows it.
 #[cycle(exprs)]
-pub fn boxed(alloc: Global, ts: &[Lexeme], depth: u32) -> Result<(Box<Expr>, &[Lexeme]), ReadError>
+pub fn boxed(alloc: Global, ts: Lexemes, depth: u32) -> Result<(Box<Expr>, Lexemes), ReadError>
     requires { depth ≤ 64 }
     ensures { MatchResult result (λ x. Took (Level 8) [] depth ts.now (ATree (tree_of x.0.value) ∷ []) (fits depth (tree_of x.0.value)) x.1.now) (λ e. Fails (Level 8) depth ts.now e) }
 {
@@ -70,83 +71,97 @@ pub fn boxed(alloc: Global, ts: &[Lexeme], depth: u32) -> Result<(Box<Expr>, &[L
     Ok((Box::new(alloc, e)?, rest))
 }
 
-/// An expression with operators of this level and below.
+/// The first operand of an expression, and the level that it has outside of brackets.
+#[derive(Drop)]
+pub struct Operand {
+    pub tree: Expr,
+    pub level: u8,
+}
+
+/// An expression with operators of this level and below: its first operand, and then level by level what is joined to it.
 #[cycle(exprs)]
-fn level(
+fn level(alloc: Global, ts: Lexemes, highest: u8, depth: u32) -> Result<(Expr, Lexemes), ReadError>
+    requires level { highest ≤ 8 }
+    requires deep { depth ≤ 64 }
+    ensures { MatchResult result (λ x. Took (Level highest) [] depth ts.now (ATree (tree_of x.0) ∷ []) (fits_at highest depth (tree_of x.0)) x.1.now) (λ e. Fails (Level highest) depth ts.now e) }
+{
+    let (first, mut rest) = first_operand(alloc, ts, highest, depth)?;
+    let mut done = first.level;
+    let mut tree = first.tree;
+    'levels: while let Some(next) = next_level(rest, done, highest) {
+        let (longer, behind) = chain(alloc, tree, rest, next, depth)?;
+        tree = longer;
+        rest = behind;
+        done = next;
+    }
+    Ok((tree, rest))
+}
+
+/// What stands before the first operator of a level up to the highest: an expression without operators, or one behind `-` or `not`.
+#[cycle(exprs)]
+fn first_operand(
     alloc: Global,
-    ts: &[Lexeme],
+    ts: Lexemes,
+    highest: u8,
+    depth: u32,
+) -> Result<(Operand, Lexemes), ReadError>
+    requires level { highest ≤ 8 }
+    requires deep { depth ≤ 64 }
+    ensures { MatchResult result (λ x. TookOperand highest x.0.level depth ts.now (tree_of x.0.tree) x.1.now) (λ e. Fails (Level highest) depth ts.now e) }
+{
+    let Some((op, behind)) = prefix(ts, highest) else {
+        let (tree, rest) = prim(alloc, ts, depth)?;
+        return Ok((Operand { tree, level: 0 }, rest));
+    };
+    let own = op.level();
+    let (inner, rest) = level(alloc, behind, own - 1, depth)?;
+    let tree = Expr::Unary(op, Box::new(alloc, inner)?);
+    Ok((Operand { tree, level: own }, rest))
+}
+
+/// An operand and the operators of a level that follow it, each with its right operand. Of comparisons there is one at most.
+#[cycle(exprs)]
+fn chain(
+    alloc: Global,
+    first: Expr,
+    ts: Lexemes,
     level_now: u8,
     depth: u32,
-) -> Result<(Expr, &[Lexeme]), ReadError>
+) -> Result<(Expr, Lexemes), ReadError>
+    requires some { 0 < level_now }
     requires level { level_now ≤ 8 }
     requires deep { depth ≤ 64 }
-    ensures { MatchResult result (λ x. Took (Level level_now) [] depth ts.now (ATree (tree_of x.0) ∷ []) (fits_at level_now depth (tree_of x.0)) x.1.now) (λ e. Fails (Level level_now) depth ts.now e) }
+    ensures { MatchResult result (λ x. TookChain [] level_now level_now depth ts.now (tree_of first) (tree_of x.0) x.1.now) (λ e. FailsChain level_now depth ts.now (tree_of first) e) }
 {
-    if level_now == 0 {
-        let (e, rest) = prim(alloc, ts, depth)?;
-        return Ok((e, rest));
+    let Some((op, behind)) = operator(ts, level_now) else {
+        return Ok((first, ts));
+    };
+    let (right, mut rest) = level(alloc, behind, level_now - 1, depth)?;
+    let mut more = vec![in alloc; (op, right)]?;
+    if level_now == COMPARISON {
+        return Ok((joined(alloc, first, more)?, rest));
     }
-    if stands_alone(ts, level_now) {
-        let (leaf, rest) = prim(alloc, ts, depth)?;
-        return Ok((leaf, rest));
-    }
-    let (first, mut rest) = operand(alloc, ts, level_now, depth)?;
-    if operator(rest, level_now).is_none() {
-        return Ok((first, rest));
-    }
-    let mut more = Vec::new(alloc);
     'operators: while let Some((op, behind)) = operator(rest, level_now) {
         let (right, after) = level(alloc, behind, level_now - 1, depth)?;
         more.push((op, right))?;
         rest = after;
-        if level_now == COMPARISON {
-            return Ok((chain(alloc, first, more)?, rest));
-        }
     }
-    Ok((chain(alloc, first, more)?, rest))
+    Ok((joined(alloc, first, more)?, rest))
 }
 
-/// Operands joined from left to right, or the first alone.
-#[tactic(auto, using(crate::proofs::Chains::chain_tree))]
-fn chain(alloc: Global, first: Expr, more: Vec<(Operator, Expr)>) -> Result<Expr, ReadError>
+/// Operands joined from left to right.
+#[tactic(auto, using(script_tree::proofs::Rows::chain_tree))]
+fn joined(alloc: Global, first: Expr, more: Vec<(Operator, Expr)>) -> Result<Expr, ReadError>
     ensures ok { IfOk result (λ e. tree_of e ≡ joined (tree_of first) more.items) }
     ensures err { OnErr result (result ≡ Err errors.NoMemory) }
 {
-    if more.is_empty() {
-        return Ok(first);
-    }
     Ok(Expr::Chain(Box::new(alloc, first)?, more))
-}
-
-/// What stands before the operators of a level: an expression of the level below, maybe behind `-` or `not`.
-#[cycle(exprs)]
-fn operand(
-    alloc: Global,
-    ts: &[Lexeme],
-    level_now: u8,
-    depth: u32,
-) -> Result<(Expr, &[Lexeme]), ReadError>
-    requires some { 0 < level_now }
-    requires level { level_now ≤ 8 }
-    requires deep { depth ≤ 64 }
-    ensures { MatchResult result (λ x. Took (Level level_now) (More level_now ∷ []) depth ts.now (ATree (tree_of x.0) ∷ []) (fits_at (chain_level level_now) depth (tree_of x.0)) x.1.now) (λ e. Fails (Level level_now) depth ts.now e) }
-{
-    match prefix(ts, level_now) {
-        Some((op, behind)) => {
-            let (e, rest) = level(alloc, behind, level_now - 1, depth)?;
-            Ok((Expr::Unary(op, Box::new(alloc, e)?), rest))
-        }
-        None => {
-            let (e, rest) = level(alloc, ts, level_now - 1, depth)?;
-            Ok((e, rest))
-        }
-    }
 }
 
 /// An expression without operators outside of brackets.
 #[cycle(exprs)]
 #[tactic(auto, unfolding(script_tree::specs::Grammar::verdict))]
-fn prim(alloc: Global, ts: &[Lexeme], depth: u32) -> Result<(Expr, &[Lexeme]), ReadError>
+fn prim(alloc: Global, ts: Lexemes, depth: u32) -> Result<(Expr, Lexemes), ReadError>
     requires { depth ≤ 64 }
     ensures { MatchResult result (λ x. Took (Level 0) [] depth ts.now (ATree (tree_of x.0) ∷ []) (fits_at 0 depth (tree_of x.0)) x.1.now) (λ e. Fails (Level 0) depth ts.now e) }
 {
@@ -172,11 +187,11 @@ fn prim(alloc: Global, ts: &[Lexeme], depth: u32) -> Result<(Expr, &[Lexeme]), R
 #[cycle(exprs)]
 fn worded<'a>(
     alloc: Global,
-    ts: &'a [Lexeme],
+    ts: Lexemes<'a>,
     word: Fixed,
-    behind: &'a [Lexeme],
+    behind: Lexemes<'a>,
     depth: u32,
-) -> Result<(Expr, &'a [Lexeme]), ReadError>
+) -> Result<(Expr, Lexemes<'a>), ReadError>
     requires deep { depth ≤ 64 }
     requires begins { ts.now ≡ t.Symbol (s.Fixed word) ∷ behind.now }
     ensures { MatchResult result (λ x. Took (Level 0) [] depth ts.now (ATree (tree_of x.0) ∷ []) (fits_at 0 depth (tree_of x.0)) x.1.now) (λ e. Fails (Level 0) depth ts.now e) }
@@ -200,10 +215,10 @@ fn worded<'a>(
 #[cycle(exprs)]
 fn group<'a>(
     alloc: Global,
-    ts: &'a [Lexeme],
-    behind: &'a [Lexeme],
+    ts: Lexemes<'a>,
+    behind: Lexemes<'a>,
     depth: u32,
-) -> Result<(Expr, &'a [Lexeme]), ReadError>
+) -> Result<(Expr, Lexemes<'a>), ReadError>
     requires deep { depth ≤ 64 }
     requires begins { ts.now ≡ t.Symbol (s.Fixed Fixed.OpenRound) ∷ behind.now }
     ensures { MatchResult result (λ x. Took (Level 0) [] depth ts.now (ATree (tree_of x.0) ∷ []) (fits_at 0 depth (tree_of x.0)) x.1.now) (λ e. Fails (Level 0) depth ts.now e) }
@@ -220,11 +235,11 @@ fn group<'a>(
 #[cycle(exprs)]
 fn query<'a>(
     alloc: Global,
-    ts: &'a [Lexeme],
+    ts: Lexemes<'a>,
     word: QueryWord,
-    behind: &'a [Lexeme],
+    behind: Lexemes<'a>,
     depth: u32,
-) -> Result<(Expr, &'a [Lexeme]), ReadError>
+) -> Result<(Expr, Lexemes<'a>), ReadError>
     requires deep { depth ≤ 64 }
     requires begun { Begun (Level 0) (word_next word) depth ts.now behind.now }
     ensures { MatchResult result (λ x. Took (Level 0) [] depth ts.now (ATree (tree_of x.0) ∷ []) (fits_at 0 depth (tree_of x.0)) x.1.now) (λ e. Fails (Level 0) depth ts.now e) }
@@ -232,5 +247,5 @@ fn query<'a>(
     let (head, inner) = query_head(alloc, ts, word, behind, depth)?;
     let (e, rest) = boxed(alloc, inner, depth + 1)?;
     let (query, rest) = query_tail(alloc, head, rest, depth)?;
-    Ok((Expr::Ask(query, e), rest))
+    Ok((Expr::Ask(Box::new(alloc, query)?, e), rest))
 }

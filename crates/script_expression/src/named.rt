@@ -6,17 +6,17 @@ ghost use Rattle.script_tree.specs.Tree.{tree_of};
 use crate::query::closed_name;
 use crate::refusal::ReadError;
 use crate::take::{name, open, want};
-use script_tree::{Expr, Fixed, Leaf, Lexeme};
+use script_tree::{Expr, Fixed, Leaf, Lexemes};
 use std::alloc::Global;
 
 /// `self.NAME`
 #[tactic(auto, using(crate::proofs::Machine::made))]
 pub fn field<'a>(
     alloc: Global,
-    ts: &'a [Lexeme],
-    behind: &'a [Lexeme],
+    ts: Lexemes<'a>,
+    behind: Lexemes<'a>,
     depth: u32,
-) -> Result<(Expr, &'a [Lexeme]), ReadError>
+) -> Result<(Expr, Lexemes<'a>), ReadError>
     requires deep { depth ≤ 64 }
     requires begun { Begun (Level 0) (prim_fixed Fixed.Own) depth ts.now behind.now }
     ensures { MatchResult result (λ x. Took (Level 0) [] depth ts.now (ATree (tree_of x.0) ∷ []) (fits_at 0 depth (tree_of x.0)) x.1.now) (λ e. Fails (Level 0) depth ts.now e) }
@@ -30,10 +30,10 @@ pub fn field<'a>(
 #[tactic(auto, using(crate::proofs::Machine::made))]
 pub fn event_field<'a>(
     alloc: Global,
-    ts: &'a [Lexeme],
-    behind: &'a [Lexeme],
+    ts: Lexemes<'a>,
+    behind: Lexemes<'a>,
     depth: u32,
-) -> Result<(Expr, &'a [Lexeme]), ReadError>
+) -> Result<(Expr, Lexemes<'a>), ReadError>
     requires deep { depth ≤ 64 }
     requires begun { Begun (Level 0) (prim_fixed Fixed.Event) depth ts.now behind.now }
     ensures { MatchResult result (λ x. Took (Level 0) [] depth ts.now (ATree (tree_of x.0) ∷ []) (fits_at 0 depth (tree_of x.0)) x.1.now) (λ e. Fails (Level 0) depth ts.now e) }
@@ -46,10 +46,10 @@ pub fn event_field<'a>(
 /// `table(NAME)`
 pub fn table<'a>(
     alloc: Global,
-    ts: &'a [Lexeme],
-    behind: &'a [Lexeme],
+    ts: Lexemes<'a>,
+    behind: Lexemes<'a>,
     depth: u32,
-) -> Result<(Expr, &'a [Lexeme]), ReadError>
+) -> Result<(Expr, Lexemes<'a>), ReadError>
     requires deep { depth ≤ 64 }
     requires begun { Begun (Level 0) (prim_fixed Fixed.Table) depth ts.now behind.now }
     ensures { MatchResult result (λ x. Took (Level 0) [] depth ts.now (ATree (tree_of x.0) ∷ []) (fits_at 0 depth (tree_of x.0)) x.1.now) (λ e. Fails (Level 0) depth ts.now e) }
@@ -63,10 +63,10 @@ pub fn table<'a>(
 #[tactic(auto, using(crate::proofs::Machine::made))]
 pub fn count<'a>(
     alloc: Global,
-    ts: &'a [Lexeme],
-    behind: &'a [Lexeme],
+    ts: Lexemes<'a>,
+    behind: Lexemes<'a>,
     depth: u32,
-) -> Result<(Expr, &'a [Lexeme]), ReadError>
+) -> Result<(Expr, Lexemes<'a>), ReadError>
     requires deep { depth ≤ 64 }
     requires begun { Begun (Level 0) (prim_fixed Fixed.Count) depth ts.now behind.now }
     ensures { MatchResult result (λ x. Took (Level 0) [] depth ts.now (ATree (tree_of x.0) ∷ []) (fits_at 0 depth (tree_of x.0)) x.1.now) (λ e. Fails (Level 0) depth ts.now e) }
@@ -80,10 +80,10 @@ pub fn count<'a>(
 #[tactic(auto, using(crate::proofs::Machine::made))]
 pub fn priority<'a>(
     alloc: Global,
-    ts: &'a [Lexeme],
-    behind: &'a [Lexeme],
+    ts: Lexemes<'a>,
+    behind: Lexemes<'a>,
     depth: u32,
-) -> Result<(Expr, &'a [Lexeme]), ReadError>
+) -> Result<(Expr, Lexemes<'a>), ReadError>
     requires deep { depth ≤ 64 }
     requires begun { Begun (Level 0) (prim_fixed Fixed.Priority) depth ts.now behind.now }
     ensures { MatchResult result (λ x. Took (Level 0) [] depth ts.now (ATree (tree_of x.0) ∷ []) (fits_at 0 depth (tree_of x.0)) x.1.now) (λ e. Fails (Level 0) depth ts.now e) }

@@ -7,7 +7,7 @@ ghost use Rattle.script_expression.specs.Queries.{TookHead, TookTail, FailsTail,
 
 use crate::refusal::ReadError;
 use crate::take::{close, name, open, text, want};
-use script_tree::{Fixed, Function, Identifier, Lexeme, Literal, Query};
+use script_tree::{Fixed, Function, Identifier, Lexemes, Literal, Query};
 use std::alloc::Global;
 
 /// The first word of a function of an expression.
@@ -33,11 +33,11 @@ pub enum QueryHead {
 /// A function up to its expression, and what follows.
 pub fn query_head<'a>(
     alloc: Global,
-    ts: &'a [Lexeme],
+    ts: Lexemes<'a>,
     word: QueryWord,
-    behind: &'a [Lexeme],
+    behind: Lexemes<'a>,
     depth: u32,
-) -> Result<(QueryHead, &'a [Lexeme]), ReadError>
+) -> Result<(QueryHead, Lexemes<'a>), ReadError>
     requires deep { depth ≤ 64 }
     requires begun { Begun (Level 0) (word_next word) depth ts.now behind.now }
     ensures { MatchResult result (λ x. TookHead depth ts.now x.0 x.1.now) (λ e. Fails (Level 0) depth ts.now e) }
@@ -50,10 +50,10 @@ pub fn query_head<'a>(
 /// What stands in the brackets before the expression, and what follows.
 fn inside(
     alloc: Global,
-    ts: &[Lexeme],
+    ts: Lexemes,
     word: QueryWord,
     depth: u32,
-) -> Result<(QueryHead, &[Lexeme]), ReadError>
+) -> Result<(QueryHead, Lexemes), ReadError>
     requires { depth ≤ 64 }
     ensures { MatchResult result (λ x. TookAll (word_parts word) (Level 8 ∷ parts_behind x.0) depth depth ts.now (λ is. items_before x.0 ++ is) (head_fits x.0) x.1.now) (λ e. FailsAll (word_parts word) depth ts.now e) }
 {
@@ -76,11 +76,7 @@ fn inside(
 }
 
 /// `TEXT ,`
-fn text_and_comma(
-    alloc: Global,
-    ts: &[Lexeme],
-    depth: u32,
-) -> Result<(Literal, &[Lexeme]), ReadError>
+fn text_and_comma(alloc: Global, ts: Lexemes, depth: u32) -> Result<(Literal, Lexemes), ReadError>
     requires { depth ≤ 64 }
     ensures { MatchResult result (λ x. TookAll (g.Text ∷ One Fixed.Comma ∷ []) [] depth depth ts.now (λ is. AText x.0 ∷ is) (is_literal x.0) x.1.now) (λ e. FailsAll (g.Text ∷ One Fixed.Comma ∷ []) depth ts.now e) }
 {
@@ -92,9 +88,9 @@ fn text_and_comma(
 /// `NAME ,`
 fn name_and_comma(
     alloc: Global,
-    ts: &[Lexeme],
+    ts: Lexemes,
     depth: u32,
-) -> Result<(Identifier, &[Lexeme]), ReadError>
+) -> Result<(Identifier, Lexemes), ReadError>
     requires { depth ≤ 64 }
     ensures { MatchResult result (λ x. TookAll (g.Name ∷ One Fixed.Comma ∷ []) [] depth depth ts.now (λ is. AName x.0 ∷ is) (is_identifier x.0) x.1.now) (λ e. FailsAll (g.Name ∷ One Fixed.Comma ∷ []) depth ts.now e) }
 {
@@ -107,9 +103,9 @@ fn name_and_comma(
 pub fn query_tail(
     alloc: Global,
     head: QueryHead,
-    ts: &[Lexeme],
+    ts: Lexemes,
     depth: u32,
-) -> Result<(Query, &[Lexeme]), ReadError>
+) -> Result<(Query, Lexemes), ReadError>
     requires { depth < 64 }
     ensures { MatchResult result (λ x. TookTail depth head ts.now x.0 x.1.now) (λ e. FailsTail depth head ts.now e) }
 {
@@ -138,7 +134,7 @@ pub fn query_tail(
 }
 
 /// `, NAME )`
-fn last_name(alloc: Global, ts: &[Lexeme], depth: u32) -> Result<(Identifier, &[Lexeme]), ReadError>
+fn last_name(alloc: Global, ts: Lexemes, depth: u32) -> Result<(Identifier, Lexemes), ReadError>
     requires { depth < 64 }
     ensures { MatchResult result (λ x. TookNamed (One Fixed.Comma ∷ []) (depth + 1) depth ts.now x.0 x.1.now) (λ e. FailsNamed (One Fixed.Comma ∷ []) (depth + 1) ts.now e) }
 {
@@ -150,9 +146,9 @@ fn last_name(alloc: Global, ts: &[Lexeme], depth: u32) -> Result<(Identifier, &[
 /// `NAME )`
 pub fn closed_name(
     alloc: Global,
-    ts: &[Lexeme],
+    ts: Lexemes,
     depth: u32,
-) -> Result<(Identifier, &[Lexeme]), ReadError>
+) -> Result<(Identifier, Lexemes), ReadError>
     requires { depth < 64 }
     ensures { MatchResult result (λ x. TookNamed [] (depth + 1) depth ts.now x.0 x.1.now) (λ e. FailsNamed [] (depth + 1) ts.now e) }
 {

@@ -2,7 +2,7 @@ ghost use Rattle.std.specs.Prelude.{◌≡◌, length};
 ghost use Rattle.script_expression.specs.declared.refusal.ReadError.TheVariants.{NoMemory as NoMemoryLeft};
 ghost use Rattle.script_expression.specs.Takes.{kind_at};
 
-use script_tree::{Lexeme, Misfit, SyntaxBad};
+use script_tree::{Lexeme, Lexemes, Misfit, SyntaxBad};
 use slee_value::NoMemory;
 use std::alloc::{AllocError, AllocFailed};
 
@@ -38,7 +38,7 @@ impl<T: Drop> From<AllocFailed<T>> for ReadError {
 }
 
 /// Why the first token can't come.
-pub fn unexpected(ts: &[Lexeme]) -> ReadError
+pub fn unexpected(ts: Lexemes) -> ReadError
     ensures { result ≡ ReadError.Misfit (record { left = length ts.now; kind = kind_at ts.now }) }
 {
     let kind = match ts {
@@ -53,7 +53,7 @@ pub fn unexpected(ts: &[Lexeme]) -> ReadError
 }
 
 /// The first token opens level 65.
-pub fn too_deep(ts: &[Lexeme]) -> ReadError
+pub fn too_deep(ts: Lexemes) -> ReadError
     ensures { result ≡ ReadError.Misfit (record { left = length ts.now; kind = SyntaxBad.Deep }) }
 {
     ReadError::Misfit(Misfit {

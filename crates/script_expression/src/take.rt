@@ -5,12 +5,15 @@ ghost use Rattle.script_tree.specs.declared.lexeme.Lexeme.TheVariants as t;
 ghost use Rattle.script_tree.specs.Grammar as g;
 ghost use Rattle.script_tree.specs.Grammar.{level_of, turn_of};
 ghost use Rattle.script_tree.specs.Numbers.{is_fixed};
-ghost use Rattle.script_expression.specs.Takes.{Took, Turned, Fails, prefix_at, prefix_in, operator_in, starts, is_operand, joins, ends_operand, stands_alone};
+ghost use Rattle.script_expression.specs.Takes.{Took, Turned, Fails, operator_in, starts};
+ghost use Rattle.script_expression.specs.Levels.{joining, joining_at, next_level, prefix_up_to, prefix_next};
 ghost use Rattle.script_tree.specs.Spelling.{over_fits, who_fits};
 ghost use Rattle.script_tree.specs.Words.{is_identifier, is_literal};
 
 use crate::refusal::{ReadError, too_deep, unexpected};
-use script_tree::{Fixed, Identifier, Lexeme, Literal, Operator, Over, Prefix, Symbol, Who};
+use script_tree::{
+    Fixed, Identifier, Lexeme, Lexemes, Literal, Operator, Over, Prefix, Symbol, Who,
+};
 use std::alloc::Global;
 
 /// Whether a token is this word or sign.
@@ -26,7 +29,7 @@ fn is_fixed(token: &Lexeme, fixed: Fixed) -> bool
 }
 
 /// What follows a word or sign, if the tokens begin with it.
-pub fn behind(ts: &[Lexeme], fixed: Fixed) -> Option<&[Lexeme]>
+pub fn behind(ts: Lexemes, fixed: Fixed) -> Option<Lexemes>
     ensures { MatchOption result (starts fixed ts.now ≡ false) (λ rest. ts.now ≡ t.Symbol (s.Fixed fixed) ∷ rest.now) }
 {
     match ts {
@@ -37,7 +40,7 @@ pub fn behind(ts: &[Lexeme], fixed: Fixed) -> Option<&[Lexeme]>
 
 /// What follows a word or sign that has to come and is no bracket.
 #[tactic(auto, using(crate::proofs::Machine::refuse_fixed), unfolding(script_tree::specs::Grammar::verdict))]
-pub fn want(ts: &[Lexeme], fixed: Fixed, depth: u32) -> Result<&[Lexeme], ReadError>
+pub fn want(ts: Lexemes, fixed: Fixed, depth: u32) -> Result<Lexemes, ReadError>
     requires deep { depth ≤ 64 }
     requires no_bracket { turn_of fixed ≡ g.Stays }
     ensures { MatchResult result (λ rest. Turned fixed depth depth ts.now rest.now) (λ e. Fails (g.One fixed) depth ts.now e) }
@@ -50,7 +53,7 @@ pub fn want(ts: &[Lexeme], fixed: Fixed, depth: u32) -> Result<&[Lexeme], ReadEr
 
 /// What follows a bracket that has to be opened.
 #[tactic(auto, using(crate::proofs::Machine::refuse_fixed), unfolding(script_tree::specs::Grammar::verdict))]
-pub fn open(ts: &[Lexeme], fixed: Fixed, depth: u32) -> Result<&[Lexeme], ReadError>
+pub fn open(ts: Lexemes, fixed: Fixed, depth: u32) -> Result<Lexemes, ReadError>
     requires deep { depth ≤ 64 }
     requires bracket { turn_of fixed ≡ g.Opens }
     ensures { MatchResult result (λ rest. Turned fixed depth (depth + 1) ts.now rest.now) (λ e. Fails (g.One fixed) depth ts.now e) }
@@ -68,7 +71,7 @@ pub fn open(ts: &[Lexeme], fixed: Fixed, depth: u32) -> Result<&[Lexeme], ReadEr
 
 /// What follows a bracket that has to be closed. `depth` counts the brackets that are open round the pair.
 #[tactic(auto, using(crate::proofs::Machine::refuse_fixed), unfolding(script_tree::specs::Grammar::verdict))]
-pub fn close(ts: &[Lexeme], fixed: Fixed, depth: u32) -> Result<&[Lexeme], ReadError>
+pub fn close(ts: Lexemes, fixed: Fixed, depth: u32) -> Result<Lexemes, ReadError>
     requires deep { depth < 64 }
     requires bracket { turn_of fixed ≡ g.Closes }
     ensures { MatchResult result (λ rest. Turned fixed (depth + 1) depth ts.now rest.now) (λ e. Fails (g.One fixed) (depth + 1) ts.now e) }
@@ -81,7 +84,7 @@ pub fn close(ts: &[Lexeme], fixed: Fixed, depth: u32) -> Result<&[Lexeme], ReadE
 
 /// A name that has to come, and what follows it.
 #[tactic(auto, using(crate::proofs::Machine::refuse_name), unfolding(script_tree::specs::Grammar::verdict))]
-pub fn name(alloc: Global, ts: &[Lexeme], depth: u32) -> Result<(Identifier, &[Lexeme]), ReadError>
+pub fn name(alloc: Global, ts: Lexemes, depth: u32) -> Result<(Identifier, Lexemes), ReadError>
     requires { depth ≤ 64 }
     ensures { MatchResult result (λ x. Took g.Name [] depth ts.now (g.AName x.0 ∷ []) (is_identifier x.0) x.1.now) (λ e. Fails g.Name depth ts.now e) }
 {
@@ -96,7 +99,7 @@ pub fn name(alloc: Global, ts: &[Lexeme], depth: u32) -> Result<(Identifier, &[L
 
 /// A text that has to come, and what follows it.
 #[tactic(auto, using(crate::proofs::Machine::refuse_text), unfolding(script_tree::specs::Grammar::verdict))]
-pub fn text(alloc: Global, ts: &[Lexeme], depth: u32) -> Result<(Literal, &[Lexeme]), ReadError>
+pub fn text(alloc: Global, ts: Lexemes, depth: u32) -> Result<(Literal, Lexemes), ReadError>
     requires { depth ≤ 64 }
     ensures { MatchResult result (λ x. Took g.Text [] depth ts.now (g.AText x.0 ∷ []) (is_literal x.0) x.1.now) (λ e. Fails g.Text depth ts.now e) }
 {
@@ -110,7 +113,7 @@ pub fn text(alloc: Global, ts: &[Lexeme], depth: u32) -> Result<(Literal, &[Lexe
 }
 
 /// The operator of a level that comes next, and what follows it.
-pub fn operator(ts: &[Lexeme], level: u8) -> Option<(Operator, &[Lexeme])>
+pub fn operator(ts: Lexemes, level: u8) -> Option<(Operator, Lexemes)>
     ensures { MatchOption result (operator_in level ts.now ≡ None) (λ x. (ts.now ≡ t.Symbol (s.Operator x.0) ∷ x.1.now) × (level_of x.0 ≡ level)) }
 {
     let [first, rest @ ..] = ts else {
@@ -127,68 +130,60 @@ pub fn operator(ts: &[Lexeme], level: u8) -> Option<(Operator, &[Lexeme])>
     }
 }
 
-/// Whether the first token is a whole operand of a level: no operator of the level or below follows it.
-pub fn stands_alone(ts: &[Lexeme], level: u8) -> bool
-    ensures { result ≡ stands_alone level ts.now }
-{
-    let [first, rest @ ..] = ts else {
-        return false;
-    };
-    is_operand(first) && ends_operand(rest, level)
-}
-
-fn is_operand(token: &Lexeme) -> bool
-    ensures { result ≡ is_operand token.now }
-{
-    match token {
-        Lexeme::Int(_) | Lexeme::Text(_) | Lexeme::Name(_) | Lexeme::Symbol(Symbol::Constant(_)) =>
-            true,
-        _ => false,
-    }
-}
-
-fn ends_operand(ts: &[Lexeme], level: u8) -> bool
-    ensures { result ≡ ends_operand level ts.now }
+/// The level of the operator that comes next, or 0.
+fn joining(ts: Lexemes) -> u8
+    ensures { result ≡ joining ts.now }
 {
     match ts {
-        [] => true,
-        [first, ..] => !joins(first, level),
+        [] => 0,
+        [first, ..] => joining_at(first),
     }
 }
 
-fn joins(token: &Lexeme, level: u8) -> bool
-    ensures { result ≡ joins level token.now }
+fn joining_at(token: &Lexeme) -> u8
+    ensures { result ≡ joining_at token.now }
 {
     match token {
-        Lexeme::Symbol(Symbol::Operator(found)) => found.level() <= level,
-        _ => false,
+        Lexeme::Symbol(Symbol::Operator(found)) => found.level(),
+        _ => 0,
     }
 }
 
-/// What may stand before an operand of a level, if it comes next, and what follows it.
-pub fn prefix(ts: &[Lexeme], level: u8) -> Option<(Prefix, &[Lexeme])>
-    ensures { MatchOption result (prefix_in level ts.now ≡ None) (λ x. (prefix_in level ts.now ≡ Some x.0) × ((first : ALexeme) × (ts.now ≡ first ∷ x.1.now))) }
+/// The level of the operator that comes next, where it is above one level and not above another.
+pub fn next_level(ts: Lexemes, done: u8, highest: u8) -> Option<u8>
+    ensures { result ≡ next_level done highest ts.now }
+{
+    let next = joining(ts);
+    if done < next && next <= highest {
+        return Some(next);
+    }
+    None
+}
+
+/// What may stand before an operand of a level up to the highest, if it comes next, and what follows it.
+pub fn prefix(ts: Lexemes, highest: u8) -> Option<(Prefix, Lexemes)>
+    ensures { MatchOption result (prefix_next highest ts.now ≡ None) (λ x. (prefix_next highest ts.now ≡ Some x.0) × ((first : ALexeme) × (ts.now ≡ first ∷ x.1.now))) }
 {
     let [first, rest @ ..] = ts else {
         return None;
     };
-    let prefix = prefix_of(first, level)?;
+    let prefix = prefix_of(first, highest)?;
     Some((prefix, rest))
 }
 
-fn prefix_of(token: &Lexeme, level: u8) -> Option<Prefix>
-    ensures { result ≡ prefix_at level token.now }
+fn prefix_of(token: &Lexeme, highest: u8) -> Option<Prefix>
+    ensures { result ≡ prefix_up_to highest token.now }
 {
     match token {
-        Lexeme::Symbol(Symbol::Operator(Operator::Minus)) if level == 1 => Some(Prefix::Negative),
-        Lexeme::Symbol(Symbol::Fixed(Fixed::Not)) if level == 6 => Some(Prefix::Not),
+        Lexeme::Symbol(Symbol::Operator(Operator::Minus)) if highest >= 1 => Some(Prefix::Negative),
+        Lexeme::Symbol(Symbol::Fixed(Fixed::Not)) if highest >= 6 => Some(Prefix::Not),
         _ => None,
     }
 }
 
 /// The entity itself or a child, and what follows it.
 #[tactic(auto, using(crate::proofs::Choices::refuse_who), unfolding(script_tree::specs::Grammar::verdict))]
-pub fn who(alloc: Global, ts: &[Lexeme], depth: u32) -> Result<(Who, &[Lexeme]), ReadError>
+pub fn who(alloc: Global, ts: Lexemes, depth: u32) -> Result<(Who, Lexemes), ReadError>
     requires { depth ≤ 64 }
     ensures { MatchResult result (λ x. Took g.Who [] depth ts.now (g.AWho x.0 ∷ []) (who_fits x.0) x.1.now) (λ e. Fails g.Who depth ts.now e) }
 {
@@ -206,7 +201,7 @@ pub fn who(alloc: Global, ts: &[Lexeme], depth: u32) -> Result<(Who, &[Lexeme]),
 
 /// What a `for` goes over, and what follows it.
 #[tactic(auto, using(crate::proofs::Choices::refuse_over), unfolding(script_tree::specs::Grammar::verdict))]
-pub fn over(alloc: Global, ts: &[Lexeme], depth: u32) -> Result<(Over, &[Lexeme]), ReadError>
+pub fn over(alloc: Global, ts: Lexemes, depth: u32) -> Result<(Over, Lexemes), ReadError>
     requires { depth ≤ 64 }
     ensures { MatchResult result (λ x. Took g.Over [] depth ts.now (g.AnOver x.0 ∷ []) (over_fits x.0) x.1.now) (λ e. Fails g.Over depth ts.now e) }
 {

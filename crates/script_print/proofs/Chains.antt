@@ -12,20 +12,8 @@ use Rattle.script_tree.specs.Tree.{Expression, Binary, tree_of, joined_row, join
 use Rattle.script_tree.specs.Spelling.{level, left_level, spell_expression}
 use Rattle.script_tree.specs.Reading.{opening, closing}
 use Rattle.script_print.specs.Chains.{chain_level, openings, operation, operations}
+use Rattle.script_tree.proofs.Rows.{chain_tree}
 use Rattle.script_print.proofs.Rows.{bracketed}
-
-row_joined : (x : Expression) (n : _) (row : Row_of-Expr-Chain-1-2 n) → joined_row x row ≡ joined x (items-the_row-Expr-Chain-1-2 n row)
-row_joined x n end_of-Expr-Chain-1-2 = refl
-row_joined x n (more_of-Expr-Chain-1-2 op y more) = row_joined (Binary op x (tree_of y)) _ more
-
-abbrev chain_row : Expr → (n : Count) × Row_of-Expr-Chain-1-2 n
-chain_row (Chain' _ x _ row) = (_, row)
-chain_row _ = (_, end_of-Expr-Chain-1-2)
-
-pub chain_tree : (x : Box Expr Global) (v : Vec (Operator × Expr) Global) → tree_of (Chain x v) ≡ joined (tree_of x.value) v.items
-chain_tree x v =
-    let row = chain_row (Chain x v) in
-    row_joined (tree_of x.value) row.0 row.1 ∙ ap (joined (tree_of x.value)) (items_hidden-the_row-Expr-Chain-1-2-0 v)
 
 pub joined_level : (x : Expression) (xs : List (Operator × Expr)) → level (joined x xs) ≡ chain_level (level x) xs
 joined_level x [] = refl

@@ -13,38 +13,7 @@ use Rattle.script_tree.specs.Tree as tree
 use Rattle.script_tree.specs.Tree.{Bytes, Statement, Statements, Nothing, Then, tree_of, field_of, statement_of, statements_of, row_of}
 use Rattle.script_tree.specs.Spelling.{fixed, braced, spell_over, spell_expression, spell_statement, spell_statements}
 use Rattle.script_tree.specs.Reading.{opening, closing}
-
-row_items : (n : _) (row : Row_of-Stmt n) → row_of row ≡ statements_of (items-the_row-Stmt n row)
-row_items n end_of-Stmt = refl
-row_items n (more_of-Stmt y rest) = ap (Then (statement_of y)) (row_items _ rest)
-
-abbrev first_row : Stmt → (n : Count) × Row_of-Stmt n
-first_row (While' e _ row) = (_, row)
-first_row (If' e _ row) = (_, row)
-first_row (IfElse' e _ row _ other) = (_, row)
-first_row (For' name over _ row) = (_, row)
-first_row _ = (_, end_of-Stmt)
-
-abbrev other_row : Stmt → (n : Count) × Row_of-Stmt n
-other_row (IfElse' e _ row _ other) = (_, other)
-other_row _ = (_, end_of-Stmt)
-
-pub while_tree : (e : Expr) (v : Vec Stmt Global) → statement_of (While e v) ≡ tree.While (tree_of e) (statements_of v.items)
-while_tree e v = let row = first_row (While e v) in ap (tree.While (tree_of e)) (row_items row.0 row.1 ∙ ap statements_of (items_hidden-the_row-Stmt-0 v))
-
-pub if_tree : (e : Expr) (v : Vec Stmt Global) → statement_of (If e v) ≡ tree.If (tree_of e) (statements_of v.items)
-if_tree e v = let row = first_row (If e v) in ap (tree.If (tree_of e)) (row_items row.0 row.1 ∙ ap statements_of (items_hidden-the_row-Stmt-0 v))
-
-pub for_tree : (name : Bytes) (over : Over) (v : Vec Stmt Global) → statement_of (For name over v) ≡ tree.For name over (statements_of v.items)
-for_tree name over v = let row = first_row (For name over v) in ap (tree.For name over) (row_items row.0 row.1 ∙ ap statements_of (items_hidden-the_row-Stmt-0 v))
-
-pub if_else_tree : (e : Expr) (v w : Vec Stmt Global) → statement_of (IfElse e v w) ≡ tree.IfElse (tree_of e) (statements_of v.items) (statements_of w.items)
-if_else_tree e v w =
-    let row = first_row (IfElse e v w) in
-    let other = other_row (IfElse e v w) in
-    let a = row_items row.0 row.1 ∙ ap statements_of (items_hidden-the_row-Stmt-0 v) in
-    let b = row_items other.0 other.1 ∙ ap statements_of (items_hidden-the_row-Stmt-0 w) in
-    ap (λ y. tree.IfElse (tree_of e) y (row_of other.1)) a ∙ ap (tree.IfElse (tree_of e) (statements_of v.items)) b
+use Rattle.script_tree.proofs.Rows.{while_tree, if_tree, for_tree, if_else_tree}
 
 -- an expression in brackets, or not
 pub bracketed : (b : Bool) (ts : List Lexeme) → opening (not b) ++ (ts ++ closing (not b)) ≡ cond b ts (fixed x.OpenRound ∷ (ts ++ fixed x.CloseRound ∷ []))

@@ -5,7 +5,7 @@ ghost use Rattle.script_tree.specs.Script.{tree_of_script};
 ghost use Rattle.script_tree.specs.Words.{quoted, quoted_byte};
 
 use crate::speller::Speller;
-use script_tree::{Fixed, Lexeme, Script, Symbol};
+use script_tree::{Fixed, Lexeme, Lexemes, Script, Symbol};
 use slee_value::NoMemory;
 use std::alloc::Global;
 
@@ -27,7 +27,7 @@ pub fn print(alloc: Global, script: &Script, into: &mut Vec<u8>) -> Result<(), N
 }
 
 /// The text of tokens, each with one blank behind it.
-fn text_of(alloc: Global, tokens: &[Lexeme]) -> Result<Vec<u8>, NoMemory>
+fn text_of(alloc: Global, tokens: Lexemes) -> Result<Vec<u8>, NoMemory>
     ensures { IfOk result (λ v. v.items ≡ flat_map spaced tokens.now) }
 {
     let mut text = Vec::new(alloc);
@@ -66,7 +66,7 @@ fn put(alloc: Global, token: &Lexeme, text: &mut Vec<u8>) -> Result<(), NoMemory
             Ok(())
         }
         Lexeme::Name(name) => {
-            text.extend_from_slice(name.name().as_bytes())?;
+            text.extend_from_slice(name.as_bytes())?;
             Ok(())
         }
         Lexeme::Text(literal) => {

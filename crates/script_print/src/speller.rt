@@ -13,12 +13,12 @@ use std::alloc::Global;
 
 /// Tokens to which more are added.
 #[derive(Drop)]
-pub struct Speller {
+pub struct Speller<'a> {
     pub alloc: Global,
-    pub tokens: Vec<Lexeme>,
+    pub tokens: Vec<Lexeme<'a>>,
 }
 
-impl Speller {
+impl<'a> Speller<'a> {
     fn fixed(&mut self, fixed: Fixed) -> Result<(), NoMemory>
         ensures { OnOk result (self.new.tokens.items ≡ self.old.tokens.items ++ spelling.fixed fixed ∷ []) }
     {
@@ -32,11 +32,10 @@ impl Speller {
         Ok(())
     }
 
-    fn name(&mut self, name: &Identifier) -> Result<(), NoMemory>
+    fn name(&mut self, name: &'a Identifier) -> Result<(), NoMemory>
         ensures { OnOk result (self.new.tokens.items ≡ self.old.tokens.items ++ Lexeme.Name name.now ∷ []) }
     {
-        let name = name.copy(self.alloc)?;
-        self.tokens.push(Lexeme::Name(name))?;
+        self.tokens.push(Lexeme::Name(name.as_ref()))?;
         Ok(())
     }
 
@@ -48,7 +47,7 @@ impl Speller {
         Ok(())
     }
 
-    fn leaf(&mut self, leaf: &Leaf) -> Result<(), NoMemory>
+    fn leaf(&mut self, leaf: &'a Leaf) -> Result<(), NoMemory>
         ensures { OnOk result (self.new.tokens.items ≡ self.old.tokens.items ++ spelling.spell_leaf leaf.now) }
     {
         match leaf {
@@ -67,7 +66,7 @@ impl Speller {
         }
     }
 
-    fn dotted(&mut self, word: Fixed, name: &Identifier) -> Result<(), NoMemory>
+    fn dotted(&mut self, word: Fixed, name: &'a Identifier) -> Result<(), NoMemory>
         ensures { OnOk result (self.new.tokens.items ≡ self.old.tokens.items ++ spelling.fixed word ∷ spelling.fixed Fixed.Dot ∷ Lexeme.Name name.now ∷ []) }
     {
         self.fixed(word)?;
@@ -75,7 +74,7 @@ impl Speller {
         self.name(name)
     }
 
-    fn named(&mut self, word: Fixed, name: &Identifier) -> Result<(), NoMemory>
+    fn named(&mut self, word: Fixed, name: &'a Identifier) -> Result<(), NoMemory>
         ensures { OnOk result (self.new.tokens.items ≡ self.old.tokens.items ++ spelling.spell_named word name.now) }
     {
         self.fixed(word)?;
@@ -113,13 +112,13 @@ impl Speller {
     }
 
     #[cycle(expressions)]
-    fn expression(&mut self, e: &Expr) -> Result<(), NoMemory>
+    fn expression(&mut self, e: &'a Expr) -> Result<(), NoMemory>
         ensures { OnOk result (self.new.tokens.items ≡ self.old.tokens.items ++ spelling.spell_expression (tree_of e.now)) }
     {
         match e {
             Expr::Leaf(leaf) => self.leaf(leaf),
             Expr::Unary(prefix, inner) => {
-                let brackets = needs_brackets(inner, prefix_level(*prefix) - 1);
+                let brackets = needs_brackets(inner, prefix.level() - 1);
                 self.prefix(*prefix)?;
                 self.open(brackets)?;
                 self.expression(inner)?;
@@ -153,7 +152,7 @@ impl Speller {
 
     /// What stands behind the first operand of a chain, which has this level.
     #[cycle(expressions)]
-    fn operations(&mut self, more: &[(Operator, Expr)], level: u8) -> Result<(), NoMemory>
+    fn operations(&mut self, more: &'a [(Operator, Expr)], level: u8) -> Result<(), NoMemory>
         ensures { OnOk result (self.new.tokens.items ≡ self.old.tokens.items ++ operations level more.now) }
     {
         let mut left = level;
@@ -169,7 +168,7 @@ impl Speller {
         Ok(())
     }
 
-    fn before(&mut self, query: &Query) -> Result<(), NoMemory>
+    fn before(&mut self, query: &'a Query) -> Result<(), NoMemory>
         ensures { OnOk result (self.new.tokens.items ≡ self.old.tokens.items ++ spelling.before_asked query.now) }
     {
         match query {
@@ -192,7 +191,7 @@ impl Speller {
         }
     }
 
-    fn first(&mut self, word: Fixed, table: &Identifier) -> Result<(), NoMemory>
+    fn first(&mut self, word: Fixed, table: &'a Identifier) -> Result<(), NoMemory>
         ensures { OnOk result (self.new.tokens.items ≡ self.old.tokens.items ++ spelling.fixed word ∷ spelling.fixed Fixed.OpenRound ∷ Lexeme.Name table.now ∷ spelling.fixed Fixed.Comma ∷ []) }
     {
         self.fixed(word)?;
@@ -201,7 +200,7 @@ impl Speller {
         self.fixed(Fixed::Comma)
     }
 
-    fn behind(&mut self, query: &Query) -> Result<(), NoMemory>
+    fn behind(&mut self, query: &'a Query) -> Result<(), NoMemory>
         ensures { OnOk result (self.new.tokens.items ≡ self.old.tokens.items ++ spelling.behind_asked query.now) }
     {
         match query {
@@ -213,7 +212,7 @@ impl Speller {
     }
 
     /// The last name of a function.
-    fn last(&mut self, name: &Identifier) -> Result<(), NoMemory>
+    fn last(&mut self, name: &'a Identifier) -> Result<(), NoMemory>
         ensures { OnOk result (self.new.tokens.items ≡ self.old.tokens.items ++ spelling.fixed Fixed.Comma ∷ Lexeme.Name name.now ∷ spelling.fixed Fixed.CloseRound ∷ []) }
     {
         self.fixed(Fixed::Comma)?;
@@ -221,7 +220,7 @@ impl Speller {
         self.fixed(Fixed::CloseRound)
     }
 
-    fn who(&mut self, who: &Who) -> Result<(), NoMemory>
+    fn who(&mut self, who: &'a Who) -> Result<(), NoMemory>
         ensures { OnOk result (self.new.tokens.items ≡ self.old.tokens.items ++ spelling.spell_who who.now) }
     {
         match who {
@@ -230,7 +229,7 @@ impl Speller {
         }
     }
 
-    fn over(&mut self, over: &Over) -> Result<(), NoMemory>
+    fn over(&mut self, over: &'a Over) -> Result<(), NoMemory>
         ensures { OnOk result (self.new.tokens.items ≡ self.old.tokens.items ++ spelling.spell_over over.now) }
     {
         match over {
@@ -239,7 +238,7 @@ impl Speller {
         }
     }
 
-    fn assignment(&mut self, s: &Assignment) -> Result<(), NoMemory>
+    fn assignment(&mut self, s: &'a Assignment) -> Result<(), NoMemory>
         ensures { OnOk result (self.new.tokens.items ≡ self.old.tokens.items ++ spelling.spell_assigning (assigning_of s.now)) }
     {
         match s {
@@ -272,7 +271,7 @@ impl Speller {
         }
     }
 
-    fn entity(&mut self, s: &EntityStmt) -> Result<(), NoMemory>
+    fn entity(&mut self, s: &'a EntityStmt) -> Result<(), NoMemory>
         ensures { OnOk result (self.new.tokens.items ≡ self.old.tokens.items ++ spelling.spell_on_entities (on_entities_of s.now)) }
     {
         match s {
@@ -311,7 +310,7 @@ impl Speller {
         }
     }
 
-    fn outcome(&mut self, name: &Option<Identifier>) -> Result<(), NoMemory>
+    fn outcome(&mut self, name: &'a Option<Identifier>) -> Result<(), NoMemory>
         ensures { OnOk result (self.new.tokens.items ≡ self.old.tokens.items ++ spelling.spell_result name.now) }
     {
         match name {
@@ -323,7 +322,7 @@ impl Speller {
         }
     }
 
-    fn arguments(&mut self, list: &[Expr]) -> Result<(), NoMemory>
+    fn arguments(&mut self, list: &'a [Expr]) -> Result<(), NoMemory>
         ensures { OnOk result (self.new.tokens.items ≡ self.old.tokens.items ++ spelling.spell_arguments (map tree_of list.now)) }
     {
         let [first, more @ ..] = list else {
@@ -337,7 +336,7 @@ impl Speller {
         Ok(())
     }
 
-    fn activity(&mut self, s: &ActivityStmt) -> Result<(), NoMemory>
+    fn activity(&mut self, s: &'a ActivityStmt) -> Result<(), NoMemory>
         ensures { OnOk result (self.new.tokens.items ≡ self.old.tokens.items ++ spelling.spell_on_activities (on_activities_of s.now)) }
     {
         match s {
@@ -386,7 +385,7 @@ impl Speller {
         }
     }
 
-    fn mask(&mut self, word: Fixed, event: &Literal, e: &Expr) -> Result<(), NoMemory>
+    fn mask(&mut self, word: Fixed, event: &Literal, e: &'a Expr) -> Result<(), NoMemory>
         ensures { OnOk result (self.new.tokens.items ≡ self.old.tokens.items ++ spelling.fixed word ∷ Lexeme.Text event.now ∷ spelling.fixed Fixed.On ∷ spelling.spell_expression (tree_of e.now)) }
     {
         self.fixed(word)?;
@@ -395,7 +394,7 @@ impl Speller {
         self.expression(e)
     }
 
-    fn fields(&mut self, list: &[FieldValue]) -> Result<(), NoMemory>
+    fn fields(&mut self, list: &'a [FieldValue]) -> Result<(), NoMemory>
         ensures { OnOk result (self.new.tokens.items ≡ self.old.tokens.items ++ spelling.spell_fields (map field_of list.now)) }
     {
         let [first, more @ ..] = list else {
@@ -410,7 +409,7 @@ impl Speller {
         self.fixed(Fixed::CloseCurly)
     }
 
-    fn field(&mut self, field: &FieldValue) -> Result<(), NoMemory>
+    fn field(&mut self, field: &'a FieldValue) -> Result<(), NoMemory>
         ensures { OnOk result (self.new.tokens.items ≡ self.old.tokens.items ++ spelling.spell_field (field_of field.now)) }
     {
         self.name(&field.name)?;
@@ -418,7 +417,7 @@ impl Speller {
         self.expression(&field.value)
     }
 
-    fn timer(&mut self, s: &TimerStmt) -> Result<(), NoMemory>
+    fn timer(&mut self, s: &'a TimerStmt) -> Result<(), NoMemory>
         ensures { OnOk result (self.new.tokens.items ≡ self.old.tokens.items ++ spelling.ended (spelling.spell_timer (setting_of s.now))) }
     {
         self.fixed(Fixed::Timer)?;
@@ -432,7 +431,7 @@ impl Speller {
         self.fixed(Fixed::Semicolon)
     }
 
-    fn repeat(&mut self, repeat: &Option<Repeat>) -> Result<(), NoMemory>
+    fn repeat(&mut self, repeat: &'a Option<Repeat>) -> Result<(), NoMemory>
         ensures { OnOk result (self.new.tokens.items ≡ self.old.tokens.items ++ spelling.spell_repeat (repeat_of repeat.now)) }
     {
         match repeat {
@@ -459,7 +458,7 @@ impl Speller {
     }
 
     /// A statement of one expression alone.
-    fn doing(&mut self, verb: Verb, e: &Expr) -> Result<(), NoMemory>
+    fn doing(&mut self, verb: Verb, e: &'a Expr) -> Result<(), NoMemory>
         ensures { OnOk result (self.new.tokens.items ≡ self.old.tokens.items ++ spelling.ended (Lexeme.Symbol (Symbol.Verb verb) ∷ spelling.spell_expression (tree_of e.now))) }
     {
         self.symbol(Symbol::Verb(verb))?;
@@ -467,7 +466,7 @@ impl Speller {
         self.fixed(Fixed::Semicolon)
     }
 
-    fn usage(&mut self, name: &Identifier, e: &Expr) -> Result<(), NoMemory>
+    fn usage(&mut self, name: &'a Identifier, e: &'a Expr) -> Result<(), NoMemory>
         ensures { OnOk result (self.new.tokens.items ≡ self.old.tokens.items ++ spelling.ended (spelling.fixed Fixed.Usage ∷ Lexeme.Name name.now ∷ spelling.spell_expression (tree_of e.now))) }
     {
         self.fixed(Fixed::Usage)?;
@@ -484,7 +483,7 @@ impl Speller {
     }
 
     /// What stands before the block of an `if` or a `while`.
-    fn test(&mut self, word: Fixed, test: &Expr) -> Result<(), NoMemory>
+    fn test(&mut self, word: Fixed, test: &'a Expr) -> Result<(), NoMemory>
         ensures { OnOk result (self.new.tokens.items ≡ self.old.tokens.items ++ spelling.fixed word ∷ spelling.spell_expression (tree_of test.now)) }
     {
         self.fixed(word)?;
@@ -492,7 +491,7 @@ impl Speller {
     }
 
     /// What stands before the block of a `for`.
-    fn walk(&mut self, name: &Identifier, over: &Over) -> Result<(), NoMemory>
+    fn walk(&mut self, name: &'a Identifier, over: &'a Over) -> Result<(), NoMemory>
         ensures { OnOk result (self.new.tokens.items ≡ self.old.tokens.items ++ spelling.fixed Fixed.For ∷ Lexeme.Name name.now ∷ spelling.fixed Fixed.In ∷ spelling.spell_over over.now) }
     {
         self.fixed(Fixed::For)?;
@@ -502,7 +501,7 @@ impl Speller {
     }
 
     #[cycle(blocks)]
-    fn statement(&mut self, s: &Stmt) -> Result<(), NoMemory>
+    fn statement(&mut self, s: &'a Stmt) -> Result<(), NoMemory>
         ensures { OnOk result (self.new.tokens.items ≡ self.old.tokens.items ++ spelling.spell_statement (statement_of s.now)) }
     {
         match s {
@@ -544,7 +543,7 @@ impl Speller {
     }
 
     #[cycle(blocks)]
-    fn block(&mut self, body: &[Stmt]) -> Result<(), NoMemory>
+    fn block(&mut self, body: &'a [Stmt]) -> Result<(), NoMemory>
         ensures { OnOk result (self.new.tokens.items ≡ self.old.tokens.items ++ spelling.braced (spelling.spell_statements (statements_of body.now))) }
     {
         self.fixed(Fixed::OpenCurly)?;
@@ -553,7 +552,7 @@ impl Speller {
     }
 
     #[cycle(blocks)]
-    pub fn statements(&mut self, list: &[Stmt]) -> Result<(), NoMemory>
+    pub fn statements(&mut self, list: &'a [Stmt]) -> Result<(), NoMemory>
         ensures { OnOk result (self.new.tokens.items ≡ self.old.tokens.items ++ spelling.spell_statements (statements_of list.now)) }
     {
         for s in list {
@@ -569,22 +568,12 @@ fn level_of(e: &Expr) -> u8
 {
     match e {
         Expr::Leaf(_) => 0,
-        Expr::Unary(prefix, _) => prefix_level(*prefix),
+        Expr::Unary(prefix, _) => prefix.level(),
         Expr::Chain(first, more) => match more.last() {
             Some((operator, _)) => operator.level(),
             None => level_of(first),
         },
         Expr::Ask(_, _) => 0,
-    }
-}
-
-fn prefix_level(prefix: Prefix) -> u8
-    ensures level { result ≡ spelling.prefix_level prefix }
-    ensures some { 1 ≤ result }
-{
-    match prefix {
-        Prefix::Negative => 1,
-        Prefix::Not => 6,
     }
 }
 

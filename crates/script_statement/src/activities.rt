@@ -5,16 +5,16 @@ ghost use Rattle.script_expression.specs.Takes.{Begun, Took, Fails};
 ghost use Rattle.script_tree.specs.Tree.{statement_of};
 
 use script_expression::{ReadError, before, boxed_before, name, text, want, who};
-use script_tree::{ActivityStmt, Fixed, Lexeme, Stmt};
+use script_tree::{ActivityStmt, Fixed, Lexemes, Stmt};
 use std::alloc::Global;
 
 /// `attach WHO to a;`
 pub fn attach<'a>(
     alloc: Global,
-    ts: &'a [Lexeme],
-    behind: &'a [Lexeme],
+    ts: Lexemes<'a>,
+    behind: Lexemes<'a>,
     depth: u32,
-) -> Result<(Stmt, &'a [Lexeme]), ReadError>
+) -> Result<(Stmt, Lexemes<'a>), ReadError>
     requires deep { depth ≤ 64 }
     requires begun { Begun AStmt (stmt_fixed Fixed.Attach) depth ts.now behind.now }
     ensures { MatchResult result (λ x. Took AStmt [] depth ts.now (AStatement (statement_of x.0) ∷ []) (statement_fits depth (statement_of x.0)) x.1.now) (λ e. Fails AStmt depth ts.now e) }
@@ -28,10 +28,10 @@ pub fn attach<'a>(
 /// `detach WHO from a;`
 pub fn detach<'a>(
     alloc: Global,
-    ts: &'a [Lexeme],
-    behind: &'a [Lexeme],
+    ts: Lexemes<'a>,
+    behind: Lexemes<'a>,
     depth: u32,
-) -> Result<(Stmt, &'a [Lexeme]), ReadError>
+) -> Result<(Stmt, Lexemes<'a>), ReadError>
     requires deep { depth ≤ 64 }
     requires begun { Begun AStmt (stmt_fixed Fixed.Detach) depth ts.now behind.now }
     ensures { MatchResult result (λ x. Took AStmt [] depth ts.now (AStatement (statement_of x.0) ∷ []) (statement_fits depth (statement_of x.0)) x.1.now) (λ e. Fails AStmt depth ts.now e) }
@@ -45,10 +45,10 @@ pub fn detach<'a>(
 /// `mask TEXT on a;`
 pub fn mask<'a>(
     alloc: Global,
-    ts: &'a [Lexeme],
-    behind: &'a [Lexeme],
+    ts: Lexemes<'a>,
+    behind: Lexemes<'a>,
     depth: u32,
-) -> Result<(Stmt, &'a [Lexeme]), ReadError>
+) -> Result<(Stmt, Lexemes<'a>), ReadError>
     requires deep { depth ≤ 64 }
     requires begun { Begun AStmt (stmt_fixed Fixed.Mask) depth ts.now behind.now }
     ensures { MatchResult result (λ x. Took AStmt [] depth ts.now (AStatement (statement_of x.0) ∷ []) (statement_fits depth (statement_of x.0)) x.1.now) (λ e. Fails AStmt depth ts.now e) }
@@ -62,10 +62,10 @@ pub fn mask<'a>(
 /// `unmask TEXT on a;`
 pub fn unmask<'a>(
     alloc: Global,
-    ts: &'a [Lexeme],
-    behind: &'a [Lexeme],
+    ts: Lexemes<'a>,
+    behind: Lexemes<'a>,
     depth: u32,
-) -> Result<(Stmt, &'a [Lexeme]), ReadError>
+) -> Result<(Stmt, Lexemes<'a>), ReadError>
     requires deep { depth ≤ 64 }
     requires begun { Begun AStmt (stmt_fixed Fixed.Unmask) depth ts.now behind.now }
     ensures { MatchResult result (λ x. Took AStmt [] depth ts.now (AStatement (statement_of x.0) ∷ []) (statement_fits depth (statement_of x.0)) x.1.now) (λ e. Fails AStmt depth ts.now e) }
@@ -79,10 +79,10 @@ pub fn unmask<'a>(
 /// `null as NAME;`
 pub fn null<'a>(
     alloc: Global,
-    ts: &'a [Lexeme],
-    behind: &'a [Lexeme],
+    ts: Lexemes<'a>,
+    behind: Lexemes<'a>,
     depth: u32,
-) -> Result<(Stmt, &'a [Lexeme]), ReadError>
+) -> Result<(Stmt, Lexemes<'a>), ReadError>
     requires deep { depth ≤ 64 }
     requires begun { Begun AStmt (stmt_fixed Fixed.Null) depth ts.now behind.now }
     ensures { MatchResult result (λ x. Took AStmt [] depth ts.now (AStatement (statement_of x.0) ∷ []) (statement_fits depth (statement_of x.0)) x.1.now) (λ e. Fails AStmt depth ts.now e) }
@@ -96,10 +96,10 @@ pub fn null<'a>(
 /// `bind e to a;`
 pub fn bind<'a>(
     alloc: Global,
-    ts: &'a [Lexeme],
-    behind: &'a [Lexeme],
+    ts: Lexemes<'a>,
+    behind: Lexemes<'a>,
     depth: u32,
-) -> Result<(Stmt, &'a [Lexeme]), ReadError>
+) -> Result<(Stmt, Lexemes<'a>), ReadError>
     requires deep { depth ≤ 64 }
     requires begun { Begun AStmt (stmt_fixed Fixed.Bind) depth ts.now behind.now }
     ensures { MatchResult result (λ x. Took AStmt [] depth ts.now (AStatement (statement_of x.0) ∷ []) (statement_fits depth (statement_of x.0)) x.1.now) (λ e. Fails AStmt depth ts.now e) }

@@ -6,16 +6,16 @@ ghost use Rattle.script_expression.specs.Takes.{Begun, Took, Fails};
 ghost use Rattle.script_tree.specs.Tree.{statement_of};
 
 use script_expression::{ReadError, before, boxed_before, close, name, open, want};
-use script_tree::{Assignment, Fixed, Identifier, Lexeme, Stmt};
+use script_tree::{Assignment, Fixed, Lexemes, NameRef, Stmt};
 use std::alloc::Global;
 
 /// `let NAME = e;`
 pub fn new_variable<'a>(
     alloc: Global,
-    ts: &'a [Lexeme],
-    behind: &'a [Lexeme],
+    ts: Lexemes<'a>,
+    behind: Lexemes<'a>,
     depth: u32,
-) -> Result<(Stmt, &'a [Lexeme]), ReadError>
+) -> Result<(Stmt, Lexemes<'a>), ReadError>
     requires deep { depth ≤ 64 }
     requires begun { Begun AStmt (stmt_fixed Fixed.Let) depth ts.now behind.now }
     ensures { MatchResult result (λ x. Took AStmt [] depth ts.now (AStatement (statement_of x.0) ∷ []) (statement_fits depth (statement_of x.0)) x.1.now) (λ e. Fails AStmt depth ts.now e) }
@@ -29,10 +29,10 @@ pub fn new_variable<'a>(
 /// `self.NAME = e;`
 pub fn field<'a>(
     alloc: Global,
-    ts: &'a [Lexeme],
-    behind: &'a [Lexeme],
+    ts: Lexemes<'a>,
+    behind: Lexemes<'a>,
     depth: u32,
-) -> Result<(Stmt, &'a [Lexeme]), ReadError>
+) -> Result<(Stmt, Lexemes<'a>), ReadError>
     requires deep { depth ≤ 64 }
     requires begun { Begun AStmt (stmt_fixed Fixed.Own) depth ts.now behind.now }
     ensures { MatchResult result (λ x. Took AStmt [] depth ts.now (AStatement (statement_of x.0) ∷ []) (statement_fits depth (statement_of x.0)) x.1.now) (λ e. Fails AStmt depth ts.now e) }
@@ -47,10 +47,10 @@ pub fn field<'a>(
 /// `attr(a, NAME) = e;`
 pub fn attribute<'a>(
     alloc: Global,
-    ts: &'a [Lexeme],
-    behind: &'a [Lexeme],
+    ts: Lexemes<'a>,
+    behind: Lexemes<'a>,
     depth: u32,
-) -> Result<(Stmt, &'a [Lexeme]), ReadError>
+) -> Result<(Stmt, Lexemes<'a>), ReadError>
     requires deep { depth ≤ 64 }
     requires begun { Begun AStmt (stmt_fixed Fixed.Attr) depth ts.now behind.now }
     ensures { MatchResult result (λ x. Took AStmt [] depth ts.now (AStatement (statement_of x.0) ∷ []) (statement_fits depth (statement_of x.0)) x.1.now) (λ e. Fails AStmt depth ts.now e) }
@@ -70,11 +70,11 @@ pub fn attribute<'a>(
 /// `NAME = e;`
 pub fn variable<'a>(
     alloc: Global,
-    ts: &'a [Lexeme],
-    name: &Identifier,
-    behind: &'a [Lexeme],
+    ts: Lexemes<'a>,
+    name: &NameRef,
+    behind: Lexemes<'a>,
     depth: u32,
-) -> Result<(Stmt, &'a [Lexeme]), ReadError>
+) -> Result<(Stmt, Lexemes<'a>), ReadError>
     requires deep { depth ≤ 64 }
     requires begun { Begun AStmt (stmt_after (t.Name name.now)) depth ts.now behind.now }
     ensures { MatchResult result (λ x. Took AStmt [] depth ts.now (AStatement (statement_of x.0) ∷ []) (statement_fits depth (statement_of x.0)) x.1.now) (λ e. Fails AStmt depth ts.now e) }

@@ -8,16 +8,16 @@ ghost use Rattle.script_tree.specs.Tree.{statement_of, tree_of};
 ghost use Rattle.script_tree.specs.Words.{is_identifier};
 
 use script_expression::{ReadError, behind as behind_word, close, expression, name, open, want};
-use script_tree::{EntityStmt, Expr, Fixed, Identifier, Lexeme, Stmt};
+use script_tree::{EntityStmt, Expr, Fixed, Identifier, Lexemes, Stmt};
 use std::alloc::Global;
 
 /// `call CHILD.METHOD(e, ..) as NAME;`
 pub fn call<'a>(
     alloc: Global,
-    ts: &'a [Lexeme],
-    behind: &'a [Lexeme],
+    ts: Lexemes<'a>,
+    behind: Lexemes<'a>,
     depth: u32,
-) -> Result<(Stmt, &'a [Lexeme]), ReadError>
+) -> Result<(Stmt, Lexemes<'a>), ReadError>
     requires deep { depth ≤ 64 }
     requires begun { Begun AStmt (stmt_fixed Fixed.Call) depth ts.now behind.now }
     ensures { MatchResult result (λ x. Took AStmt [] depth ts.now (AStatement (statement_of x.0) ∷ []) (statement_fits depth (statement_of x.0)) x.1.now) (λ e. Fails AStmt depth ts.now e) }
@@ -36,7 +36,7 @@ pub fn call<'a>(
 }
 
 /// The arguments of a call, and the bracket behind them.
-fn arguments(alloc: Global, ts: &[Lexeme], depth: u32) -> Result<(Vec<Expr>, &[Lexeme]), ReadError>
+fn arguments(alloc: Global, ts: Lexemes, depth: u32) -> Result<(Vec<Expr>, Lexemes), ReadError>
     requires { depth < 64 }
     ensures { MatchResult result (λ x. TookAll (Arguments ∷ One Fixed.CloseRound ∷ []) [] (depth + 1) depth ts.now (with_arguments (map tree_of x.0.items)) (list_all (fits (depth + 1)) (map tree_of x.0.items)) x.1.now) (λ e. FailsAll (Arguments ∷ One Fixed.CloseRound ∷ []) (depth + 1) ts.now e) }
 {
@@ -49,11 +49,7 @@ fn arguments(alloc: Global, ts: &[Lexeme], depth: u32) -> Result<(Vec<Expr>, &[L
 }
 
 /// An argument and more of them, each behind a comma.
-fn argument_list(
-    alloc: Global,
-    ts: &[Lexeme],
-    depth: u32,
-) -> Result<(Vec<Expr>, &[Lexeme]), ReadError>
+fn argument_list(alloc: Global, ts: Lexemes, depth: u32) -> Result<(Vec<Expr>, Lexemes), ReadError>
     requires { depth ≤ 64 }
     ensures { MatchResult result (λ x. TookAll (Level 8 ∷ Make WithArgument ∷ NextArgument ∷ []) [] depth depth ts.now (with_arguments (map tree_of x.0.items)) (list_all (fits depth) (map tree_of x.0.items)) x.1.now) (λ e. FailsAll (Level 8 ∷ Make WithArgument ∷ NextArgument ∷ []) depth ts.now e) }
 {
@@ -71,9 +67,9 @@ fn argument_list(
 /// `as NAME`, where it comes.
 fn returned(
     alloc: Global,
-    ts: &[Lexeme],
+    ts: Lexemes,
     depth: u32,
-) -> Result<(Option<Identifier>, &[Lexeme]), ReadError>
+) -> Result<(Option<Identifier>, Lexemes), ReadError>
     requires { depth ≤ 64 }
     ensures { MatchResult result (λ x. TookAll (MoreResult ∷ []) [] depth depth ts.now (result_set x.0) (option_fits is_identifier x.0) x.1.now) (λ e. Fails MoreResult depth ts.now e) }
 {

@@ -6,17 +6,17 @@ ghost use Rattle.script_expression.specs.Takes.{Begun, Took, Fails};
 ghost use Rattle.script_tree.specs.Tree.{statement_of};
 
 use script_expression::{ReadError, before, name, want};
-use script_tree::{Fixed, Lexeme, Stmt, Verb};
+use script_tree::{Fixed, Lexemes, Stmt, Verb};
 use std::alloc::Global;
 
 /// `emit e;` and its kin
 pub fn verb<'a>(
     alloc: Global,
-    ts: &'a [Lexeme],
+    ts: Lexemes<'a>,
     verb: Verb,
-    behind: &'a [Lexeme],
+    behind: Lexemes<'a>,
     depth: u32,
-) -> Result<(Stmt, &'a [Lexeme]), ReadError>
+) -> Result<(Stmt, Lexemes<'a>), ReadError>
     requires deep { depth ≤ 64 }
     requires begun { Begun AStmt (stmt_symbol (s.Verb verb)) depth ts.now behind.now }
     ensures { MatchResult result (λ x. Took AStmt [] depth ts.now (AStatement (statement_of x.0) ∷ []) (statement_fits depth (statement_of x.0)) x.1.now) (λ e. Fails AStmt depth ts.now e) }
@@ -28,10 +28,10 @@ pub fn verb<'a>(
 /// `usage NAME e;`
 pub fn usage<'a>(
     alloc: Global,
-    ts: &'a [Lexeme],
-    behind: &'a [Lexeme],
+    ts: Lexemes<'a>,
+    behind: Lexemes<'a>,
     depth: u32,
-) -> Result<(Stmt, &'a [Lexeme]), ReadError>
+) -> Result<(Stmt, Lexemes<'a>), ReadError>
     requires deep { depth ≤ 64 }
     requires begun { Begun AStmt (stmt_fixed Fixed.Usage) depth ts.now behind.now }
     ensures { MatchResult result (λ x. Took AStmt [] depth ts.now (AStatement (statement_of x.0) ∷ []) (statement_fits depth (statement_of x.0)) x.1.now) (λ e. Fails AStmt depth ts.now e) }
@@ -43,10 +43,10 @@ pub fn usage<'a>(
 
 /// `rollback;`
 pub fn rollback<'a>(
-    ts: &'a [Lexeme],
-    behind: &'a [Lexeme],
+    ts: Lexemes<'a>,
+    behind: Lexemes<'a>,
     depth: u32,
-) -> Result<(Stmt, &'a [Lexeme]), ReadError>
+) -> Result<(Stmt, Lexemes<'a>), ReadError>
     requires deep { depth ≤ 64 }
     requires begun { Begun AStmt (stmt_fixed Fixed.Rollback) depth ts.now behind.now }
     ensures { MatchResult result (λ x. Took AStmt [] depth ts.now (AStatement (statement_of x.0) ∷ []) (statement_fits depth (statement_of x.0)) x.1.now) (λ e. Fails AStmt depth ts.now e) }

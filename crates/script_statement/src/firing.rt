@@ -11,16 +11,16 @@ ghost use Rattle.script_tree.specs.Words.{is_literal};
 use script_expression::{
     ReadError, behind as behind_word, close, expression, name, text, too_deep, want,
 };
-use script_tree::{ActivityStmt, FieldValue, Fixed, Lexeme, Literal, Stmt};
+use script_tree::{ActivityStmt, FieldValue, Fixed, Lexemes, Literal, Stmt};
 use std::alloc::Global;
 
 /// `fire TEXT on a for TEXT { NAME: e, .. };`
 pub fn fire<'a>(
     alloc: Global,
-    ts: &'a [Lexeme],
-    behind: &'a [Lexeme],
+    ts: Lexemes<'a>,
+    behind: Lexemes<'a>,
     depth: u32,
-) -> Result<(Stmt, &'a [Lexeme]), ReadError>
+) -> Result<(Stmt, Lexemes<'a>), ReadError>
     requires deep { depth ≤ 64 }
     requires begun { Begun AStmt (stmt_fixed Fixed.Fire) depth ts.now behind.now }
     ensures { MatchResult result (λ x. Took AStmt [] depth ts.now (AStatement (statement_of x.0) ∷ []) (statement_fits depth (statement_of x.0)) x.1.now) (λ e. Fails AStmt depth ts.now e) }
@@ -38,11 +38,7 @@ pub fn fire<'a>(
 }
 
 /// `for TEXT`, where it comes.
-fn service(
-    alloc: Global,
-    ts: &[Lexeme],
-    depth: u32,
-) -> Result<(Option<Literal>, &[Lexeme]), ReadError>
+fn service(alloc: Global, ts: Lexemes, depth: u32) -> Result<(Option<Literal>, Lexemes), ReadError>
     requires { depth ≤ 64 }
     ensures { MatchResult result (λ x. TookAll (MoreService ∷ []) [] depth depth ts.now (with_service x.0) (option_fits is_literal x.0) x.1.now) (λ e. Fails MoreService depth ts.now e) }
 {
@@ -54,11 +50,7 @@ fn service(
 }
 
 /// `{ NAME: e, .. }`, where it comes.
-fn fields(
-    alloc: Global,
-    ts: &[Lexeme],
-    depth: u32,
-) -> Result<(Vec<FieldValue>, &[Lexeme]), ReadError>
+fn fields(alloc: Global, ts: Lexemes, depth: u32) -> Result<(Vec<FieldValue>, Lexemes), ReadError>
     requires { depth ≤ 64 }
     ensures { MatchResult result (λ x. TookAll (MoreFields ∷ []) [] depth depth ts.now (with_fields (map field_of x.0.items)) (list_all (field_fits (depth + 1)) (map field_of x.0.items)) x.1.now) (λ e. Fails MoreFields depth ts.now e) }
 {
@@ -76,9 +68,9 @@ fn fields(
 /// A field and more of them, each behind a comma.
 fn field_list(
     alloc: Global,
-    ts: &[Lexeme],
+    ts: Lexemes,
     depth: u32,
-) -> Result<(Vec<FieldValue>, &[Lexeme]), ReadError>
+) -> Result<(Vec<FieldValue>, Lexemes), ReadError>
     requires { depth ≤ 64 }
     ensures { MatchResult result (λ x. TookAll (g.Name ∷ One Fixed.Colon ∷ Level 8 ∷ Make WithField ∷ NextField ∷ []) [] depth depth ts.now (with_fields (map field_of x.0.items)) (list_all (field_fits depth) (map field_of x.0.items)) x.1.now) (λ e. FailsAll (g.Name ∷ One Fixed.Colon ∷ Level 8 ∷ Make WithField ∷ NextField ∷ []) depth ts.now e) }
 {
@@ -94,7 +86,7 @@ fn field_list(
 }
 
 /// `NAME: e`
-fn field(alloc: Global, ts: &[Lexeme], depth: u32) -> Result<(FieldValue, &[Lexeme]), ReadError>
+fn field(alloc: Global, ts: Lexemes, depth: u32) -> Result<(FieldValue, Lexemes), ReadError>
     requires { depth ≤ 64 }
     ensures { MatchResult result (λ x. TookField depth ts.now (field_of x.0) (field_fits depth (field_of x.0)) x.1.now) (λ e. FailsAll (g.Name ∷ One Fixed.Colon ∷ Level 8 ∷ Make WithField ∷ []) depth ts.now e) }
 {

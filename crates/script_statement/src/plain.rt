@@ -9,16 +9,12 @@ ghost use Rattle.script_tree.specs.Tree.{statement_of};
 
 use crate::{activities, assignments, calls, doings, entities, firing, timers};
 use script_expression::{ReadError, unexpected};
-use script_tree::{Fixed, Lexeme, Stmt, Symbol};
+use script_tree::{Fixed, Lexeme, Lexemes, Stmt, Symbol};
 use std::alloc::Global;
 
 /// A statement without a block, and what follows it.
 #[tactic(auto, unfolding(script_tree::specs::Grammar::verdict))]
-pub fn plain_statement(
-    alloc: Global,
-    ts: &[Lexeme],
-    depth: u32,
-) -> Result<(Stmt, &[Lexeme]), ReadError>
+pub fn plain_statement(alloc: Global, ts: Lexemes, depth: u32) -> Result<(Stmt, Lexemes), ReadError>
     requires deep { depth ≤ 64 }
     requires plain { starts_block ts.now ≡ false }
     ensures { MatchResult result (λ x. Took AStmt [] depth ts.now (AStatement (statement_of x.0) ∷ []) (statement_fits depth (statement_of x.0)) x.1.now) (λ e. Fails AStmt depth ts.now e) }
@@ -37,11 +33,11 @@ pub fn plain_statement(
 /// A statement that begins with a word.
 fn worded<'a>(
     alloc: Global,
-    ts: &'a [Lexeme],
+    ts: Lexemes<'a>,
     word: Fixed,
-    behind: &'a [Lexeme],
+    behind: Lexemes<'a>,
     depth: u32,
-) -> Result<(Stmt, &'a [Lexeme]), ReadError>
+) -> Result<(Stmt, Lexemes<'a>), ReadError>
     requires deep { depth ≤ 64 }
     requires first { ts.now ≡ t.Symbol (s.Fixed word) ∷ behind.now }
     requires plain { has_block word ≡ false }

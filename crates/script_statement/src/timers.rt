@@ -10,17 +10,17 @@ ghost use Rattle.script_tree.specs.Tree.{statement_of, repeat_of, tree_of};
 use script_expression::{
     ReadError, behind as behind_word, boxed, boxed_before, name, unexpected, want,
 };
-use script_tree::{Constant, Expr, Fixed, Lexeme, Repeat, Stmt, Symbol, TimerStmt};
+use script_tree::{Constant, Expr, Fixed, Lexeme, Lexemes, Repeat, Stmt, Symbol, TimerStmt};
 use slee_value::{Keep, NoMemory};
 use std::alloc::Global;
 
 /// `timer NAME on a at e every e times e keep ..;`
 pub fn timer<'a>(
     alloc: Global,
-    ts: &'a [Lexeme],
-    behind: &'a [Lexeme],
+    ts: Lexemes<'a>,
+    behind: Lexemes<'a>,
     depth: u32,
-) -> Result<(Stmt, &'a [Lexeme]), ReadError>
+) -> Result<(Stmt, Lexemes<'a>), ReadError>
     requires deep { depth ≤ 64 }
     requires begun { Begun AStmt (stmt_fixed Fixed.Timer) depth ts.now behind.now }
     ensures { MatchResult result (λ x. Took AStmt [] depth ts.now (AStatement (statement_of x.0) ∷ []) (statement_fits depth (statement_of x.0)) x.1.now) (λ e. Fails AStmt depth ts.now e) }
@@ -32,24 +32,22 @@ pub fn timer<'a>(
     let (repeat, rest) = repeat(alloc, rest, depth)?;
     let (keep, rest) = keep(rest, depth)?;
     let rest = want(rest, Fixed::Semicolon, depth)?;
-    Ok((
-        Stmt::Timer(TimerStmt {
-            name,
-            activity: Box::into_inner(activity),
-            start: Box::into_inner(start),
-            repeat: unboxed(repeat),
-            keep,
-        }),
-        rest,
-    ))
+    let timer = TimerStmt {
+        name,
+        activity: Box::into_inner(activity),
+        start: Box::into_inner(start),
+        repeat: unboxed(repeat),
+        keep,
+    };
+    Ok((Stmt::Timer(Box::new(alloc, timer)?), rest))
 }
 
 /// `every e times e`, where it comes.
 fn repeat(
     alloc: Global,
-    ts: &[Lexeme],
+    ts: Lexemes,
     depth: u32,
-) -> Result<(Option<Box<Repeat>>, &[Lexeme]), ReadError>
+) -> Result<(Option<Box<Repeat>>, Lexemes), ReadError>
     requires { depth ≤ 64 }
     ensures { MatchResult result (λ x. TookAll (MoreRepeat ∷ []) [] depth depth ts.now (repeat_set (repeat_in x.0)) (option_fits (repeat_fits depth) (repeat_in x.0)) x.1.now) (λ e. Fails MoreRepeat depth ts.now e) }
 {
@@ -82,7 +80,7 @@ fn unboxed(repeat: Option<Box<Repeat>>) -> Option<Repeat>
 }
 
 /// `keep` and its word, where it comes.
-fn keep(ts: &[Lexeme], depth: u32) -> Result<(Option<Keep>, &[Lexeme]), ReadError>
+fn keep(ts: Lexemes, depth: u32) -> Result<(Option<Keep>, Lexemes), ReadError>
     requires { depth ≤ 64 }
     ensures { MatchResult result (λ x. TookAll (MoreKeep ∷ []) [] depth depth ts.now (keep_set x.0) true x.1.now) (λ e. Fails MoreKeep depth ts.now e) }
 {
@@ -94,7 +92,7 @@ fn keep(ts: &[Lexeme], depth: u32) -> Result<(Option<Keep>, &[Lexeme]), ReadErro
 }
 
 /// `all`, `last` or `none`.
-fn keep_word(ts: &[Lexeme], depth: u32) -> Result<(Keep, &[Lexeme]), ReadError>
+fn keep_word(ts: Lexemes, depth: u32) -> Result<(Keep, Lexemes), ReadError>
     requires { depth ≤ 64 }
     ensures { MatchResult result (λ x. TookAll (KeepWord ∷ []) [] depth depth ts.now (keep_set (Some x.0)) true x.1.now) (λ e. Fails KeepWord depth ts.now e) }
 {
@@ -105,7 +103,7 @@ fn keep_word(ts: &[Lexeme], depth: u32) -> Result<(Keep, &[Lexeme]), ReadError>
 }
 
 /// The word behind `keep`, and what follows it.
-fn keep_in(ts: &[Lexeme]) -> Option<(Keep, &[Lexeme])>
+fn keep_in(ts: Lexemes) -> Option<(Keep, Lexemes)>
     ensures { MatchOption result (keep_in ts.now ≡ None) (λ x. (keep_in ts.now ≡ Some x.0) × ((first : ALexeme) × (ts.now ≡ first ∷ x.1.now))) }
 {
     let [first, rest @ ..] = ts else {

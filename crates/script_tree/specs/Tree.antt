@@ -90,7 +90,7 @@ abbrev mutual
   tree_of (e.Leaf l) = Leaf l
   tree_of (e.Unary' op _ x) = Unary op (tree_of x)
   tree_of (e.Chain' _ x _ more) = joined_row (tree_of x) more
-  tree_of (e.Ask' query _ x) = Ask query (tree_of x)
+  tree_of (e.Ask' query _ x) = Ask query.value (tree_of x)
 
   -- operands that are joined from left to right
   pub joined_row : {n : _} → Expression → Row_of-Expr-Chain-1-2 n → Expression
@@ -142,7 +142,7 @@ abbrev mutual
   statement_of (s.Assign x) = Assign (assigning_of x)
   statement_of (s.Entity x) = Entity (on_entities_of x)
   statement_of (s.Activity x) = Activity (on_activities_of x)
-  statement_of (s.Timer x) = Timer (setting_of x)
+  statement_of (s.Timer x) = Timer (setting_of x.value)
   statement_of (s.Do verb x) = Do verb (tree_of x)
   statement_of (s.Usage name x) = Usage name (tree_of x)
   statement_of s.Rollback = Rollback

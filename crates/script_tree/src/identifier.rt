@@ -1,14 +1,19 @@
 ghost use Rattle.std.specs.Prelude.{◌≡◌, IsTrue, IfOk};
 ghost use Rattle.script_tree.specs.Words.{is_identifier};
 
-use slee_value::{Name, NoMemory};
+use crate::NameRef;
+use slee_value::NoMemory;
+use smallvec::SmallVec;
 use std::alloc::Global;
 use std::marker::Model;
 
+/// How many bytes of a name are kept in the tree itself; a longer name is kept apart.
+pub const SHORT_NAME: usize = 16;
+
 /// A name that a script can write: one that is no word of the language and no function's.
-#[derive(Debug, Drop)]
+#[derive(Drop)]
 pub struct Identifier {
-    name: Name,
+    bytes: SmallVec<u8, SHORT_NAME>,
 }
 
 impl Model for Identifier {
@@ -17,32 +22,41 @@ impl Model for Identifier {
 
     ghost Value = { List ℕ };
 
-    ghost view = { λ i. i.name };
+    ghost view = { λ i. i.bytes.items };
 
-    ghost invariant = { λ i. IsTrue (is_identifier i.name) };
+    ghost invariant = { λ i. IsTrue (is_identifier i.bytes.items) };
 }
 
 impl Identifier {
-    pub fn new(name: Name) -> Self
-        requires { IsTrue (is_identifier name) }
-        ensures { result ≡ name }
+    /// The name with these bytes.
+    pub fn from_slice(alloc: Global, bytes: &[u8]) -> Result<Self, NoMemory>
+        requires { IsTrue (is_identifier bytes.now) }
+        ensures { IfOk result (λ i. i ≡ bytes.now) }
     {
-        Identifier { name }
+        Ok(Identifier {
+            bytes: SmallVec::from_slice(alloc, bytes)?,
+        })
     }
 
-    pub fn name(&self) -> &Name
+    pub fn as_bytes(&self) -> &[u8]
         ensures same { result.now ≡ self.now }
         ensures identifier { IsTrue (is_identifier self.now) }
     {
-        &self.name
+        self.bytes.as_slice()
+    }
+
+    /// The name where it stands.
+    pub fn as_ref(&self) -> NameRef
+        ensures same { result ≡ self.now }
+        ensures identifier { IsTrue (is_identifier self.now) }
+    {
+        NameRef::new(self.as_bytes())
     }
 
     pub fn copy(&self, alloc: Global) -> Result<Self, NoMemory>
         ensures same { IfOk result (λ i. i ≡ self.now) }
         ensures identifier { IsTrue (is_identifier self.now) }
     {
-        Ok(Identifier {
-            name: self.name.copy(alloc)?,
-        })
+        Identifier::from_slice(alloc, self.as_bytes())
     }
 }

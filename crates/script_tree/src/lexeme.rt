@@ -1,20 +1,23 @@
-use crate::{Identifier, Literal, Number, Symbol};
+use crate::{Literal, NameRef, Number, Symbol};
 use slee_value::Text;
 
 /// What a token says, or that none begins at a place.
 #[derive(Drop)]
-pub enum Lexeme {
+pub enum Lexeme<'a> {
     Int(Number),
-    Name(Identifier),
+    Name(NameRef<'a>),
     Text(Literal),
     Symbol(Symbol),
     Bad,
 }
 
+/// Tokens, one behind another.
+pub type Lexemes<'a> = &'a [Lexeme<'a>];
+
 /// A token that was cut off the front of a text: what it says, and how many bytes it has.
 #[derive(Drop)]
-pub struct Cut {
-    pub lexeme: Lexeme,
+pub struct Cut<'a> {
+    pub lexeme: Lexeme<'a>,
     pub size: usize,
 }
 

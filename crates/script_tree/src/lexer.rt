@@ -8,29 +8,45 @@ use crate::lexeme::{Cut, Lexeme};
 use crate::quote::quoted;
 use crate::reserve::reserved;
 use crate::sign::sign;
-use crate::{Identifier, NUMBER_LIMIT, Number, Symbol, Token, TokenKind};
-use slee_value::{NAME_LIMIT, Name, NoMemory};
+use crate::{NUMBER_LIMIT, NameRef, Number, Symbol, Token, TokenKind};
+use slee_value::{NAME_LIMIT, NoMemory};
 use std::alloc::Global;
+
+/// What each token of a text says, up to the first place where none begins; a bad one is the last.
+pub fn lexemes(alloc: Global, text: &str) -> Result<Vec<Lexeme>, NoMemory>
+    ensures { IfOk result (λ x. x.items ≡ lexemes_of text.now) }
+{
+    let bytes = text.as_bytes();
+    let mut lexemes = Vec::with_capacity(alloc, bytes.len() / 3)?;
+    let mut at = gap_len(bytes);
+    'tokens: while at < bytes.len() {
+        let Cut { lexeme, size } = token_at(alloc, text, at)?;
+        let bad = is_bad(&lexeme);
+        let end = at + size;
+        lexemes.push(lexeme)?;
+        if bad {
+            return Ok(lexemes);
+        }
+        at = end + gap_len(&bytes[end..]);
+    }
+    Ok(lexemes)
+}
 
 /// The tokens of a text, up to the first place where none begins.
 #[derive(Drop)]
 pub struct Lexed {
-    /// What each token says; a bad one is the last.
-    pub lexemes: Vec<Lexeme>,
-    /// The kind and place of each.
+    /// The kind and place of each; a bad one is the last.
     pub tokens: Vec<Token>,
     /// Where a bad token begins.
     pub bad: Option<usize>,
 }
 
-/// The tokens of a text.
+/// The kinds and places of a text's tokens.
 pub fn lex(alloc: Global, text: &str) -> Result<Lexed, NoMemory>
-    ensures lexemes { IfOk result (λ x. x.lexemes.items ≡ lexemes_of text.now) }
     ensures tokens { IfOk result (λ x. x.tokens.items ≡ map token_of (spots_of text.now)) }
     ensures answer { IfOk result (λ x. tokens_of text.now ≡ token_answer text.now x.bad x.tokens.items) }
 {
     let bytes = text.as_bytes();
-    let mut lexemes = Vec::with_capacity(alloc, bytes.len() / 3)?;
     let mut tokens = Vec::with_capacity(alloc, bytes.len() / 3)?;
     let mut at = gap_len(bytes);
     'tokens: while at < bytes.len() {
@@ -42,21 +58,15 @@ pub fn lex(alloc: Global, text: &str) -> Result<Lexed, NoMemory>
             start: at,
             end,
         })?;
-        lexemes.push(lexeme)?;
         if bad {
             return Ok(Lexed {
-                lexemes,
                 tokens,
                 bad: Some(at),
             });
         }
         at = end + gap_len(&bytes[end..]);
     }
-    Ok(Lexed {
-        lexemes,
-        tokens,
-        bad: None,
-    })
+    Ok(Lexed { tokens, bad: None })
 }
 
 /// How many bytes of blanks and comments come first.
@@ -104,7 +114,7 @@ fn token_at(alloc: Global, text: &str, at: usize) -> Result<Cut, NoMemory>
         });
     };
     if first.is_ascii_lowercase() {
-        return word(alloc, &here[..name_len(here)]);
+        return Ok(word(&here[..name_len(here)]));
     }
     if first.is_ascii_digit() {
         return Ok(number(&here[..digits_len(here)]));
@@ -136,29 +146,28 @@ fn digits_len(bytes: &[u8]) -> usize
 }
 
 /// A word of the language, else a name, if it isn't too long.
-fn word(alloc: Global, run: &[u8]) -> Result<Cut, NoMemory>
+fn word(run: &[u8]) -> Cut
     requires first { IsTrue (is_letter (slice_index run.now 0)) }
     requires all { IsTrue (list_all is_byte_of_name run.now) }
-    ensures { IfOk result (λ x. x ≡ word_cut run.now) }
+    ensures { result ≡ word_cut run.now }
 {
     let size = run.len();
     if let Some(symbol) = reserved(run) {
-        return Ok(Cut {
+        return Cut {
             lexeme: Lexeme::Symbol(symbol),
             size,
-        });
+        };
     }
     if size > NAME_LIMIT {
-        return Ok(Cut {
+        return Cut {
             lexeme: Lexeme::Bad,
             size,
-        });
+        };
     }
-    let name = Identifier::new(Name::from_slice(alloc, run)?);
-    Ok(Cut {
-        lexeme: Lexeme::Name(name),
+    Cut {
+        lexeme: Lexeme::Name(NameRef::new(run)),
         size,
-    })
+    }
 }
 
 /// The number that digits write, without zeros in front.

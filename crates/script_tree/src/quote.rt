@@ -25,7 +25,7 @@ pub fn quoted(alloc: Global, behind: &str) -> Result<Cut, NoMemory>
     })
 }
 
-fn no_text() -> Cut
+fn no_text() -> Cut<'static>
     ensures { result ≡ record { lexeme = Lexeme.Bad; size = 1 } }
 {
     Cut {

@@ -1,3 +1,6 @@
+ghost use Rattle.std.specs.Prelude.{◌≡◌, ◌≤◌};
+ghost use Rattle.script_tree.specs.Spelling.{prefix_level};
+
 use crate::{Constant, Function, Identifier, Literal, Number, Operator, Verb};
 use slee_value::Keep;
 
@@ -9,7 +12,7 @@ pub enum Expr {
     /// An operand, and others behind it with the operators that join them from left to right. They stand side by side and
     /// not in one another, so that a long row of them is no deep tree.
     Chain(Box<Expr>, Vec<(Operator, Expr)>),
-    Ask(Query, Box<Expr>),
+    Ask(Box<Query>, Box<Expr>),
 }
 
 /// An expression without parts.
@@ -36,6 +39,20 @@ pub enum Leaf {
 pub enum Prefix {
     Negative,
     Not,
+}
+
+impl Prefix {
+    /// The level of an expression behind it.
+    pub fn level(self) -> u8
+        ensures level { result ≡ prefix_level self }
+        ensures some { 1 ≤ result }
+        ensures most { result ≤ 6 }
+    {
+        match self {
+            Prefix::Negative => 1,
+            Prefix::Not => 6,
+        }
+    }
 }
 
 /// A function of an expression, with the names that stand beside it.
@@ -72,7 +89,7 @@ pub enum Stmt {
     Assign(Assignment),
     Entity(EntityStmt),
     Activity(ActivityStmt),
-    Timer(TimerStmt),
+    Timer(Box<TimerStmt>),
     /// `emit e;` and its kin
     Do(Verb, Expr),
     /// `usage NAME e;`

@@ -9,7 +9,7 @@ returns-in-Some t c =
     let whole = chain_leveled _ _ _ c.in-Chain.is in
     let item = rw c.deref.ensures.value at c.in-Some.ensures.item in
     let last = chain_last (level (tree_of c.in-Chain.first.value)) c.in-Chain.more.items _ item.3.0 item.1 in
-    c.level.ensures ∙ sym (whole ∙ last)
+    c.level-in-Some.ensures ∙ sym (whole ∙ last)
 
 pub returns-in-None : goal.returns-in-None
 returns-in-None t c =

@@ -10,7 +10,7 @@ use Rattle.script_tree.specs.declared.tree.Stmt.{Stmt, Do, Rollback}
 use Rattle.script_tree.specs.Tree as tree
 use Rattle.script_tree.specs.Tree.{Expression, tree_of, joined, statements_of}
 use Rattle.script_tree.specs.Spelling.{is_script}
-use Rattle.script_print.proofs.Chains.{chain_tree}
+use Rattle.script_tree.proofs.Rows.{chain_tree}
 use Rattle.script_print.proofs.tests.a_script_is_added_behind_what_stands_there.Goals as goal
 
 abbrev emitted : Expression → tree.Statements

@@ -42,7 +42,7 @@ returns-in_err-rest-2 c =
     rw (p.1, p.2) (fails_at _ _ _ _ _ _ _ _ (λ ps i. c.requires.begun.goes_on ps i ∙ c.in_ok-name.ensures.goes_on _ _ ∙ c.in_ok-rest.ensures.goes_on _ _ ∙ c.in_ok-activity.ensures.goes_on _ _ ∙ c.in_ok-start.ensures.goes_on _ _ ∙ made _ _ _ _ _ ∙ c.in_ok-repeat.ensures.goes_on _ _ ∙ c.in_ok-keep.ensures.goes_on _ _) _ c.in_err-rest-2.ensures)
 
 pub returns : goal.returns
-returns c = rw (c.into_inner.ensures, c.into_inner-2.ensures, c.unboxed.ensures) (record {
+returns c = rw (c.in_ok-new.ensures.ok, c.into_inner.ensures, c.into_inner-2.ensures, c.unboxed.ensures) (record {
   shorter = omega (arith, c.requires.begun.shorter, c.in_ok-name.ensures.shorter, c.in_ok-rest.ensures.shorter, c.in_ok-activity.ensures.shorter, c.in_ok-start.ensures.shorter, c.in_ok-repeat.ensures.shorter, c.in_ok-keep.ensures.shorter, c.in_ok-rest-2.ensures.shorter);
   good_one = rw (c.in_ok-name.ensures.good_one, c.in_ok-activity.ensures.good_one, c.in_ok-start.ensures.good_one, c.in_ok-repeat.ensures.good_one, c.in_ok-keep.ensures.good_one) refl;
   goes_on = λ ps i. c.requires.begun.goes_on ps i ∙ c.in_ok-name.ensures.goes_on _ _ ∙ c.in_ok-rest.ensures.goes_on _ _ ∙ c.in_ok-activity.ensures.goes_on _ _ ∙ c.in_ok-start.ensures.goes_on _ _ ∙ made _ _ _ _ _ ∙ c.in_ok-repeat.ensures.goes_on _ _ ∙ c.in_ok-keep.ensures.goes_on _ _ ∙ c.in_ok-rest-2.ensures.goes_on _ _ ∙ ap (λ l. verdict ps l c.args.depth c.in_ok-rest-2.rest.now) (timer_with_all _ _ _ _ _ i);

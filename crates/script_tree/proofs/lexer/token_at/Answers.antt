@@ -15,7 +15,7 @@ returns-then-is_ascii_lowercase c =
     let here = part c.as_bytes.result.now c.args.at in
     let letter : is_letter (get_or here 0 0) ≡ true = grind (arith, common_steps) in
     let same = word_here here c.name_len.result c.in-len1-up.len_at_least letter c.name_len.ensures.value ∙ ap cut (part_is c.as_bytes.result.now c.args.text.now c.args.at c.as_bytes.ensures.value) in
-    record { cut = IfOk-weaker c.word.result (λ x. x ≡ word_cut (take c.name_len.result here)) (λ x. x ≡ cut (drop c.args.at c.args.text.now)) (λ x e. e ∙ same) c.word.ensures }
+    record { cut = c.word.ensures ∙ same }
 
 pub split_at-requires : goal.split_at-requires
 split_at-requires c = quote_boundary c.as_bytes.result.now c.args.text.now c.args.at c.as_bytes.ensures.value c.utf8.text c.in-len1-up.len_at_least c.if-first-eq34.true

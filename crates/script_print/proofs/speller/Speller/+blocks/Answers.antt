@@ -5,7 +5,7 @@ use Rattle.script_print.proofs.speller.Speller.+blocks.Goals as goal
 pub statement-returns-in_ok-test-in-If : goal.statement-returns-in_ok-test-in-If
 statement-returns-in_ok-test-in-If t c =
     let spelled = if_spelled _ _ _ _ _ c.in-If.is c.in_ok-test-in-If.ensures in
-    subst (λ ts. OnOk c.block.result (c.block.new.self.tokens.items ≡ ts)) spelled (rw c.deref.ensures.value at c.block.ensures)
+    subst (λ ts. OnOk c.block.result (c.block.new.self.tokens.items ≡ ts)) spelled (rw c.deref-in-If.ensures.value at c.block.ensures)
 
 pub statement-returns-in_ok-fixed-in-IfElse : goal.statement-returns-in_ok-fixed-in-IfElse
 statement-returns-in_ok-fixed-in-IfElse t c =
