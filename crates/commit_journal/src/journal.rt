@@ -166,6 +166,8 @@ impl<D: Disk> Journal<D> {
 
         ensures refused { IfErr result (λ fault. IsTooLarge (size_begun self.old.stage self.old.kept.head) self.old.limit fault) }
         ensures fits { OnOk result (size_begun self.old.stage self.old.kept.head ≤ self.old.limit) }
+        // To cut a side takes no memory.
+        ensures memory { IsErrOf result BeginFault.NoMemory → self.old.stage ≡ stages.Blank }
         ensures left { IfErr result (λ fault. IsLeft self.old self.new fault) }
         ensures cause { IsErrOf result BeginFault.DiskFault → Rose (D.disk self.old.disk).faults (D.disk self.new.disk).faults }
         ensures told { (D.disk self.new.disk).told ≡ (D.disk self.old.disk).told }

@@ -1,6 +1,6 @@
 //! Steps of the router that are kept in a journal, and what they leave on the disk.
 ghost use Rattle.slee_container.specs.Opening.{fault_of, begin_fault_of};
-ghost use Rattle.std.specs.Prelude.{◌≡◌, ◌≤◌, ◌<◌, ◌+◌, [], true, false, length, IsTrue, Some, None, Ok, IfOk, IfErr, OnOk, OnErr, IsErrOf};
+ghost use Rattle.std.specs.Prelude.{◌≡◌, ◌≤◌, ◌<◌, ◌+◌, [], true, false, length, IsTrue, Some, None, Ok, Err, IfOk, IfErr, OnOk, OnErr, IsErrOf};
 
 use crate::replaying::replay;
 use crate::{OpenFault, StepFault, Stop};
@@ -52,7 +52,7 @@ impl<'d, D: Disk> Core<'d, D> {
     ghost use Rattle.slee_disk.specs.Causes.{Rose};
     ghost use Rattle.slee_disk.specs.Sides.{Sides};
     ghost use Rattle.slee_disk.specs.Disk.{LeavesOnly, is_clean};
-    ghost use Rattle.commit_journal.specs.Reading.{recovered};
+    ghost use Rattle.commit_journal.specs.Reading.{Wrong, recovered};
     ghost use Rattle.commit_journal.specs.Journal.{payloads_on};
     ghost use Rattle.commit_journal.specs.Spelling.{records_size};
     ghost use Rattle.router_model.specs.State.{Parts};
@@ -89,6 +89,10 @@ impl<'d, D: Disk> Core<'d, D> {
             → IfOk result (λ c. LeavesOnly (D.disk disk) (D.disk c.disk) (StandsFor deployment.now s (D.disk disk).seen)) }
         ensures any_moment_err { IsTrue (is_clean (D.disk disk)) → (s : Parts) → restart deployment.now (D.disk disk).seen ≡ Ok s
             → IfErr result (λ e. LeavesOnly (D.disk disk) (D.disk e.1) (StandsFor deployment.now s (D.disk disk).seen)) }
+
+        // Bytes that can't be restarted are all that a crash at any moment leaves.
+        ensures left_alone { IsTrue (is_clean (D.disk disk)) → (w : Wrong) → restart deployment.now (D.disk disk).seen ≡ Err w
+            → IfErr result (λ e. LeavesOnly (D.disk disk) (D.disk e.1) (λ image. image ≡ (D.disk disk).seen)) }
     {
         let opened = Snapshot::of(&disk);
         let mut journal = match Journal::open(alloc, disk, deployment, limit) {

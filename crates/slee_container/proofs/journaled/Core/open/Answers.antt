@@ -1,7 +1,7 @@
 use Rattle.std.proofs.Common.{◌≡◌, ap, sym, ◌∙◌, subst, map, Ok}
 use Rattle.router_model.specs.State.{Parts}
 use Rattle.commit_journal.specs.Views.{payload_of}
-use Rattle.slee_container.proofs.Opens.{Opened, Begins, IsBegun, plain_of, opened_sound, same_origin, with_fields, state_by, records_by, counting_by, state_leaves}
+use Rattle.slee_container.proofs.Opens.{Opened, Begins, IsBegun, plain_of, opened_sound, same_origin, with_fields, state_by, records_by, counting_by, state_leaves, no_fault}
 use Rattle.slee_container.specs.Facts.{told_on}
 use Rattle.slee_container.specs.Opening.{StandsFor}
 use Rattle.slee_disk.specs.Disk.{LeavesOnly}
@@ -60,3 +60,11 @@ returns-in-Err-begin-clause-any_moment_err g c =
     λ clean s is.
     subst (λ (d : g.row.D.Denot). LeavesOnly (g.D.Disk.disk c.args.disk) (g.D.Disk.disk d) (StandsFor c.args.deployment.now s (g.D.Disk.disk c.args.disk).seen)) (sym c.into_disk-in-Err-begin.ensures)
     (state_leaves g.D.Disk.disk (g.D.Disk.disk c.args.disk) c.args.deployment.now j o both.0 both.1 c.begin.new.self begins clean s is)
+
+pub returns-in-Err-begin-clause-left_alone : goal.returns-in-Err-begin-clause-left_alone
+returns-in-Err-begin-clause-left_alone g c =
+    let j = c.in-Ok.found in
+    let ok = c.in-Ok.ensures in
+    let o : Opened g.D.Disk.disk (g.D.Disk.disk c.args.disk) c.args.deployment.now j = record { opened = ok.opened; records = ok.records; named = ok.named; seen = ok.seen; looks = ok.looks; leaves = ok.any_moment; rest = ok.rest; idle = ok.empty } in
+    let both = plain_of j.kept.head.snapshot j.records c.in-Ok-replay.ensures.fits in
+    λ clean w is. absurd (no_fault g.D.Disk.disk (g.D.Disk.disk c.args.disk) c.args.deployment.now j o both.0 both.1 clean w is)
