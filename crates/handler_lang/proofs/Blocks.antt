@@ -1,6 +1,5 @@
 -- Statements in a block, and what a statement with a block is as a value.
 use Rattle.std.proofs.Common.{Some, None, ◌≡◌, ◌<◌, ◌+◌, ℕ, List, [], ◌∷◌, ◌++◌, length, Vec, Global, true, false, refl, sym, ap, ◌∙◌, arith}
-use mathlib.Core.Former.{Count}
 use Rattle.script_tree.specs.declared.symbol.Fixed.TheVariants as x
 use Rattle.script_tree.specs.declared.symbol.Symbol.TheVariants as s
 use Rattle.script_tree.specs.declared.lexeme.Lexeme.{Lexeme}
@@ -8,7 +7,7 @@ use Rattle.script_tree.specs.declared.lexeme.Lexeme.TheVariants as t
 use Rattle.script_expression.specs.declared.refusal.ReadError.TheVariants as errors
 use Rattle.script_tree.specs.declared.tree.Over.{Over}
 use Rattle.script_tree.specs.declared.tree.Expr.{Expr}
-use Rattle.script_tree.specs.declared.tree.Stmt.{Stmt, If, If', IfElse, IfElse', While, While', For, For', Row_of-Stmt, end_of-Stmt, more_of-Stmt, items-the_row-Stmt, items_hidden-the_row-Stmt-0}
+use Rattle.script_tree.specs.declared.tree.Stmt.{Stmt, If, IfElse, While, For}
 use Rattle.script_tree.specs.Tree as tree
 use Rattle.script_tree.specs.Tree.{Bytes, Statement, Statements, Nothing, Then, add, tree_of, statement_of, statements_of, row_of}
 use Rattle.script_tree.specs.Spelling.{fits, statement_fits, statements_fit, over_fits}

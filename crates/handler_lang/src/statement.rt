@@ -76,12 +76,11 @@ pub fn statements(alloc: Global, ts: Lexemes, depth: u32) -> Result<(Vec<Stmt>, 
     requires { depth ≤ 64 }
     ensures { MatchResult result (λ x. TookStmts [] depth ts.now (statements_of x.0.items) (statements_fit depth (statements_of x.0.items)) x.1.now) (λ e. FailStmts depth ts.now e) }
 {
-    let mut list = Vec::new(alloc);
     if !starts(ts) {
-        return Ok((list, ts));
+        return Ok((Vec::new(alloc), ts));
     }
     let (first, mut rest) = statement(alloc, ts, depth)?;
-    list.push(first)?;
+    let mut list = vec![in alloc; first]?;
     'more: while starts(rest) {
         let (next, behind) = statement(alloc, rest, depth)?;
         list.push(next)?;

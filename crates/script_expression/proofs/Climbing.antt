@@ -1,5 +1,5 @@
 -- An expression is read from its first operand on, and then level by level: the table goes the same way.
-use Rattle.std.proofs.Common.{◌≡◌, ◌≤◌, ◌<◌, ◌+◌, ◌-◌, ℕ, zero, suc, List, [], ◌∷◌, ◌++◌, length, Option, Some, None, Bool, true, false, ◌&&◌, refl, sym, ap, subst, ◌∙◌, arith, add-one}
+use Rattle.std.proofs.Common.{◌≡◌, ◌≤◌, ◌<◌, ◌+◌, ◌-◌, ℕ, zero, suc, List, [], ◌∷◌, ◌++◌, length, Some, None, Bool, true, false, ◌&&◌, refl, sym, ap, ◌∙◌, arith}
 use Rattle.std.specs.Prelude.{nat_le, nat_lt, ◌==◌, if◌then◌else◌}
 use Rattle.std.proofs.lemmas.Bool.Decides.{nat_tests}
 use Rattle.script_tree.specs.declared.symbol.Operator.{Operator}
@@ -18,7 +18,7 @@ use Rattle.script_tree.specs.Grammar.{Part, Item, Make, Prefixing, Operating, Le
 use Rattle.script_expression.specs.Takes.{fits_at, prefix_at, prefix_in, operator_at, operator_in, Took, Fails}
 use Rattle.script_expression.specs.Levels.{mores, joining_at, joining, next_level, prefix_up_to, prefix_next, TookOperand, TookChain, FailsChain}
 use Rattle.script_expression.proofs.Machine.{made, fails_at}
-use Rattle.script_expression.proofs.Operators.{opens, skip_more, operates, prefixed, unary_took, level_of_prefix, fits_weaker, fits_unchained, and_join, and_split, le_self}
+use Rattle.script_expression.proofs.Operators.{opens, skip_more, operates, prefixed, unary_took, fits_weaker, fits_unchained, and_join, and_split, le_self}
 
 -- ---- which operators come next
 

@@ -1,6 +1,6 @@
 -- Levels of operators: how the table goes through them, and in how many brackets their operands are.
 use Rattle.std.proofs.Common.{◌≡◌, ◌≤◌, ◌<◌, ◌+◌, ◌-◌, ℕ, zero, suc, List, [], ◌∷◌, ◌++◌, length, Some, None, Bool, true, false, ◌&&◌, refl, sym, ap, ◌∙◌, arith, append_assoc, add-one}
-use Rattle.std.specs.Prelude.{not, nat_le, ◌==◌, if◌then◌else◌}
+use Rattle.std.specs.Prelude.{nat_le, ◌==◌, if◌then◌else◌}
 use Rattle.std.proofs.lemmas.Bool.Decides.{nat_tests}
 use Rattle.script_tree.specs.declared.symbol.Operator.{Operator}
 use Rattle.script_tree.specs.declared.symbol.Operator.TheVariants as o
@@ -155,8 +155,6 @@ pub fits_weaker : (n m d : ℕ) (a : Expression) → n ≤ m → fits_at n d a �
 fits_weaker n m d a h e =
     weaker_by (nat_le (level a) n) (nat_le (level a) m) d (λ d. fits d a) (λ p. grind (arith, nat_tests)) (fits_less a d) e
 
-pub fits_chain : (n d : ℕ) (a : Expression) → 0 < n → fits_at (n - 1) d a ≡ true → fits_at (chain_level n) d a ≡ true
-fits_chain n d a h e = fits_weaker (n - 1) (chain_level n) d a (grind (arith, nat_tests)) e
 
 pub fits_unchained : (n d : ℕ) (a : Expression) → fits_at (chain_level n) d a ≡ true → fits_at n d a ≡ true
 fits_unchained n d a e = fits_weaker (chain_level n) n d a (grind (arith, nat_tests)) e

@@ -1,5 +1,5 @@
 -- How an expression is read from its first operand on: the operators that follow, from the lowest level up.
-use Rattle.std.specs.Prelude.{◌≡◌, ◌≤◌, ◌+◌, ◌-◌, ℕ, zero, suc, Bool, true, false, ◌&&◌, nat_le, nat_lt, List, [], ◌∷◌, ◌++◌, length, Option, Some, None, if◌then◌else◌}
+use Rattle.std.specs.Prelude.{◌≡◌, ◌≤◌, ◌+◌, ◌-◌, ℕ, zero, suc, true, ◌&&◌, nat_le, nat_lt, List, [], ◌∷◌, ◌++◌, length, Option, Some, None, if◌then◌else◌}
 use Rattle.script_tree.specs.declared.symbol.Operator.TheVariants as o
 use Rattle.script_tree.specs.declared.symbol.Fixed.TheVariants as x
 use Rattle.script_tree.specs.declared.symbol.Symbol.{Symbol}

@@ -1,5 +1,5 @@
 -- What a reader of a part of the grammar answers.
-use Rattle.std.specs.Prelude.{nat_le, not, ◌&&◌, ◌≡◌, ◌≤◌, ◌<◌, ℕ, Bool, IsTrue, true, false, List, [], ◌∷◌, ◌++◌, length, Option, Some, None, ◌==◌, if◌then◌else◌}
+use Rattle.std.specs.Prelude.{◌≡◌, ◌≤◌, ◌<◌, ℕ, Bool, IsTrue, true, false, List, [], ◌∷◌, ◌++◌, length, Option, Some, None, ◌==◌, if◌then◌else◌}
 use Rattle.script_tree.specs.declared.symbol.Fixed.{Fixed}
 use Rattle.script_tree.specs.declared.symbol.Operator.{Operator}
 use Rattle.script_tree.specs.declared.symbol.Symbol.{Symbol}

@@ -1,4 +1,4 @@
-ghost use Rattle.std.specs.Prelude.{◌≡◌, ◌≤◌, ◌<◌, ◌+◌, ◌-◌, ◌∷◌, [], length, true, MatchResult, IfOk, OnErr, Err};
+ghost use Rattle.std.specs.Prelude.{◌≡◌, ◌≤◌, ◌<◌, ◌+◌, ◌-◌, ◌∷◌, [], length, true, MatchResult};
 ghost use Rattle.script_tree.specs.declared.symbol.Symbol.TheVariants as s;
 ghost use Rattle.script_tree.specs.declared.lexeme.Lexeme.TheVariants as t;
 ghost use Rattle.script_tree.specs.Grammar as g;
@@ -7,8 +7,7 @@ ghost use Rattle.script_tree.specs.Spelling.{fits};
 ghost use Rattle.script_expression.specs.Levels.{TookOperand, TookChain, FailsChain};
 ghost use Rattle.script_expression.specs.Takes.{Begun, Took, TookBefore, Fails, FailsBefore, fits_at};
 ghost use Rattle.script_expression.specs.Queries.{word_next};
-ghost use Rattle.script_tree.specs.Tree.{tree_of, joined};
-ghost use Rattle.script_expression.specs.declared.refusal.ReadError.TheVariants as errors;
+ghost use Rattle.script_tree.specs.Tree.{tree_of, binary_of, joined};
 
 use crate::named::{count, event_field, field, priority, table};
 use crate::query::{QueryWord, query_head, query_tail};
@@ -62,7 +61,6 @@ pub fn boxed_before(
 }
 
 /// An expression in a box, and what follows it.
-#[cycle(exprs)]
 pub fn boxed(alloc: Global, ts: Lexemes, depth: u32) -> Result<(Box<Expr>, Lexemes), ReadError>
     requires { depth ≤ 64 }
     ensures { MatchResult result (λ x. Took (Level 8) [] depth ts.now (ATree (tree_of x.0.value) ∷ []) (fits depth (tree_of x.0.value)) x.1.now) (λ e. Fails (Level 8) depth ts.now e) }
@@ -137,25 +135,25 @@ fn chain(
         return Ok((first, ts));
     };
     let (right, mut rest) = level(alloc, behind, level_now - 1, depth)?;
-    let mut more = vec![in alloc; (op, right)]?;
+    let binary = Box::new(alloc, (first, op, right))?;
+    let mut more = Vec::new(alloc);
     if level_now == COMPARISON {
-        return Ok((joined(alloc, first, more)?, rest));
+        return Ok((joined(binary, more), rest));
     }
     'operators: while let Some((op, behind)) = operator(rest, level_now) {
         let (right, after) = level(alloc, behind, level_now - 1, depth)?;
         more.push((op, right))?;
         rest = after;
     }
-    Ok((joined(alloc, first, more)?, rest))
+    Ok((joined(binary, more), rest))
 }
 
 /// Operands joined from left to right.
 #[tactic(auto, using(script_tree::proofs::Rows::chain_tree))]
-fn joined(alloc: Global, first: Expr, more: Vec<(Operator, Expr)>) -> Result<Expr, ReadError>
-    ensures ok { IfOk result (λ e. tree_of e ≡ joined (tree_of first) more.items) }
-    ensures err { OnErr result (result ≡ Err errors.NoMemory) }
+fn joined(binary: Box<(Expr, Operator, Expr)>, more: Vec<(Operator, Expr)>) -> Expr
+    ensures { tree_of result ≡ joined (binary_of binary.value) more.items }
 {
-    Ok(Expr::Chain(Box::new(alloc, first)?, more))
+    Expr::Chain(binary, more)
 }
 
 /// An expression without operators outside of brackets.
@@ -245,7 +243,7 @@ fn query<'a>(
     ensures { MatchResult result (λ x. Took (Level 0) [] depth ts.now (ATree (tree_of x.0) ∷ []) (fits_at 0 depth (tree_of x.0)) x.1.now) (λ e. Fails (Level 0) depth ts.now e) }
 {
     let (head, inner) = query_head(alloc, ts, word, behind, depth)?;
-    let (e, rest) = boxed(alloc, inner, depth + 1)?;
+    let (e, rest) = expression(alloc, inner, depth + 1)?;
     let (query, rest) = query_tail(alloc, head, rest, depth)?;
-    Ok((Expr::Ask(Box::new(alloc, query)?, e), rest))
+    Ok((Expr::Ask(Box::new(alloc, (query, e))?), rest))
 }

@@ -2,15 +2,13 @@
 use Rattle.std.proofs.Common.{◌≡◌, ◌<◌, ◌+◌, ℕ, List, [], ◌∷◌, ◌++◌, length, drop, get_or, Vec, Global, Bool, true, false, cond, refl, sym, ap, ◌∙◌, append_assoc}
 use Rattle.std.specs.Prelude.{not}
 use Rattle.std.proofs.lemmas.List.{append-nil, drop_more}
-use mathlib.Core.Former.{Count}
 use Rattle.script_tree.specs.declared.symbol.Fixed.TheVariants as x
 use Rattle.script_tree.specs.declared.lexeme.Lexeme.{Lexeme}
 use Rattle.script_tree.specs.declared.lexeme.Lexeme.TheVariants as t
 use Rattle.script_tree.specs.declared.tree.Over.{Over}
 use Rattle.script_tree.specs.declared.tree.Expr.{Expr}
-use Rattle.script_tree.specs.declared.tree.Stmt.{Stmt, If, If', IfElse, IfElse', While, While', For, For', Row_of-Stmt, end_of-Stmt, more_of-Stmt, items-the_row-Stmt, items_hidden-the_row-Stmt-0}
-use Rattle.script_tree.specs.Tree as tree
-use Rattle.script_tree.specs.Tree.{Bytes, Statement, Statements, Nothing, Then, tree_of, field_of, statement_of, statements_of, row_of}
+use Rattle.script_tree.specs.declared.tree.Stmt.{Stmt, If, IfElse, While, For}
+use Rattle.script_tree.specs.Tree.{Bytes, tree_of, statement_of, statements_of}
 use Rattle.script_tree.specs.Spelling.{fixed, braced, spell_over, spell_expression, spell_statement, spell_statements}
 use Rattle.script_tree.specs.Reading.{opening, closing}
 use Rattle.script_tree.proofs.Rows.{while_tree, if_tree, for_tree, if_else_tree}

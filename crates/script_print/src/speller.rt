@@ -124,13 +124,23 @@ impl<'a> Speller<'a> {
                 self.expression(inner)?;
                 self.close(brackets)
             }
-            Expr::Chain(first, more) => {
-                let left = level_of(first);
-                self.openings(more, left)?;
-                self.expression(first)?;
-                self.operations(more, left)
+            Expr::Chain(binary, more) => {
+                let (left, operator, right) = &**binary;
+                let level = operator.level();
+                let brackets = needs_brackets(left, left_level(*operator));
+                self.openings(more, level)?;
+                self.open(brackets)?;
+                self.expression(left)?;
+                self.close(brackets)?;
+                self.symbol(Symbol::Operator(*operator))?;
+                let inner = needs_brackets(right, level - 1);
+                self.open(inner)?;
+                self.expression(right)?;
+                self.close(inner)?;
+                self.operations(more, level)
             }
-            Expr::Ask(query, inner) => {
+            Expr::Ask(asked) => {
+                let (query, inner) = &**asked;
                 self.before(query)?;
                 self.expression(inner)?;
                 self.behind(query)
@@ -569,11 +579,11 @@ fn level_of(e: &Expr) -> u8
     match e {
         Expr::Leaf(_) => 0,
         Expr::Unary(prefix, _) => prefix.level(),
-        Expr::Chain(first, more) => match more.last() {
+        Expr::Chain(binary, more) => match more.last() {
             Some((operator, _)) => operator.level(),
-            None => level_of(first),
+            None => binary.1.level(),
         },
-        Expr::Ask(_, _) => 0,
+        Expr::Ask(_) => 0,
     }
 }
 

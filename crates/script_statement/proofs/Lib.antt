@@ -1,3 +1,2 @@
-pub mod Options
-pub mod Parts
+pub mod Priority
 pub mod Dispatch

@@ -7,8 +7,9 @@ ghost use Rattle.script_expression.specs.Takes.{Took, Fails};
 ghost use Rattle.script_statement.specs.Plain.{has_block, starts_block};
 ghost use Rattle.script_tree.specs.Tree.{statement_of};
 
-use crate::{activities, assignments, calls, doings, entities, firing, timers};
+use crate::{activities, assignments, doings, entities};
 use script_expression::{ReadError, unexpected};
+use script_options::{call, fire, timer};
 use script_tree::{Fixed, Lexeme, Lexemes, Stmt, Symbol};
 use std::alloc::Global;
 
@@ -50,15 +51,15 @@ fn worded<'a>(
         Fixed::Create => entities::create(alloc, ts, behind, depth),
         Fixed::Remove => entities::remove(alloc, ts, behind, depth),
         Fixed::Priority => entities::priority(alloc, ts, behind, depth),
-        Fixed::Call => calls::call(alloc, ts, behind, depth),
+        Fixed::Call => call(alloc, ts, behind, depth),
         Fixed::Attach => activities::attach(alloc, ts, behind, depth),
         Fixed::Detach => activities::detach(alloc, ts, behind, depth),
         Fixed::Mask => activities::mask(alloc, ts, behind, depth),
         Fixed::Unmask => activities::unmask(alloc, ts, behind, depth),
-        Fixed::Fire => firing::fire(alloc, ts, behind, depth),
+        Fixed::Fire => fire(alloc, ts, behind, depth),
         Fixed::Null => activities::null(alloc, ts, behind, depth),
         Fixed::Bind => activities::bind(alloc, ts, behind, depth),
-        Fixed::Timer => timers::timer(alloc, ts, behind, depth),
+        Fixed::Timer => timer(alloc, ts, behind, depth),
         Fixed::Usage => doings::usage(alloc, ts, behind, depth),
         Fixed::Rollback => doings::rollback(ts, behind, depth),
         _ => Err(unexpected(ts)),

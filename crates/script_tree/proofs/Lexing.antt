@@ -1,5 +1,5 @@
 -- How tokens follow one another in a text.
-use Rattle.std.proofs.Common.{◌≡◌, ◌≤◌, ◌<◌, ◌+◌, ◌-◌, ◌*◌, ◌/◌, ℕ, zero, suc, Bool, true, false, cond, ◌&&◌, List, [], ◌∷◌, ◌++◌, length, take, drop, get_or, map, Option, Some, None, Result, Ok, Err, IsUtf8, IsCharBoundary, refl, sym, ap, subst, ◌∙◌, arith, add-one, append_assoc}
+use Rattle.std.proofs.Common.{◌≡◌, ◌≤◌, ◌<◌, ◌+◌, ◌-◌, ◌*◌, ◌/◌, ℕ, zero, suc, Bool, true, false, cond, ◌&&◌, List, [], ◌∷◌, ◌++◌, length, take, drop, get_or, map, Option, Some, None, Result, Ok, Err, IsUtf8, IsCharBoundary, refl, sym, ap, subst, ◌∙◌, arith, append_assoc}
 use Rattle.std.specs.Prelude.{◌==◌, ◌||◌, not, nat_lt, nat_le, slice_index}
 use Rattle.std.specs.List.{prefix_len, take_while, list_all}
 use Rattle.std.proofs.lemmas.List.{drop_more, drop-drop, drop_all, append-nil, length-drop, take_rest, get_or-drop}

@@ -1,12 +1,11 @@
 -- How a text between quotes is read run by run.
-use Rattle.std.proofs.Common.{◌≡◌, ◌≤◌, ◌<◌, ◌+◌, ◌-◌, ℕ, zero, suc, Bool, true, false, cond, ◌&&◌, List, [], ◌∷◌, ◌++◌, length, take, drop, get_or, Option, Some, None, IsTrue, IsUtf8, IsCharBoundary, refl, sym, ap, ◌∙◌, arith, append_assoc, subst}
+use Rattle.std.proofs.Common.{◌≡◌, ◌≤◌, ◌<◌, ◌+◌, ℕ, suc, Bool, true, false, cond, ◌&&◌, [], ◌∷◌, ◌++◌, length, take, drop, get_or, Option, Some, None, IsTrue, IsUtf8, IsCharBoundary, refl, sym, ap, ◌∙◌, arith, append_assoc, subst}
 use Rattle.std.specs.Prelude.{◌==◌, not, nat_lt, nat_le}
-use Rattle.std.specs.List.{prefix_len, list_all, flat_map}
+use Rattle.std.specs.List.{prefix_len, list_all}
 use Rattle.std.proofs.lemmas.List.{append-nil, length-append, length-drop}
 use Rattle.std.proofs.lemmas.List.Sums.{prefix_len-le-length, prefix_len_stops}
 use Rattle.std.proofs.lemmas.Str.{IsCharBoundary-after_ascii}
 use Rattle.std.proofs.lemmas.Bool.Decides.{nat_tests}
-use Rattle.std.proofs.lemmas.Grind.{common_steps}
 use Rattle.script_tree.specs.declared.quote.Stop.{Stop}
 use Rattle.script_tree.specs.declared.quote.Stop.TheVariants as stops
 use Rattle.script_tree.specs.Tree.{Bytes}

@@ -1,12 +1,12 @@
 -- What a statement with blocks is as a value, and what a chain of operators is.
-use Rattle.std.proofs.Common.{◌≡◌, List, [], ◌∷◌, Vec, Box, Global, refl, ap, ◌∙◌}
+use Rattle.std.proofs.Common.{◌≡◌, Vec, Box, Global, refl, ap, ◌∙◌}
 use mathlib.Core.Former.{Count}
 use Rattle.script_tree.specs.declared.symbol.Operator.{Operator}
 use Rattle.script_tree.specs.declared.tree.Over.{Over}
 use Rattle.script_tree.specs.declared.tree.Expr.{Expr, Chain, Chain', Row_of-Expr-Chain-1-2, end_of-Expr-Chain-1-2, more_of-Expr-Chain-1-2, items-the_row-Expr-Chain-1-2, items_hidden-the_row-Expr-Chain-1-2-0}
 use Rattle.script_tree.specs.declared.tree.Stmt.{Stmt, If, If', IfElse, IfElse', While, While', For, For', Row_of-Stmt, end_of-Stmt, more_of-Stmt, items-the_row-Stmt, items_hidden-the_row-Stmt-0}
 use Rattle.script_tree.specs.Tree as tree
-use Rattle.script_tree.specs.Tree.{Bytes, Expression, Binary, Then, tree_of, joined_row, joined, statement_of, statements_of, row_of}
+use Rattle.script_tree.specs.Tree.{Bytes, Expression, Binary, Then, tree_of, joined_row, joined, statement_of, statements_of, row_of, binary_of}
 
 row_items : (n : _) (row : Row_of-Stmt n) → row_of row ≡ statements_of (items-the_row-Stmt n row)
 row_items n end_of-Stmt = refl
@@ -45,10 +45,10 @@ row_joined x n end_of-Expr-Chain-1-2 = refl
 row_joined x n (more_of-Expr-Chain-1-2 op y more) = row_joined (Binary op x (tree_of y)) _ more
 
 abbrev chain_row : Expr → (n : Count) × Row_of-Expr-Chain-1-2 n
-chain_row (Chain' _ x _ row) = (_, row)
+chain_row (Chain' _ x op y _ row) = (_, row)
 chain_row _ = (_, end_of-Expr-Chain-1-2)
 
-pub chain_tree : (x : Box Expr Global) (v : Vec (Operator × Expr) Global) → tree_of (Chain x v) ≡ joined (tree_of x.value) v.items
+pub chain_tree : (x : Box (Expr × Operator × Expr) Global) (v : Vec (Operator × Expr) Global) → tree_of (Chain x v) ≡ joined (binary_of x.value) v.items
 chain_tree x v =
     let row = chain_row (Chain x v) in
-    row_joined (tree_of x.value) row.0 row.1 ∙ ap (joined (tree_of x.value)) (items_hidden-the_row-Expr-Chain-1-2-0 v)
+    row_joined (binary_of x.value) row.0 row.1 ∙ ap (joined (binary_of x.value)) (items_hidden-the_row-Expr-Chain-1-2-0 v)

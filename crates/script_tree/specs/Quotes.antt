@@ -1,5 +1,5 @@
 -- How a text between quotes is read in runs of bytes that stand for themselves.
-use Rattle.std.specs.Prelude.{ℕ, ◌+◌, Bool, not, ◌&&◌, ◌==◌, nat_le, List, [], ◌∷◌, ◌++◌, Option, Some, None, if◌then◌else◌}
+use Rattle.std.specs.Prelude.{ℕ, ◌+◌, Bool, not, ◌&&◌, ◌==◌, nat_le, [], ◌∷◌, ◌++◌, Option, Some, None, if◌then◌else◌}
 use Rattle.script_tree.specs.declared.quote.Stop.{Stop}
 use Rattle.script_tree.specs.declared.quote.Stop.TheVariants as stops
 use Rattle.script_tree.specs.declared.lexeme.Quote.{Quote}

@@ -89,15 +89,19 @@ abbrev mutual
   pub tree_of : Expr → Expression
   tree_of (e.Leaf l) = Leaf l
   tree_of (e.Unary' op _ x) = Unary op (tree_of x)
-  tree_of (e.Chain' _ x _ more) = joined_row (tree_of x) more
-  tree_of (e.Ask' query _ x) = Ask query.value (tree_of x)
+  tree_of (e.Chain' _ x op y _ more) = joined_row (Binary op (tree_of x) (tree_of y)) more
+  tree_of (e.Ask' _ query x) = Ask query (tree_of x)
 
   -- operands that are joined from left to right
   pub joined_row : {n : _} → Expression → Row_of-Expr-Chain-1-2 n → Expression
   joined_row x end_of-Expr-Chain-1-2 = x
   joined_row x (more_of-Expr-Chain-1-2 op y more) = joined_row (Binary op x (tree_of y)) more
 
--- the same, over a list
+-- an operator between two operands
+abbrev pub binary_of : Expr × Operator × Expr → Expression
+binary_of x = Binary x.1 (tree_of x.0) (tree_of x.2)
+
+-- the same as the row, over a list
 abbrev pub joined : Expression → List (Operator × Expr) → Expression
 joined x [] = x
 joined x (y ∷ more) = joined (Binary y.0 x (tree_of y.1)) more

@@ -52,11 +52,4 @@ impl Identifier {
     {
         NameRef::new(self.as_bytes())
     }
-
-    pub fn copy(&self, alloc: Global) -> Result<Self, NoMemory>
-        ensures same { IfOk result (λ i. i ≡ self.now) }
-        ensures identifier { IsTrue (is_identifier self.now) }
-    {
-        Identifier::from_slice(alloc, self.as_bytes())
-    }
 }

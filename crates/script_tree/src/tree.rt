@@ -9,10 +9,10 @@ use slee_value::Keep;
 pub enum Expr {
     Leaf(Leaf),
     Unary(Prefix, Box<Expr>),
-    /// An operand, and others behind it with the operators that join them from left to right. They stand side by side and
-    /// not in one another, so that a long row of them is no deep tree.
-    Chain(Box<Expr>, Vec<(Operator, Expr)>),
-    Ask(Box<Query>, Box<Expr>),
+    /// An operator between two operands, and others of its level behind it with their right operands, joined from left to
+    /// right. They stand side by side and not in one another, so that a long row of them is no deep tree.
+    Chain(Box<(Expr, Operator, Expr)>, Vec<(Operator, Expr)>),
+    Ask(Box<(Query, Expr)>),
 }
 
 /// An expression without parts.

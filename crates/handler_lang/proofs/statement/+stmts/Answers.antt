@@ -1,4 +1,4 @@
-use Rattle.std.proofs.Common.{rules, arith, sym, ap, ◌∙◌}
+use Rattle.std.proofs.Common.{rules, arith, [], refl, sym, ap, ◌∙◌}
 use Rattle.std.proofs.lemmas.Result.{err_from_is_err_and}
 use Rattle.handler_lang.proofs.Blocks.{no_block_word, word_begun, fails_block, while_took, for_took, if_took, if_else_took, to_other, stmts_more, stmts_fail, stmts_end, stmts_none, block_took, block_fails, block_open, block_too_deep, no_block}
 use Rattle.script_expression.proofs.Machine.{fails_at}
@@ -95,12 +95,12 @@ pub block-returns : goal.block-returns
 block-returns m c = block_took _ _ _ _ _ _ c.in-Some.ensures (omega arith) c.in_ok-body.ensures c.in_ok-rest.ensures
 
 pub statements-returns-then-not-starts : goal.statements-returns-then-not-starts
-statements-returns-then-not-starts m c = stmts_end _ _ _ _ (stmts_none _ _ _ c.new-list.ensures.items) (sym c.starts.ensures ∙ c.if-not-starts.true)
+statements-returns-then-not-starts m c = stmts_end _ _ _ _ (stmts_none _ _ _ c.new.ensures.items) (sym c.starts.ensures ∙ c.if-not-starts.true)
 
 pub statements-returns-in_err-first : goal.statements-returns-in_err-first
 statements-returns-in_err-first m c =
     let p = err_from_is_err_and c.from_residual.result c.from_residual.ensures.1 in
-    rw (p.1, p.2) (stmts_fail _ _ _ _ (stmts_none _ _ _ c.new-list.ensures.items) (sym c.starts.ensures ∙ c.if-not-starts.false) _ c.in_err-first.ensures)
+    rw (p.1, p.2) (stmts_fail _ _ _ [] (stmts_none _ _ [] refl) (sym c.starts.ensures ∙ c.if-not-starts.false) _ c.in_err-first.ensures)
 
 pub statements-returns-in_err-next : goal.statements-returns-in_err-next
 statements-returns-in_err-next m c =
@@ -108,10 +108,10 @@ statements-returns-in_err-next m c =
     rw (p.1, p.2) (stmts_fail _ _ _ _ c.more.invariant (sym c.starts-in-more.ensures ∙ c.more-test.true) _ c.in_err-next.ensures)
 
 pub statements-more-init : goal.statements-more-init
-statements-more-init m c = stmts_more _ _ _ _ _ _ _ (stmts_none _ _ _ c.new-list.ensures.items) (sym c.starts.ensures ∙ c.if-not-starts.false) c.in_ok-first.ensures c.in_ok-push.ensures.items
+statements-more-init m c = stmts_more _ _ _ _ [] _ _ (stmts_none _ _ [] refl) (sym c.starts.ensures ∙ c.if-not-starts.false) c.in_ok-first.ensures c.in_ok-list.ensures.items
 
 pub statements-more-preserved : goal.statements-more-preserved
-statements-more-preserved m c = stmts_more _ _ _ _ _ _ _ c.more.invariant (sym c.starts-in-more.ensures ∙ c.more-test.true) c.in_ok-next.ensures c.in_ok-push-2.ensures.items
+statements-more-preserved m c = stmts_more _ _ _ _ _ _ _ c.more.invariant (sym c.starts-in-more.ensures ∙ c.more-test.true) c.in_ok-next.ensures c.in_ok-push.ensures.items
 
 pub statements-returns : goal.statements-returns
 statements-returns m c = stmts_end _ _ _ _ c.more.invariant (sym c.starts-in-more.ensures ∙ c.more-test.false)

@@ -1,4 +1,4 @@
-use Rattle.std.proofs.Common.{rules, ◌≡◌, ◌+◌, ◌-◌, ℕ, arith, ◌∷◌, [], ◌++◌, refl, sym, ap, subst, ◌∙◌}
+use Rattle.std.proofs.Common.{rules, ◌≡◌, ◌+◌, ◌-◌, ℕ, arith, ◌∷◌, [], refl, sym, ap, subst, ◌∙◌}
 use Rattle.std.proofs.lemmas.Result.{err_from_is_err_and}
 use Rattle.script_tree.specs.declared.lexeme.Lexeme.TheVariants as t
 use Rattle.script_tree.specs.declared.symbol.Symbol.TheVariants as s
@@ -7,11 +7,11 @@ use Rattle.script_tree.specs.Grammar.{Level, More, One, ATree, again}
 use Rattle.script_tree.specs.Spelling.{chain_level}
 use Rattle.script_expression.specs.Takes.{Took, Fails, fits_at}
 use Rattle.script_expression.specs.Levels.{TookOperand, TookChain}
-use Rattle.script_tree.specs.Tree.{Expression, Unary, Binary, tree_of, joined}
+use Rattle.script_tree.specs.Tree.{Expression, Unary, Binary, tree_of, binary_of, joined}
 use Rattle.script_expression.proofs.Machine.{fails_at, prim_begun}
 use Rattle.script_expression.proofs.Operators.{no_prim, refuse_prim, not_five, group_took, group_opens, group_deep}
 use Rattle.script_expression.proofs.Climbing.{plain_operand, plain_fails, prefixed_operand, prefixed_fails, no_chain, chain_more, chain_ends, chain_fails, climbed, climb_fails, climb_ends}
-use Rattle.script_expression.proofs.Chains.{joined_last}
+use Rattle.script_expression.proofs.Chains.{one_joined, joined_last}
 use Rattle.script_expression.proofs.levels.+exprs.Goals as goal
 
 pub group-returns : goal.group-returns
@@ -122,7 +122,7 @@ chain-returns-then-level_now-eq-COMPARISON m c =
     let five : n ≡ 5 = c.if-level_now-eq-COMPARISON.true in
     let a = tree_of c.args.first in
     let b = tree_of c.in_ok-right.right in
-    let same : tree_of c.in_ok-joined.field-0 ≡ Binary c.in-Some.op a b = c.in_ok-joined.ensures.ok ∙ ap (joined a) c.in_ok-more.ensures.items in
+    let same : tree_of c.joined.result ≡ Binary c.in-Some.op a b = c.joined.ensures ∙ one_joined _ _ _ c.in_ok-binary.ensures.ok c.new-more.ensures.items in
     subst (λ (x : Expression). TookChain [] n n c.args.depth c.args.ts.now a x c.in_ok-right.rest.now) (sym same)
     (chain_more n n c.args.depth [] c.args.ts.now c.args.ts.now c.in-Some.behind.now c.in_ok-right.rest.now c.in-Some.op a a b (no_chain n c.args.depth c.args.ts.now a) c.in-Some.ensures.0 c.in-Some.ensures.1 c.in_ok-right.ensures refl (sym (ap again five)))
 
@@ -132,7 +132,7 @@ chain-operators-init m c =
     let far = not_five n c.if-level_now-eq-COMPARISON.false in
     let a = tree_of c.args.first in
     let b = tree_of c.in_ok-right.right in
-    let same : joined a c.in_ok-more.more.items ≡ Binary c.in-Some.op a b = ap (joined a) c.in_ok-more.ensures.items in
+    let same : joined (binary_of c.in_ok-binary.binary.value) c.new-more.result.items ≡ Binary c.in-Some.op a b = one_joined _ _ _ c.in_ok-binary.ensures.ok c.new-more.ensures.items in
     subst (λ (x : Expression). TookChain (More n ∷ []) n (chain_level n) c.args.depth c.args.ts.now a x c.in_ok-right.rest.now) (sym same)
     (chain_more n (chain_level n) c.args.depth (More n ∷ []) c.args.ts.now c.args.ts.now c.in-Some.behind.now c.in_ok-right.rest.now c.in-Some.op a a b (no_chain n c.args.depth c.args.ts.now a) c.in-Some.ensures.0 c.in-Some.ensures.1 c.in_ok-right.ensures far.0 far.1)
 
@@ -141,7 +141,7 @@ chain-returns-in_err-right-2 m c =
     let p = err_from_is_err_and c.from_residual-in_err-right-2.result c.from_residual-in_err-right-2.ensures.1 in
     let n = c.args.level_now in
     let a = tree_of c.args.first in
-    let b = tree_of c.operators.first-1 in
+    let b = binary_of c.in_ok-binary.binary.value in
     rw (p.1, p.2) (chain_fails n c.args.depth c.args.ts.now c.operators.rest.now c.in-Some-operator.behind.now c.in-Some-operator.op a (joined b c.operators.more.items) _ c.operators.invariant c.in-Some-operator.ensures.0 c.in-Some-operator.ensures.1 c.in_err-right-2.ensures)
 
 pub chain-operators-preserved : goal.chain-operators-preserved
@@ -149,7 +149,7 @@ chain-operators-preserved m c =
     let n = c.args.level_now in
     let far = not_five n c.if-level_now-eq-COMPARISON.false in
     let a = tree_of c.args.first in
-    let first = tree_of c.operators.first-1 in
+    let first = binary_of c.in_ok-binary.binary.value in
     let left = joined first c.operators.more.items in
     let b = tree_of c.in_ok-right-2.right in
     let same : joined first c.push.new.self.items ≡ Binary c.in-Some-operator.op left b = ap (joined first) c.in_ok-push.ensures.items ∙ joined_last first c.operators.more.items (c.in-Some-operator.op, c.in_ok-right-2.right) in
@@ -160,5 +160,5 @@ pub chain-returns : goal.chain-returns
 chain-returns m c =
     let n = c.args.level_now in
     let a = tree_of c.args.first in
-    subst (λ (x : Expression). TookChain [] n n c.args.depth c.args.ts.now a x c.operators.rest.now) (sym c.in_ok-joined-2.ensures.ok)
-    (chain_ends n c.args.depth c.args.ts.now c.operators.rest.now a (joined (tree_of c.operators.first-1) c.operators.more.items) c.operators.invariant c.in_default-operator.ensures)
+    subst (λ (x : Expression). TookChain [] n n c.args.depth c.args.ts.now a x c.operators.rest.now) (sym c.joined-2.ensures)
+    (chain_ends n c.args.depth c.args.ts.now c.operators.rest.now a (joined (binary_of c.in_ok-binary.binary.value) c.operators.more.items) c.operators.invariant c.in_default-operator.ensures)

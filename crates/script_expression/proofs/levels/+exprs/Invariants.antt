@@ -2,7 +2,7 @@ use Rattle.std.proofs.Common.{length, ◌+◌, ◌-◌, ◌*◌, ◌∷◌, []}
 use Rattle.script_tree.specs.Grammar.{More}
 use Rattle.script_tree.specs.Spelling.{chain_level}
 use Rattle.script_expression.specs.Levels.{TookOperand, TookChain}
-use Rattle.script_tree.specs.Tree.{tree_of, joined}
+use Rattle.script_tree.specs.Tree.{tree_of, binary_of, joined}
 use Rattle.script_expression.proofs.levels.+exprs.Given as goal
 
 abbrev pub decreases-expression : goal.decreases-expression
@@ -33,13 +33,10 @@ abbrev pub decreases-level-levels : goal.decreases-level-levels
 decreases-level-levels l = l.highest - l.done
 
 abbrev pub invariant-chain-operators : goal.invariant-chain-operators
-invariant-chain-operators l = TookChain (More l.level_now ∷ []) l.level_now (chain_level l.level_now) l.depth l.ts (tree_of l.initial.first) (joined (tree_of l.first) l.more.items) l.rest
+invariant-chain-operators l = TookChain (More l.level_now ∷ []) l.level_now (chain_level l.level_now) l.depth l.ts (tree_of l.fn.first) (joined (binary_of l.binary.value) l.more.items) l.rest
 
 abbrev pub decreases-chain-operators : goal.decreases-chain-operators
 decreases-chain-operators l = length l.rest
 
 abbrev pub decreases-query : goal.decreases-query
 decreases-query l = 32 * length l.ts.now + 3
-
-abbrev pub decreases-boxed : goal.decreases-boxed
-decreases-boxed l = 32 * length l.ts.now + 25

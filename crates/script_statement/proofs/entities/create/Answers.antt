@@ -3,7 +3,7 @@ use Rattle.std.proofs.lemmas.Result.{err_from_is_err_and}
 use Rattle.script_expression.proofs.Machine.{fails_at, made}
 use Rattle.script_expression.proofs.Followed.{fails_making}
 use Rattle.script_expression.proofs.Operators.{and_join}
-use Rattle.script_statement.proofs.Options.{skip_priority, more_priority}
+use Rattle.script_statement.proofs.Priority.{skip_priority, more_priority}
 use Rattle.script_statement.proofs.entities.create.Goals as goal
 
 pub returns-in_err-relation : goal.returns-in_err-relation

@@ -1,4 +1,4 @@
-use Rattle.std.proofs.Common.{◌≡◌, ◌<◌, ◌-◌, ◌/◌, get_or, arith}
+use Rattle.std.proofs.Common.{◌<◌, ◌-◌, ◌/◌, get_or, arith}
 use Rattle.std.proofs.lemmas.Grind.{common_steps}
 use Rattle.script_tree.proofs.Lexing.{too_large}
 use Rattle.script_tree.proofs.lexer.decimal.Goals as goal

@@ -1,4 +1,4 @@
-use Rattle.std.proofs.Common.{◌≡◌, ◌+◌, ℕ, List, ◌∷◌, [], ◌++◌, length, refl, sym, ap, subst, arith}
+use Rattle.std.proofs.Common.{◌+◌, ℕ, List, ◌∷◌, [], ◌++◌, length, refl, sym, ap, subst, arith}
 use Rattle.std.proofs.lemmas.List.{length-drop}
 use Rattle.script_tree.specs.declared.token.Token.{Token}
 use Rattle.script_tree.specs.Reading.{token_kind}

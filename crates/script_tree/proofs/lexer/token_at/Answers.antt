@@ -1,9 +1,9 @@
-use Rattle.std.proofs.Common.{◌≡◌, ◌≤◌, ◌+◌, true, false, length, take, drop, get_or, sym, ap, ◌∙◌, arith, rules}
+use Rattle.std.proofs.Common.{◌≡◌, true, false, drop, get_or, sym, ap, ◌∙◌, arith}
 use Rattle.std.proofs.lemmas.Grind.{common_steps}
 use Rattle.std.proofs.lemmas.Result.{IfOk-weaker}
 use Rattle.std.proofs.lemmas.List.{drop-drop}
 use Rattle.slee_value.specs.Name.{is_letter, is_byte_of_name}
-use Rattle.script_tree.specs.Lexer.{cut, word_cut, text_cut, quote_of}
+use Rattle.script_tree.specs.Lexer.{cut, text_cut, quote_of}
 use Rattle.script_tree.proofs.Lexing.{part, part_is, run_all, word_here, text_here, quote_boundary}
 use Rattle.script_tree.proofs.lexer.token_at.Goals as goal
 

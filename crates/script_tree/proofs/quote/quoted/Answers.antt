@@ -1,4 +1,4 @@
-use Rattle.std.proofs.Common.{◌≡◌, Some, sym, ◌∙◌}
+use Rattle.std.proofs.Common.{sym, ◌∙◌}
 use Rattle.script_tree.proofs.Quoting.{quote_literal}
 use Rattle.script_tree.proofs.quote.quoted.Goals as goal
 

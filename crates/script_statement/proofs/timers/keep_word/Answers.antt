@@ -1,8 +1,0 @@
-use Rattle.script_statement.proofs.Parts.{keep_word_took, refuse_keep}
-use Rattle.script_statement.proofs.timers.keep_word.Goals as goal
-
-pub returns-in_default : goal.returns-in_default
-returns-in_default c = rw c.unexpected.ensures (refuse_keep _ _ c.in_default.ensures)
-
-pub returns : goal.returns
-returns c = keep_word_took _ _ _ _ _ c.in-Some.ensures.1.1 c.in-Some.ensures.0
