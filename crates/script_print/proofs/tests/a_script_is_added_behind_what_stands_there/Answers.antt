@@ -31,4 +31,4 @@ chain_is_script x v list i j k one two three first more is =
     subst (λ s. IsTrue (is_script s)) (sym (ap statements_of is ∙ ap emitted whole)) refl
 
 pub new-script-requires : goal.new-script-requires
-new-script-requires g c = chain_is_script _ _ _ _ _ _ c.new.ensures c.new-3.ensures c.new-4.ensures c.in_ok-sum.ensures.ok c.in_ok-vec.ensures.items c.in_ok-list.ensures.items
+new-script-requires g c = chain_is_script _ _ _ _ _ _ c.new.ensures c.new-2.ensures c.new-3.ensures c.in_ok-sum.ensures.ok c.in_ok-vec.ensures.items c.in_ok-list.ensures.items
