@@ -155,7 +155,6 @@ pub fits_weaker : (n m d : ℕ) (a : Expression) → n ≤ m → fits_at n d a �
 fits_weaker n m d a h e =
     weaker_by (nat_le (level a) n) (nat_le (level a) m) d (λ d. fits d a) (λ p. grind (arith, nat_tests)) (fits_less a d) e
 
-
 pub fits_unchained : (n d : ℕ) (a : Expression) → fits_at (chain_level n) d a ≡ true → fits_at n d a ≡ true
 fits_unchained n d a e = fits_weaker (chain_level n) n d a (grind (arith, nat_tests)) e
 

@@ -12,8 +12,8 @@ expression-returns-in_ok-close-in-Chain-2 t c =
     let left = c.needs_brackets-brackets-in-Chain.ensures ∙ ap (λ n. not (nat_le (level (tree_of x.0)) n)) c.left_level.ensures in
     let first = rw c.deref-in-Chain-2.ensures.value at c.in_ok-openings-in-Chain.ensures in
     let whole =
-      binary_spelled x _ _ _ _ _ _ _ _ _ _ _ own left c.needs_brackets-inner.ensures c.in_ok-open-in-Chain.ensures c.in_ok-expression-in-Chain.ensures c.in_ok-close-in-Chain.ensures
-      c.in_ok-symbol-in-Chain.ensures c.in_ok-open-in-Chain-2.ensures c.in_ok-expression-in-Chain-2.ensures c.in_ok-close-in-Chain-2.ensures
+    binary_spelled x _ _ _ _ _ _ _ _ _ _ _ own left c.needs_brackets-inner.ensures c.in_ok-open-in-Chain.ensures c.in_ok-expression-in-Chain.ensures c.in_ok-close-in-Chain.ensures
+    c.in_ok-symbol-in-Chain.ensures c.in_ok-open-in-Chain-2.ensures c.in_ok-expression-in-Chain-2.ensures c.in_ok-close-in-Chain-2.ensures
     in
     let level = rw c.deref-in-Chain.ensures at own in
     let operands = rw c.deref-in-Chain.ensures at whole in
