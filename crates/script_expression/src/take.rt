@@ -1,4 +1,4 @@
-ghost use Rattle.std.specs.Prelude.{◌≡◌, ◌≤◌, ◌<◌, ◌+◌, ◌∷◌, [], length, true, false, ℕ, List, MatchResult, MatchOption};
+ghost use Rattle.std.specs.Prelude.{◌≡◌, ◌≢◌, ◌≤◌, ◌<◌, ◌+◌, ◌∷◌, [], length, true, false, ℕ, List, Err, MatchResult, MatchOption};
 ghost use Rattle.script_tree.specs.declared.symbol.Symbol.TheVariants as s;
 ghost use Rattle.script_tree.specs.declared.lexeme.Lexeme.{Lexeme as ALexeme};
 ghost use Rattle.script_tree.specs.declared.lexeme.Lexeme.TheVariants as t;
@@ -43,7 +43,8 @@ pub fn behind(ts: Lexemes, fixed: Fixed) -> Option<Lexemes>
 pub fn want(ts: Lexemes, fixed: Fixed, depth: u32) -> Result<Lexemes, ReadError>
     requires deep { depth ≤ 64 }
     requires no_bracket { turn_of fixed ≡ g.Stays }
-    ensures { MatchResult result (λ rest. Turned fixed depth depth ts.now rest.now) (λ e. Fails (g.One fixed) depth ts.now e) }
+    ensures read { MatchResult result (λ rest. Turned fixed depth depth ts.now rest.now) (λ e. Fails (g.One fixed) depth ts.now e) }
+    ensures memory { result ≢ Err ReadError.NoMemory }
 {
     match behind(ts, fixed) {
         Some(rest) => Ok(rest),
@@ -56,7 +57,8 @@ pub fn want(ts: Lexemes, fixed: Fixed, depth: u32) -> Result<Lexemes, ReadError>
 pub fn open(ts: Lexemes, fixed: Fixed, depth: u32) -> Result<Lexemes, ReadError>
     requires deep { depth ≤ 64 }
     requires bracket { turn_of fixed ≡ g.Opens }
-    ensures { MatchResult result (λ rest. Turned fixed depth (depth + 1) ts.now rest.now) (λ e. Fails (g.One fixed) depth ts.now e) }
+    ensures read { MatchResult result (λ rest. Turned fixed depth (depth + 1) ts.now rest.now) (λ e. Fails (g.One fixed) depth ts.now e) }
+    ensures memory { result ≢ Err ReadError.NoMemory }
 {
     match behind(ts, fixed) {
         Some(rest) => {
@@ -74,7 +76,8 @@ pub fn open(ts: Lexemes, fixed: Fixed, depth: u32) -> Result<Lexemes, ReadError>
 pub fn close(ts: Lexemes, fixed: Fixed, depth: u32) -> Result<Lexemes, ReadError>
     requires deep { depth < 64 }
     requires bracket { turn_of fixed ≡ g.Closes }
-    ensures { MatchResult result (λ rest. Turned fixed (depth + 1) depth ts.now rest.now) (λ e. Fails (g.One fixed) (depth + 1) ts.now e) }
+    ensures read { MatchResult result (λ rest. Turned fixed (depth + 1) depth ts.now rest.now) (λ e. Fails (g.One fixed) (depth + 1) ts.now e) }
+    ensures memory { result ≢ Err ReadError.NoMemory }
 {
     match behind(ts, fixed) {
         Some(rest) => Ok(rest),

@@ -1,4 +1,4 @@
-ghost use Rattle.std.specs.Prelude.{◌≡◌, ◌≤◌, ◌<◌, ◌+◌, ◌∷◌, [], length, true, MatchResult, MatchOption, IfOk};
+ghost use Rattle.std.specs.Prelude.{◌≡◌, ◌≢◌, ◌≤◌, ◌<◌, ◌+◌, ◌∷◌, [], length, true, Err, MatchResult, MatchOption, IfOk};
 ghost use Rattle.script_tree.specs.declared.lexeme.Lexeme.{Lexeme as ALexeme};
 ghost use Rattle.script_tree.specs.Grammar.{Stmt as AStmt, AStatement, stmt_fixed, MoreRepeat, MoreKeep, KeepWord};
 ghost use Rattle.script_tree.specs.Spelling.{statement_fits, option_fits, repeat_fits};
@@ -82,7 +82,8 @@ fn unboxed(repeat: Option<Box<Repeat>>) -> Option<Repeat>
 /// `keep` and its word, where it comes.
 fn keep(ts: Lexemes, depth: u32) -> Result<(Option<Keep>, Lexemes), ReadError>
     requires { depth ≤ 64 }
-    ensures { MatchResult result (λ x. TookAll (MoreKeep ∷ []) [] depth depth ts.now (keep_set x.0) true x.1.now) (λ e. Fails MoreKeep depth ts.now e) }
+    ensures read { MatchResult result (λ x. TookAll (MoreKeep ∷ []) [] depth depth ts.now (keep_set x.0) true x.1.now) (λ e. Fails MoreKeep depth ts.now e) }
+    ensures memory { result ≢ Err ReadError.NoMemory }
 {
     let Some(behind) = behind_word(ts, Fixed::Keep) else {
         return Ok((None, ts));
@@ -94,7 +95,8 @@ fn keep(ts: Lexemes, depth: u32) -> Result<(Option<Keep>, Lexemes), ReadError>
 /// `all`, `last` or `none`.
 fn keep_word(ts: Lexemes, depth: u32) -> Result<(Keep, Lexemes), ReadError>
     requires { depth ≤ 64 }
-    ensures { MatchResult result (λ x. TookAll (KeepWord ∷ []) [] depth depth ts.now (keep_set (Some x.0)) true x.1.now) (λ e. Fails KeepWord depth ts.now e) }
+    ensures read { MatchResult result (λ x. TookAll (KeepWord ∷ []) [] depth depth ts.now (keep_set (Some x.0)) true x.1.now) (λ e. Fails KeepWord depth ts.now e) }
+    ensures memory { result ≢ Err ReadError.NoMemory }
 {
     let Some((keep, rest)) = keep_in(ts) else {
         return Err(unexpected(ts));

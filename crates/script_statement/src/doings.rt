@@ -1,4 +1,4 @@
-ghost use Rattle.std.specs.Prelude.{◌≡◌, ◌≤◌, ◌<◌, ◌+◌, ◌∷◌, [], length, true, MatchResult};
+ghost use Rattle.std.specs.Prelude.{◌≡◌, ◌≢◌, ◌≤◌, ◌<◌, ◌+◌, ◌∷◌, [], length, true, Err, MatchResult};
 ghost use Rattle.script_tree.specs.declared.symbol.Symbol.TheVariants as s;
 ghost use Rattle.script_tree.specs.Grammar.{Stmt as AStmt, AStatement, stmt_fixed, stmt_symbol};
 ghost use Rattle.script_tree.specs.Spelling.{statement_fits};
@@ -49,7 +49,8 @@ pub fn rollback<'a>(
 ) -> Result<(Stmt, Lexemes<'a>), ReadError>
     requires deep { depth ≤ 64 }
     requires begun { Begun AStmt (stmt_fixed Fixed.Rollback) depth ts.now behind.now }
-    ensures { MatchResult result (λ x. Took AStmt [] depth ts.now (AStatement (statement_of x.0) ∷ []) (statement_fits depth (statement_of x.0)) x.1.now) (λ e. Fails AStmt depth ts.now e) }
+    ensures read { MatchResult result (λ x. Took AStmt [] depth ts.now (AStatement (statement_of x.0) ∷ []) (statement_fits depth (statement_of x.0)) x.1.now) (λ e. Fails AStmt depth ts.now e) }
+    ensures memory { result ≢ Err ReadError.NoMemory }
 {
     let rest = want(behind, Fixed::Semicolon, depth)?;
     Ok((Stmt::Rollback, rest))

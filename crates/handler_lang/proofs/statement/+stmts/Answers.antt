@@ -60,20 +60,20 @@ walk-returns-in_err-name m c =
 pub walk-returns-in_err-rest : goal.walk-returns-in_err-rest
 walk-returns-in_err-rest m c =
     let p = err_from_is_err_and c.from_residual-in_err-rest.result c.from_residual-in_err-rest.ensures.1 in
-    rw (p.1, p.2) (fails_at _ _ _ _ _ _ _ _ (λ ps i. c.requires.begun.goes_on ps i ∙ c.in_ok-name.ensures.goes_on _ _) _ c.in_err-rest.ensures)
+    rw (p.1, p.2) (fails_at _ _ _ _ _ _ _ _ (λ ps i. c.requires.begun.goes_on ps i ∙ c.in_ok-name.ensures.goes_on _ _) _ c.in_err-rest.ensures.read)
 
 pub walk-returns-in_err-over : goal.walk-returns-in_err-over
 walk-returns-in_err-over m c =
     let p = err_from_is_err_and c.from_residual-in_err-over.result c.from_residual-in_err-over.ensures.1 in
-    rw (p.1, p.2) (fails_at _ _ _ _ _ _ _ _ (λ ps i. c.requires.begun.goes_on ps i ∙ c.in_ok-name.ensures.goes_on _ _ ∙ c.in_ok-rest.ensures.goes_on _ _) _ c.in_err-over.ensures)
+    rw (p.1, p.2) (fails_at _ _ _ _ _ _ _ _ (λ ps i. c.requires.begun.goes_on ps i ∙ c.in_ok-name.ensures.goes_on _ _ ∙ c.in_ok-rest.ensures.read.goes_on _ _) _ c.in_err-over.ensures)
 
 pub walk-returns-in_err-body : goal.walk-returns-in_err-body
 walk-returns-in_err-body m c =
     let p = err_from_is_err_and c.from_residual-in_err-body.result c.from_residual-in_err-body.ensures.1 in
-    rw (p.1, p.2) (fails_block _ _ _ _ _ _ _ _ (λ ps i. c.requires.begun.goes_on ps i ∙ c.in_ok-name.ensures.goes_on _ _ ∙ c.in_ok-rest.ensures.goes_on _ _ ∙ c.in_ok-over.ensures.goes_on _ _) _ c.in_err-body.ensures)
+    rw (p.1, p.2) (fails_block _ _ _ _ _ _ _ _ (λ ps i. c.requires.begun.goes_on ps i ∙ c.in_ok-name.ensures.goes_on _ _ ∙ c.in_ok-rest.ensures.read.goes_on _ _ ∙ c.in_ok-over.ensures.goes_on _ _) _ c.in_err-body.ensures)
 
 pub walk-returns : goal.walk-returns
-walk-returns m c = for_took _ _ _ _ _ _ _ _ _ c.in_ok-body.body c.requires.begun c.in_ok-name.ensures c.in_ok-rest.ensures c.in_ok-over.ensures c.in_ok-body.ensures
+walk-returns m c = for_took _ _ _ _ _ _ _ _ _ c.in_ok-body.body c.requires.begun c.in_ok-name.ensures c.in_ok-rest.ensures.read c.in_ok-over.ensures c.in_ok-body.ensures
 
 pub block-returns-in_default : goal.block-returns-in_default
 block-returns-in_default m c = rw c.unexpected.ensures (no_block _ _ c.in_default.ensures)
@@ -89,10 +89,10 @@ block-returns-in_err-body m c =
 pub block-returns-in_err-rest : goal.block-returns-in_err-rest
 block-returns-in_err-rest m c =
     let p = err_from_is_err_and c.from_residual-in_err-rest.result c.from_residual-in_err-rest.ensures.1 in
-    rw (p.1, p.2) (block_open _ _ _ _ _ c.in-Some.ensures (omega arith) c.in_ok-body.ensures _ c.in_err-rest.ensures)
+    rw (p.1, p.2) (block_open _ _ _ _ _ c.in-Some.ensures (omega arith) c.in_ok-body.ensures _ c.in_err-rest.ensures.read)
 
 pub block-returns : goal.block-returns
-block-returns m c = block_took _ _ _ _ _ _ c.in-Some.ensures (omega arith) c.in_ok-body.ensures c.in_ok-rest.ensures
+block-returns m c = block_took _ _ _ _ _ _ c.in-Some.ensures (omega arith) c.in_ok-body.ensures c.in_ok-rest.ensures.read
 
 pub statements-returns-then-not-starts : goal.statements-returns-then-not-starts
 statements-returns-then-not-starts m c = stmts_end _ _ _ _ (stmts_none _ _ _ c.new.ensures.items) (sym c.starts.ensures ∙ c.if-not-starts.true)

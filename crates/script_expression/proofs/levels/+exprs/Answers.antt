@@ -16,7 +16,7 @@ use Rattle.script_expression.proofs.levels.+exprs.Goals as goal
 
 pub group-returns : goal.group-returns
 group-returns m c =
-    group_took c.args.depth c.args.ts.now c.args.behind.now c.in_ok-e.rest.now c.in_ok-rest.rest.now (tree_of c.in_ok-e.e) c.requires.begins (omega arith) c.in_ok-e.ensures c.in_ok-rest.ensures
+    group_took c.args.depth c.args.ts.now c.args.behind.now c.in_ok-e.rest.now c.in_ok-rest.rest.now (tree_of c.in_ok-e.e) c.requires.begins (omega arith) c.in_ok-e.ensures c.in_ok-rest.ensures.read
 
 pub worded-returns-in_default : goal.worded-returns-in_default
 worded-returns-in_default m c =
@@ -53,7 +53,7 @@ group-returns-in_err-rest m c =
     let p = err_from_is_err_and c.from_residual-in_err-rest.result c.from_residual-in_err-rest.ensures.1 in
     let d = c.args.depth in
     let e = tree_of c.in_ok-e.e in
-    rw (p.1, p.2) (fails_at (Level 0) (One x.CloseRound) d (d + 1) c.args.ts.now c.in_ok-e.rest.now (λ ps. ps) (λ is. ATree e ∷ is) (λ ps i. group_opens d c.args.ts.now c.args.behind.now c.requires.begins (omega arith) ps i ∙ c.in_ok-e.ensures.goes_on (One x.CloseRound ∷ ps) i) _ c.in_err-rest.ensures)
+    rw (p.1, p.2) (fails_at (Level 0) (One x.CloseRound) d (d + 1) c.args.ts.now c.in_ok-e.rest.now (λ ps. ps) (λ is. ATree e ∷ is) (λ ps i. group_opens d c.args.ts.now c.args.behind.now c.requires.begins (omega arith) ps i ∙ c.in_ok-e.ensures.goes_on (One x.CloseRound ∷ ps) i) _ c.in_err-rest.ensures.read)
 
 pub worded-query-requires : goal.worded-query-requires
 worded-query-requires m c = (search rules, (c.requires.deep, prim_begun (t.Symbol (s.Fixed x.Masked)) c.args.depth c.args.ts.now c.args.behind.now (c.requires.begins ∙ ap (λ y. t.Symbol (s.Fixed y) ∷ c.args.behind.now) c.in-Masked.is) refl refl))

@@ -10,7 +10,7 @@ returns-in_err-e c =
 pub returns-in_err-rest : goal.returns-in_err-rest
 returns-in_err-rest c =
     let p = err_from_is_err_and c.from_residual-in_err-rest.result c.from_residual-in_err-rest.ensures.1 in
-    rw (p.1, p.2) (before_behind _ _ _ _ _ _ _ c.in_ok-e.ensures c.in_err-rest.ensures)
+    rw (p.1, p.2) (before_behind _ _ _ _ _ _ _ c.in_ok-e.ensures c.in_err-rest.ensures.read)
 
 pub returns : goal.returns
-returns c = before_took _ _ _ _ _ _ _ c.in_ok-e.ensures c.in_ok-rest.ensures
+returns c = before_took _ _ _ _ _ _ _ c.in_ok-e.ensures c.in_ok-rest.ensures.read

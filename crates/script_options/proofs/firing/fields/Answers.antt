@@ -28,7 +28,7 @@ returns-in_err-list c =
 pub returns-in_err-last : goal.returns-in_err-last
 returns-in_err-last c =
     let p = err_from_is_err_and c.from_residual-in_err-last.result c.from_residual-in_err-last.ensures.1 in
-    rw (p.1, p.2) (fields_open _ _ _ _ _ _ _ c.in-Some.ensures (omega arith) c.in_ok-list.ensures c.in_err-last.ensures)
+    rw (p.1, p.2) (fields_open _ _ _ _ _ _ _ c.in-Some.ensures (omega arith) c.in_ok-list.ensures c.in_err-last.ensures.read)
 
 pub returns : goal.returns
-returns c = fields_took _ _ _ _ _ (map field_of c.in_ok-list.list.items) c.in-Some.ensures (omega arith) c.in_ok-list.ensures c.in_ok-last.ensures
+returns c = fields_took _ _ _ _ _ (map field_of c.in_ok-list.list.items) c.in-Some.ensures (omega arith) c.in_ok-list.ensures c.in_ok-last.ensures.read

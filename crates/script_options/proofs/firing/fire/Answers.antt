@@ -13,31 +13,31 @@ returns-in_err-event c =
 pub returns-in_err-rest : goal.returns-in_err-rest
 returns-in_err-rest c =
     let p = err_from_is_err_and c.from_residual-in_err-rest.result c.from_residual-in_err-rest.ensures.1 in
-    rw (p.1, p.2) (fails_at _ _ _ _ _ _ _ _ (λ ps i. c.requires.begun.goes_on ps i ∙ c.in_ok-event.ensures.goes_on _ _) _ c.in_err-rest.ensures)
+    rw (p.1, p.2) (fails_at _ _ _ _ _ _ _ _ (λ ps i. c.requires.begun.goes_on ps i ∙ c.in_ok-event.ensures.goes_on _ _) _ c.in_err-rest.ensures.read)
 
 pub returns-in_err-e : goal.returns-in_err-e
 returns-in_err-e c =
     let p = err_from_is_err_and c.from_residual-in_err-e.result c.from_residual-in_err-e.ensures.1 in
-    rw (p.1, p.2) (fails_at _ _ _ _ _ _ _ _ (λ ps i. c.requires.begun.goes_on ps i ∙ c.in_ok-event.ensures.goes_on _ _ ∙ c.in_ok-rest.ensures.goes_on _ _) _ c.in_err-e.ensures)
+    rw (p.1, p.2) (fails_at _ _ _ _ _ _ _ _ (λ ps i. c.requires.begun.goes_on ps i ∙ c.in_ok-event.ensures.goes_on _ _ ∙ c.in_ok-rest.ensures.read.goes_on _ _) _ c.in_err-e.ensures)
 
 pub returns-in_err-service : goal.returns-in_err-service
 returns-in_err-service c =
     let p = err_from_is_err_and c.from_residual-in_err-service.result c.from_residual-in_err-service.ensures.1 in
-    rw (p.1, p.2) (fails_at _ _ _ _ _ _ _ _ (λ ps i. c.requires.begun.goes_on ps i ∙ c.in_ok-event.ensures.goes_on _ _ ∙ c.in_ok-rest.ensures.goes_on _ _ ∙ c.in_ok-e.ensures.goes_on _ _ ∙ made _ _ _ _ _) _ c.in_err-service.ensures)
+    rw (p.1, p.2) (fails_at _ _ _ _ _ _ _ _ (λ ps i. c.requires.begun.goes_on ps i ∙ c.in_ok-event.ensures.goes_on _ _ ∙ c.in_ok-rest.ensures.read.goes_on _ _ ∙ c.in_ok-e.ensures.goes_on _ _ ∙ made _ _ _ _ _) _ c.in_err-service.ensures)
 
 pub returns-in_err-list : goal.returns-in_err-list
 returns-in_err-list c =
     let p = err_from_is_err_and c.from_residual-in_err-list.result c.from_residual-in_err-list.ensures.1 in
-    rw (p.1, p.2) (fails_at _ _ _ _ _ _ _ _ (λ ps i. c.requires.begun.goes_on ps i ∙ c.in_ok-event.ensures.goes_on _ _ ∙ c.in_ok-rest.ensures.goes_on _ _ ∙ c.in_ok-e.ensures.goes_on _ _ ∙ made _ _ _ _ _ ∙ c.in_ok-service.ensures.goes_on _ _) _ c.in_err-list.ensures)
+    rw (p.1, p.2) (fails_at _ _ _ _ _ _ _ _ (λ ps i. c.requires.begun.goes_on ps i ∙ c.in_ok-event.ensures.goes_on _ _ ∙ c.in_ok-rest.ensures.read.goes_on _ _ ∙ c.in_ok-e.ensures.goes_on _ _ ∙ made _ _ _ _ _ ∙ c.in_ok-service.ensures.goes_on _ _) _ c.in_err-list.ensures)
 
 pub returns-in_err-rest-2 : goal.returns-in_err-rest-2
 returns-in_err-rest-2 c =
     let p = err_from_is_err_and c.from_residual-in_err-rest-2.result c.from_residual-in_err-rest-2.ensures.1 in
-    rw (p.1, p.2) (fails_at _ _ _ _ _ _ _ _ (λ ps i. c.requires.begun.goes_on ps i ∙ c.in_ok-event.ensures.goes_on _ _ ∙ c.in_ok-rest.ensures.goes_on _ _ ∙ c.in_ok-e.ensures.goes_on _ _ ∙ made _ _ _ _ _ ∙ c.in_ok-service.ensures.goes_on _ _ ∙ c.in_ok-list.ensures.goes_on _ _) _ c.in_err-rest-2.ensures)
+    rw (p.1, p.2) (fails_at _ _ _ _ _ _ _ _ (λ ps i. c.requires.begun.goes_on ps i ∙ c.in_ok-event.ensures.goes_on _ _ ∙ c.in_ok-rest.ensures.read.goes_on _ _ ∙ c.in_ok-e.ensures.goes_on _ _ ∙ made _ _ _ _ _ ∙ c.in_ok-service.ensures.goes_on _ _ ∙ c.in_ok-list.ensures.goes_on _ _) _ c.in_err-rest-2.ensures.read)
 
 pub returns : goal.returns
 returns c = record {
-  shorter = omega (arith, c.requires.begun.shorter, c.in_ok-event.ensures.shorter, c.in_ok-rest.ensures.shorter, c.in_ok-e.ensures.shorter, c.in_ok-service.ensures.shorter, c.in_ok-list.ensures.shorter, c.in_ok-rest-2.ensures.shorter);
+  shorter = omega (arith, c.requires.begun.shorter, c.in_ok-event.ensures.shorter, c.in_ok-rest.ensures.read.shorter, c.in_ok-e.ensures.shorter, c.in_ok-service.ensures.shorter, c.in_ok-list.ensures.shorter, c.in_ok-rest-2.ensures.read.shorter);
   good_one = rw (c.in_ok-event.ensures.good_one, c.in_ok-e.ensures.good_one, c.in_ok-service.ensures.good_one, c.in_ok-list.ensures.good_one) refl;
-  goes_on = λ ps i. c.requires.begun.goes_on ps i ∙ c.in_ok-event.ensures.goes_on _ _ ∙ c.in_ok-rest.ensures.goes_on _ _ ∙ c.in_ok-e.ensures.goes_on _ _ ∙ made _ _ _ _ _ ∙ c.in_ok-service.ensures.goes_on _ _ ∙ c.in_ok-list.ensures.goes_on _ _ ∙ c.in_ok-rest-2.ensures.goes_on _ _ ∙ ap (λ l. verdict ps l c.args.depth c.in_ok-rest-2.rest.now) (fired_with_all _ _ _ _ i);
+  goes_on = λ ps i. c.requires.begun.goes_on ps i ∙ c.in_ok-event.ensures.goes_on _ _ ∙ c.in_ok-rest.ensures.read.goes_on _ _ ∙ c.in_ok-e.ensures.goes_on _ _ ∙ made _ _ _ _ _ ∙ c.in_ok-service.ensures.goes_on _ _ ∙ c.in_ok-list.ensures.goes_on _ _ ∙ c.in_ok-rest-2.ensures.read.goes_on _ _ ∙ ap (λ l. verdict ps l c.args.depth c.in_ok-rest-2.rest.now) (fired_with_all _ _ _ _ i);
 }

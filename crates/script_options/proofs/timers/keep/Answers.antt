@@ -6,13 +6,13 @@ use Rattle.script_options.proofs.Options.{skip_keep}
 use Rattle.script_options.proofs.Parts.{left_out, keep_took, keep_fails}
 use Rattle.script_options.proofs.timers.keep.Goals as goal
 
-pub returns-in_default : goal.returns-in_default
-returns-in_default c = left_out MoreKeep _ _ (keep_set None) true (λ ps i. skip_keep ps i c.args.depth c.args.ts.now c.in_default.ensures) (λ i. refl) refl
+pub returns-in_default-clause-read : goal.returns-in_default-clause-read
+returns-in_default-clause-read c = left_out MoreKeep _ _ (keep_set None) true (λ ps i. skip_keep ps i c.args.depth c.args.ts.now c.in_default.ensures) (λ i. refl) refl
 
-pub returns-in_err-keep : goal.returns-in_err-keep
-returns-in_err-keep c =
+pub returns-in_err-keep-clause-read : goal.returns-in_err-keep-clause-read
+returns-in_err-keep-clause-read c =
     let p = err_from_is_err_and c.from_residual.result c.from_residual.ensures.1 in
-    rw (p.1, p.2) (keep_fails _ _ _ _ c.in-Some.ensures c.in_err-keep.ensures)
+    rw (p.1, p.2) (keep_fails _ _ _ _ c.in-Some.ensures c.in_err-keep.ensures.read)
 
-pub returns : goal.returns
-returns c = keep_took _ _ _ _ _ c.in-Some.ensures c.in_ok-keep.ensures
+pub returns-clause-read : goal.returns-clause-read
+returns-clause-read c = keep_took _ _ _ _ _ c.in-Some.ensures c.in_ok-keep.ensures.read

@@ -14,36 +14,36 @@ returns-in_err-name c =
 pub returns-in_err-rest : goal.returns-in_err-rest
 returns-in_err-rest c =
     let p = err_from_is_err_and c.from_residual-in_err-rest.result c.from_residual-in_err-rest.ensures.1 in
-    rw (p.1, p.2) (fails_at _ _ _ _ _ _ _ _ (λ ps i. c.requires.begun.goes_on ps i ∙ c.in_ok-name.ensures.goes_on _ _) _ c.in_err-rest.ensures)
+    rw (p.1, p.2) (fails_at _ _ _ _ _ _ _ _ (λ ps i. c.requires.begun.goes_on ps i ∙ c.in_ok-name.ensures.goes_on _ _) _ c.in_err-rest.ensures.read)
 
 pub returns-in_err-activity : goal.returns-in_err-activity
 returns-in_err-activity c =
     let p = err_from_is_err_and c.from_residual-in_err-activity.result c.from_residual-in_err-activity.ensures.1 in
-    rw (p.1, p.2) (fails_before _ _ _ _ _ _ _ _ (λ ps i. c.requires.begun.goes_on ps i ∙ c.in_ok-name.ensures.goes_on _ _ ∙ c.in_ok-rest.ensures.goes_on _ _) _ c.in_err-activity.ensures)
+    rw (p.1, p.2) (fails_before _ _ _ _ _ _ _ _ (λ ps i. c.requires.begun.goes_on ps i ∙ c.in_ok-name.ensures.goes_on _ _ ∙ c.in_ok-rest.ensures.read.goes_on _ _) _ c.in_err-activity.ensures)
 
 pub returns-in_err-start : goal.returns-in_err-start
 returns-in_err-start c =
     let p = err_from_is_err_and c.from_residual-in_err-start.result c.from_residual-in_err-start.ensures.1 in
-    rw (p.1, p.2) (fails_at _ _ _ _ _ _ _ _ (λ ps i. c.requires.begun.goes_on ps i ∙ c.in_ok-name.ensures.goes_on _ _ ∙ c.in_ok-rest.ensures.goes_on _ _ ∙ c.in_ok-activity.ensures.goes_on _ _) _ c.in_err-start.ensures)
+    rw (p.1, p.2) (fails_at _ _ _ _ _ _ _ _ (λ ps i. c.requires.begun.goes_on ps i ∙ c.in_ok-name.ensures.goes_on _ _ ∙ c.in_ok-rest.ensures.read.goes_on _ _ ∙ c.in_ok-activity.ensures.goes_on _ _) _ c.in_err-start.ensures)
 
 pub returns-in_err-repeat : goal.returns-in_err-repeat
 returns-in_err-repeat c =
     let p = err_from_is_err_and c.from_residual-in_err-repeat.result c.from_residual-in_err-repeat.ensures.1 in
-    rw (p.1, p.2) (fails_at _ _ _ _ _ _ _ _ (λ ps i. c.requires.begun.goes_on ps i ∙ c.in_ok-name.ensures.goes_on _ _ ∙ c.in_ok-rest.ensures.goes_on _ _ ∙ c.in_ok-activity.ensures.goes_on _ _ ∙ c.in_ok-start.ensures.goes_on _ _ ∙ made _ _ _ _ _) _ c.in_err-repeat.ensures)
+    rw (p.1, p.2) (fails_at _ _ _ _ _ _ _ _ (λ ps i. c.requires.begun.goes_on ps i ∙ c.in_ok-name.ensures.goes_on _ _ ∙ c.in_ok-rest.ensures.read.goes_on _ _ ∙ c.in_ok-activity.ensures.goes_on _ _ ∙ c.in_ok-start.ensures.goes_on _ _ ∙ made _ _ _ _ _) _ c.in_err-repeat.ensures)
 
 pub returns-in_err-keep : goal.returns-in_err-keep
 returns-in_err-keep c =
     let p = err_from_is_err_and c.from_residual-in_err-keep.result c.from_residual-in_err-keep.ensures.1 in
-    rw (p.1, p.2) (fails_at _ _ _ _ _ _ _ _ (λ ps i. c.requires.begun.goes_on ps i ∙ c.in_ok-name.ensures.goes_on _ _ ∙ c.in_ok-rest.ensures.goes_on _ _ ∙ c.in_ok-activity.ensures.goes_on _ _ ∙ c.in_ok-start.ensures.goes_on _ _ ∙ made _ _ _ _ _ ∙ c.in_ok-repeat.ensures.goes_on _ _) _ c.in_err-keep.ensures)
+    rw (p.1, p.2) (fails_at _ _ _ _ _ _ _ _ (λ ps i. c.requires.begun.goes_on ps i ∙ c.in_ok-name.ensures.goes_on _ _ ∙ c.in_ok-rest.ensures.read.goes_on _ _ ∙ c.in_ok-activity.ensures.goes_on _ _ ∙ c.in_ok-start.ensures.goes_on _ _ ∙ made _ _ _ _ _ ∙ c.in_ok-repeat.ensures.goes_on _ _) _ c.in_err-keep.ensures.read)
 
 pub returns-in_err-rest-2 : goal.returns-in_err-rest-2
 returns-in_err-rest-2 c =
     let p = err_from_is_err_and c.from_residual-in_err-rest-2.result c.from_residual-in_err-rest-2.ensures.1 in
-    rw (p.1, p.2) (fails_at _ _ _ _ _ _ _ _ (λ ps i. c.requires.begun.goes_on ps i ∙ c.in_ok-name.ensures.goes_on _ _ ∙ c.in_ok-rest.ensures.goes_on _ _ ∙ c.in_ok-activity.ensures.goes_on _ _ ∙ c.in_ok-start.ensures.goes_on _ _ ∙ made _ _ _ _ _ ∙ c.in_ok-repeat.ensures.goes_on _ _ ∙ c.in_ok-keep.ensures.goes_on _ _) _ c.in_err-rest-2.ensures)
+    rw (p.1, p.2) (fails_at _ _ _ _ _ _ _ _ (λ ps i. c.requires.begun.goes_on ps i ∙ c.in_ok-name.ensures.goes_on _ _ ∙ c.in_ok-rest.ensures.read.goes_on _ _ ∙ c.in_ok-activity.ensures.goes_on _ _ ∙ c.in_ok-start.ensures.goes_on _ _ ∙ made _ _ _ _ _ ∙ c.in_ok-repeat.ensures.goes_on _ _ ∙ c.in_ok-keep.ensures.read.goes_on _ _) _ c.in_err-rest-2.ensures.read)
 
 pub returns : goal.returns
 returns c = rw (c.in_ok-new.ensures.ok, c.into_inner.ensures, c.into_inner-2.ensures, c.unboxed.ensures) (record {
-  shorter = omega (arith, c.requires.begun.shorter, c.in_ok-name.ensures.shorter, c.in_ok-rest.ensures.shorter, c.in_ok-activity.ensures.shorter, c.in_ok-start.ensures.shorter, c.in_ok-repeat.ensures.shorter, c.in_ok-keep.ensures.shorter, c.in_ok-rest-2.ensures.shorter);
-  good_one = rw (c.in_ok-name.ensures.good_one, c.in_ok-activity.ensures.good_one, c.in_ok-start.ensures.good_one, c.in_ok-repeat.ensures.good_one, c.in_ok-keep.ensures.good_one) refl;
-  goes_on = λ ps i. c.requires.begun.goes_on ps i ∙ c.in_ok-name.ensures.goes_on _ _ ∙ c.in_ok-rest.ensures.goes_on _ _ ∙ c.in_ok-activity.ensures.goes_on _ _ ∙ c.in_ok-start.ensures.goes_on _ _ ∙ made _ _ _ _ _ ∙ c.in_ok-repeat.ensures.goes_on _ _ ∙ c.in_ok-keep.ensures.goes_on _ _ ∙ c.in_ok-rest-2.ensures.goes_on _ _ ∙ ap (λ l. verdict ps l c.args.depth c.in_ok-rest-2.rest.now) (timer_with_all _ _ _ _ _ i);
+  shorter = omega (arith, c.requires.begun.shorter, c.in_ok-name.ensures.shorter, c.in_ok-rest.ensures.read.shorter, c.in_ok-activity.ensures.shorter, c.in_ok-start.ensures.shorter, c.in_ok-repeat.ensures.shorter, c.in_ok-keep.ensures.read.shorter, c.in_ok-rest-2.ensures.read.shorter);
+  good_one = rw (c.in_ok-name.ensures.good_one, c.in_ok-activity.ensures.good_one, c.in_ok-start.ensures.good_one, c.in_ok-repeat.ensures.good_one, c.in_ok-keep.ensures.read.good_one) refl;
+  goes_on = λ ps i. c.requires.begun.goes_on ps i ∙ c.in_ok-name.ensures.goes_on _ _ ∙ c.in_ok-rest.ensures.read.goes_on _ _ ∙ c.in_ok-activity.ensures.goes_on _ _ ∙ c.in_ok-start.ensures.goes_on _ _ ∙ made _ _ _ _ _ ∙ c.in_ok-repeat.ensures.goes_on _ _ ∙ c.in_ok-keep.ensures.read.goes_on _ _ ∙ c.in_ok-rest-2.ensures.read.goes_on _ _ ∙ ap (λ l. verdict ps l c.args.depth c.in_ok-rest-2.rest.now) (timer_with_all _ _ _ _ _ i);
 })

@@ -7,26 +7,26 @@ use Rattle.script_statement.proofs.assignments.field.Goals as goal
 pub returns-in_err-rest : goal.returns-in_err-rest
 returns-in_err-rest c =
     let p = err_from_is_err_and c.from_residual.result c.from_residual.ensures.1 in
-    rw (p.1, p.2) (fails_at _ _ _ _ _ _ _ _ (λ ps i. c.requires.begun.goes_on ps i) _ c.in_err-rest.ensures)
+    rw (p.1, p.2) (fails_at _ _ _ _ _ _ _ _ (λ ps i. c.requires.begun.goes_on ps i) _ c.in_err-rest.ensures.read)
 
 pub returns-in_err-name : goal.returns-in_err-name
 returns-in_err-name c =
     let p = err_from_is_err_and c.from_residual-in_err-name.result c.from_residual-in_err-name.ensures.1 in
-    rw (p.1, p.2) (fails_at _ _ _ _ _ _ _ _ (λ ps i. c.requires.begun.goes_on ps i ∙ c.in_ok-rest.ensures.goes_on _ _) _ c.in_err-name.ensures)
+    rw (p.1, p.2) (fails_at _ _ _ _ _ _ _ _ (λ ps i. c.requires.begun.goes_on ps i ∙ c.in_ok-rest.ensures.read.goes_on _ _) _ c.in_err-name.ensures)
 
 pub returns-in_err-rest-2 : goal.returns-in_err-rest-2
 returns-in_err-rest-2 c =
     let p = err_from_is_err_and c.from_residual-in_err-rest-2.result c.from_residual-in_err-rest-2.ensures.1 in
-    rw (p.1, p.2) (fails_at _ _ _ _ _ _ _ _ (λ ps i. c.requires.begun.goes_on ps i ∙ c.in_ok-rest.ensures.goes_on _ _ ∙ c.in_ok-name.ensures.goes_on _ _) _ c.in_err-rest-2.ensures)
+    rw (p.1, p.2) (fails_at _ _ _ _ _ _ _ _ (λ ps i. c.requires.begun.goes_on ps i ∙ c.in_ok-rest.ensures.read.goes_on _ _ ∙ c.in_ok-name.ensures.goes_on _ _) _ c.in_err-rest-2.ensures.read)
 
 pub returns-in_err-e : goal.returns-in_err-e
 returns-in_err-e c =
     let p = err_from_is_err_and c.from_residual-in_err-e.result c.from_residual-in_err-e.ensures.1 in
-    rw (p.1, p.2) (fails_making _ _ _ _ _ _ _ _ _ (λ ps i. c.requires.begun.goes_on ps i ∙ c.in_ok-rest.ensures.goes_on _ _ ∙ c.in_ok-name.ensures.goes_on _ _ ∙ c.in_ok-rest-2.ensures.goes_on _ _) _ c.in_err-e.ensures)
+    rw (p.1, p.2) (fails_making _ _ _ _ _ _ _ _ _ (λ ps i. c.requires.begun.goes_on ps i ∙ c.in_ok-rest.ensures.read.goes_on _ _ ∙ c.in_ok-name.ensures.goes_on _ _ ∙ c.in_ok-rest-2.ensures.read.goes_on _ _) _ c.in_err-e.ensures)
 
 pub returns : goal.returns
 returns c = record {
-  shorter = omega (arith, c.requires.begun.shorter, c.in_ok-rest.ensures.shorter, c.in_ok-name.ensures.shorter, c.in_ok-rest-2.ensures.shorter, c.in_ok-e.ensures.shorter);
+  shorter = omega (arith, c.requires.begun.shorter, c.in_ok-rest.ensures.read.shorter, c.in_ok-name.ensures.shorter, c.in_ok-rest-2.ensures.read.shorter, c.in_ok-e.ensures.shorter);
   good_one = rw (c.in_ok-name.ensures.good_one, c.in_ok-e.ensures.good_one) refl;
-  goes_on = λ ps i. c.requires.begun.goes_on ps i ∙ c.in_ok-rest.ensures.goes_on _ _ ∙ c.in_ok-name.ensures.goes_on _ _ ∙ c.in_ok-rest-2.ensures.goes_on _ _ ∙ c.in_ok-e.ensures.makes _ _ _;
+  goes_on = λ ps i. c.requires.begun.goes_on ps i ∙ c.in_ok-rest.ensures.read.goes_on _ _ ∙ c.in_ok-name.ensures.goes_on _ _ ∙ c.in_ok-rest-2.ensures.read.goes_on _ _ ∙ c.in_ok-e.ensures.makes _ _ _;
 }

@@ -14,33 +14,33 @@ returns-in_err-relation c =
 pub returns-in_err-rest : goal.returns-in_err-rest
 returns-in_err-rest c =
     let p = err_from_is_err_and c.from_residual-in_err-rest.result c.from_residual-in_err-rest.ensures.1 in
-    rw (p.1, p.2) (fails_at _ _ _ _ _ _ _ _ (λ ps i. c.requires.begun.goes_on ps i ∙ c.in_ok-relation.ensures.goes_on _ _) _ c.in_err-rest.ensures)
+    rw (p.1, p.2) (fails_at _ _ _ _ _ _ _ _ (λ ps i. c.requires.begun.goes_on ps i ∙ c.in_ok-relation.ensures.goes_on _ _) _ c.in_err-rest.ensures.read)
 
 pub returns-in_err-child : goal.returns-in_err-child
 returns-in_err-child c =
     let p = err_from_is_err_and c.from_residual-in_err-child.result c.from_residual-in_err-child.ensures.1 in
-    rw (p.1, p.2) (fails_at _ _ _ _ _ _ _ _ (λ ps i. c.requires.begun.goes_on ps i ∙ c.in_ok-relation.ensures.goes_on _ _ ∙ c.in_ok-rest.ensures.goes_on _ _) _ c.in_err-child.ensures)
+    rw (p.1, p.2) (fails_at _ _ _ _ _ _ _ _ (λ ps i. c.requires.begun.goes_on ps i ∙ c.in_ok-relation.ensures.goes_on _ _ ∙ c.in_ok-rest.ensures.read.goes_on _ _) _ c.in_err-child.ensures)
 
 pub returns-in_err-last : goal.returns-in_err-last
 returns-in_err-last c =
     let p = err_from_is_err_and c.from_residual-in_err-last.result c.from_residual-in_err-last.ensures.1 in
-    rw (p.1, p.2) (fails_at _ _ _ _ _ _ _ _ (λ ps i. c.requires.begun.goes_on ps i ∙ c.in_ok-relation.ensures.goes_on _ _ ∙ c.in_ok-rest.ensures.goes_on _ _ ∙ c.in_ok-child.ensures.goes_on _ _ ∙ made _ _ _ _ _ ∙ skip_priority _ _ _ _ c.in_default.ensures) _ c.in_err-last.ensures)
+    rw (p.1, p.2) (fails_at _ _ _ _ _ _ _ _ (λ ps i. c.requires.begun.goes_on ps i ∙ c.in_ok-relation.ensures.goes_on _ _ ∙ c.in_ok-rest.ensures.read.goes_on _ _ ∙ c.in_ok-child.ensures.goes_on _ _ ∙ made _ _ _ _ _ ∙ skip_priority _ _ _ _ c.in_default.ensures) _ c.in_err-last.ensures.read)
 
 pub returns-in_err-e : goal.returns-in_err-e
 returns-in_err-e c =
     let p = err_from_is_err_and c.from_residual-in_err-e.result c.from_residual-in_err-e.ensures.1 in
-    rw (p.1, p.2) (fails_making _ _ _ _ _ _ _ _ _ (λ ps i. c.requires.begun.goes_on ps i ∙ c.in_ok-relation.ensures.goes_on _ _ ∙ c.in_ok-rest.ensures.goes_on _ _ ∙ c.in_ok-child.ensures.goes_on _ _ ∙ made _ _ _ _ _ ∙ more_priority _ _ _ _ _ c.in-Some.ensures) _ c.in_err-e.ensures)
+    rw (p.1, p.2) (fails_making _ _ _ _ _ _ _ _ _ (λ ps i. c.requires.begun.goes_on ps i ∙ c.in_ok-relation.ensures.goes_on _ _ ∙ c.in_ok-rest.ensures.read.goes_on _ _ ∙ c.in_ok-child.ensures.goes_on _ _ ∙ made _ _ _ _ _ ∙ more_priority _ _ _ _ _ c.in-Some.ensures) _ c.in_err-e.ensures)
 
 pub returns-in_default : goal.returns-in_default
 returns-in_default c = record {
-  shorter = omega (arith, c.requires.begun.shorter, c.in_ok-relation.ensures.shorter, c.in_ok-rest.ensures.shorter, c.in_ok-child.ensures.shorter, c.in_ok-last.ensures.shorter);
+  shorter = omega (arith, c.requires.begun.shorter, c.in_ok-relation.ensures.shorter, c.in_ok-rest.ensures.read.shorter, c.in_ok-child.ensures.shorter, c.in_ok-last.ensures.read.shorter);
   good_one = and_join _ _ c.in_ok-relation.ensures.good_one (and_join _ _ c.in_ok-child.ensures.good_one refl);
-  goes_on = λ ps i. c.requires.begun.goes_on ps i ∙ c.in_ok-relation.ensures.goes_on _ _ ∙ c.in_ok-rest.ensures.goes_on _ _ ∙ c.in_ok-child.ensures.goes_on _ _ ∙ made _ _ _ _ _ ∙ skip_priority _ _ _ _ c.in_default.ensures ∙ c.in_ok-last.ensures.goes_on _ _;
+  goes_on = λ ps i. c.requires.begun.goes_on ps i ∙ c.in_ok-relation.ensures.goes_on _ _ ∙ c.in_ok-rest.ensures.read.goes_on _ _ ∙ c.in_ok-child.ensures.goes_on _ _ ∙ made _ _ _ _ _ ∙ skip_priority _ _ _ _ c.in_default.ensures ∙ c.in_ok-last.ensures.read.goes_on _ _;
 }
 
 pub returns : goal.returns
 returns c = record {
-  shorter = omega (arith, c.requires.begun.shorter, c.in_ok-relation.ensures.shorter, c.in_ok-rest.ensures.shorter, c.in_ok-child.ensures.shorter, ap length c.in-Some.ensures, c.in_ok-e.ensures.shorter);
+  shorter = omega (arith, c.requires.begun.shorter, c.in_ok-relation.ensures.shorter, c.in_ok-rest.ensures.read.shorter, c.in_ok-child.ensures.shorter, ap length c.in-Some.ensures, c.in_ok-e.ensures.shorter);
   good_one = and_join _ _ c.in_ok-relation.ensures.good_one (and_join _ _ c.in_ok-child.ensures.good_one c.in_ok-e.ensures.good_one);
-  goes_on = λ ps i. c.requires.begun.goes_on ps i ∙ c.in_ok-relation.ensures.goes_on _ _ ∙ c.in_ok-rest.ensures.goes_on _ _ ∙ c.in_ok-child.ensures.goes_on _ _ ∙ made _ _ _ _ _ ∙ more_priority _ _ _ _ _ c.in-Some.ensures ∙ c.in_ok-e.ensures.makes _ _ _;
+  goes_on = λ ps i. c.requires.begun.goes_on ps i ∙ c.in_ok-relation.ensures.goes_on _ _ ∙ c.in_ok-rest.ensures.read.goes_on _ _ ∙ c.in_ok-child.ensures.goes_on _ _ ∙ made _ _ _ _ _ ∙ more_priority _ _ _ _ _ c.in-Some.ensures ∙ c.in_ok-e.ensures.makes _ _ _;
 }

@@ -11,11 +11,11 @@ returns-in_err-child c =
 pub returns-in_err-rest : goal.returns-in_err-rest
 returns-in_err-rest c =
     let p = err_from_is_err_and c.from_residual-in_err-rest.result c.from_residual-in_err-rest.ensures.1 in
-    rw (p.1, p.2) (fails_at _ _ _ _ _ _ _ _ (λ ps i. c.requires.begun.goes_on ps i ∙ c.in_ok-child.ensures.goes_on _ _ ∙ made _ _ _ _ _) _ c.in_err-rest.ensures)
+    rw (p.1, p.2) (fails_at _ _ _ _ _ _ _ _ (λ ps i. c.requires.begun.goes_on ps i ∙ c.in_ok-child.ensures.goes_on _ _ ∙ made _ _ _ _ _) _ c.in_err-rest.ensures.read)
 
 pub returns : goal.returns
 returns c = record {
-  shorter = omega (arith, c.requires.begun.shorter, c.in_ok-child.ensures.shorter, c.in_ok-rest.ensures.shorter);
+  shorter = omega (arith, c.requires.begun.shorter, c.in_ok-child.ensures.shorter, c.in_ok-rest.ensures.read.shorter);
   good_one = c.in_ok-child.ensures.good_one;
-  goes_on = λ ps i. c.requires.begun.goes_on ps i ∙ c.in_ok-child.ensures.goes_on _ _ ∙ made _ _ _ _ _ ∙ c.in_ok-rest.ensures.goes_on _ _;
+  goes_on = λ ps i. c.requires.begun.goes_on ps i ∙ c.in_ok-child.ensures.goes_on _ _ ∙ made _ _ _ _ _ ∙ c.in_ok-rest.ensures.read.goes_on _ _;
 }
