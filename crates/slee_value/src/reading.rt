@@ -1,4 +1,4 @@
-ghost use Rattle.std.specs.Prelude.{◌≡◌, ℕ, ◌+◌, ◌<◌, ◌≤◌, List, length, take, drop, OnOk, IfOk, IfErr, IfSome, ◌++◌};
+ghost use Rattle.std.specs.Prelude.{◌≡◌, ◌≢◌, ℕ, ◌+◌, ◌<◌, ◌≤◌, List, length, take, drop, OnOk, IfOk, IfErr, IfSome, ◌++◌, slice_get, Some, Err};
 ghost use Rattle.std.specs.Int.{w32, w64};
 ghost use Rattle.std.specs.Str.Lossy.{utf8_valid_len, utf8_error_len};
 ghost use Rattle.slee_value.specs.declared.value.Value.{Value as ValueModel};
@@ -12,39 +12,36 @@ use std::str;
 
 /// The number of 32 bits at the front, and the bytes behind it.
 pub fn read_u32(bytes: &[u8]) -> Result<(u32, &[u8]), PartFault>
-    ensures { Gives (λ x. (x.0, x.1.now)) result (number_at w32 bytes.now) }
+    ensures part { Gives (λ x. (x.0, x.1.now)) result (number_at w32 bytes.now) }
+    ensures memory { result ≢ Err PartFault.NoMemory }
 {
-    if bytes.len() < 4 {
+    let Some((number, rest)) = bytes.split_first_chunk::<4>() else {
         return Err(PartFault::Bad {
             left: 0,
             kind: ValueBad::Short,
         });
-    }
-    let (front, rest) = bytes.split_at(4);
-    let number = u32::from_le_bytes([front[0], front[1], front[2], front[3]]);
-    Ok((number, rest))
+    };
+    Ok((u32::from_le_bytes(*number), rest))
 }
 
 /// The number of 64 bits at the front, and the bytes behind it.
 pub fn read_u64(bytes: &[u8]) -> Result<(u64, &[u8]), PartFault>
-    ensures { Gives (λ x. (x.0, x.1.now)) result (number_at w64 bytes.now) }
+    ensures part { Gives (λ x. (x.0, x.1.now)) result (number_at w64 bytes.now) }
+    ensures memory { result ≢ Err PartFault.NoMemory }
 {
-    if bytes.len() < 8 {
+    let Some((number, rest)) = bytes.split_first_chunk::<8>() else {
         return Err(PartFault::Bad {
             left: 0,
             kind: ValueBad::Short,
         });
-    }
-    let (front, rest) = bytes.split_at(8);
-    let number = u64::from_le_bytes([
-        front[0], front[1], front[2], front[3], front[4], front[5], front[6], front[7],
-    ]);
-    Ok((number, rest))
+    };
+    Ok((u64::from_le_bytes(*number), rest))
 }
 
 /// The flag at the front, and the bytes behind it.
 pub fn read_flag(bytes: &[u8]) -> Result<(bool, &[u8]), PartFault>
-    ensures { Gives (λ x. (x.0, x.1.now)) result (flag_at bytes.now) }
+    ensures part { Gives (λ x. (x.0, x.1.now)) result (flag_at bytes.now) }
+    ensures memory { result ≢ Err PartFault.NoMemory }
 {
     match bytes {
         [] => Err(PartFault::Bad {
@@ -162,6 +159,8 @@ pub fn read_value(alloc: Global, bytes: &[u8]) -> Result<(Value, usize), ValueFa
     ensures place { IfErr result (λ e. StandsRight bytes.now e) }
     // Which value or fault it is.
     ensures exact { Answers bytes.now result }
+    // Memory can run out for a text alone.
+    ensures memory { result ≡ Err ValueFault.NoMemory → slice_get bytes.now 0 ≡ Some 1 }
 {
     match read_part(alloc, bytes) {
         Ok((value, rest)) => Ok((value, bytes.len() - rest.len())),
@@ -175,7 +174,9 @@ pub fn read_value(alloc: Global, bytes: &[u8]) -> Result<(Value, usize), ValueFa
 
 /// The value at the front, and the bytes behind it.
 pub fn read_part(alloc: Global, bytes: &[u8]) -> Result<(Value, &[u8]), PartFault>
-    ensures { Gives (λ x. (x.0, x.1.now)) result (value_at bytes.now) }
+    ensures part { Gives (λ x. (x.0, x.1.now)) result (value_at bytes.now) }
+    // Memory can run out for a text alone.
+    ensures memory { result ≡ Err PartFault.NoMemory → slice_get bytes.now 0 ≡ Some 1 }
 {
     match bytes {
         [] => Err(PartFault::Bad {
