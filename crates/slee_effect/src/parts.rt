@@ -1,4 +1,4 @@
-ghost use Rattle.std.specs.Prelude.{◌≡◌};
+ghost use Rattle.std.specs.Prelude.{◌≡◌, ◌≢◌, Err};
 ghost use Rattle.std.specs.Int.{w64};
 ghost use Rattle.slee_value.specs.Reading.{Gives, pair, number_at, i64_at, flag_at, text_at};
 ghost use Rattle.slee_effect.specs.Reading.{i8_at, keep_at, option_at, ref_at, val_at, fields_at};
@@ -45,7 +45,8 @@ pub(crate) fn read_creation(
 }
 
 pub(crate) fn read_priority(bytes: &[u8]) -> Result<((Ref, i8), &[u8]), PartFault>
-    ensures { Gives (λ x. (x.0, x.1.now)) result (pair ref_at i8_at bytes.now) }
+    ensures part { Gives (λ x. (x.0, x.1.now)) result (pair ref_at i8_at bytes.now) }
+    ensures memory { result ≢ Err PartFault.NoMemory }
 {
     let (one, rest) = read_ref(bytes)?;
     let (priority, rest) = read_i8(rest)?;
@@ -53,7 +54,8 @@ pub(crate) fn read_priority(bytes: &[u8]) -> Result<((Ref, i8), &[u8]), PartFaul
 }
 
 pub(crate) fn read_two(bytes: &[u8]) -> Result<((Ref, Ref), &[u8]), PartFault>
-    ensures { Gives (λ x. (x.0, x.1.now)) result (pair ref_at ref_at bytes.now) }
+    ensures part { Gives (λ x. (x.0, x.1.now)) result (pair ref_at ref_at bytes.now) }
+    ensures memory { result ≢ Err PartFault.NoMemory }
 {
     let (one, rest) = read_ref(bytes)?;
     let (other, rest) = read_ref(rest)?;
@@ -89,7 +91,8 @@ pub(crate) fn read_fire(
 pub(crate) fn read_timer(
     bytes: &[u8],
 ) -> Result<((Ref, (u64, (u64, (u64, Keep)))), &[u8]), PartFault>
-    ensures { Gives (λ x. (x.0, x.1.now)) result (pair ref_at (pair (number_at w64) (pair (number_at w64) (pair (number_at w64) keep_at))) bytes.now) }
+    ensures part { Gives (λ x. (x.0, x.1.now)) result (pair ref_at (pair (number_at w64) (pair (number_at w64) (pair (number_at w64) keep_at))) bytes.now) }
+    ensures memory { result ≢ Err PartFault.NoMemory }
 {
     let (one, rest) = read_ref(bytes)?;
     let (start, rest) = read_u64(rest)?;
@@ -120,7 +123,8 @@ pub(crate) fn read_usage(
 }
 
 pub(crate) fn read_ref(bytes: &[u8]) -> Result<(Ref, &[u8]), PartFault>
-    ensures { Gives (λ x. (x.0, x.1.now)) result (ref_at bytes.now) }
+    ensures part { Gives (λ x. (x.0, x.1.now)) result (ref_at bytes.now) }
+    ensures memory { result ≢ Err PartFault.NoMemory }
 {
     match bytes {
         [] => Err(PartFault::Bad {
@@ -190,7 +194,8 @@ pub(crate) fn read_option(alloc: Global, bytes: &[u8]) -> Result<(Option<Text>, 
 }
 
 pub(crate) fn read_keep(bytes: &[u8]) -> Result<(Keep, &[u8]), PartFault>
-    ensures { Gives (λ x. (x.0, x.1.now)) result (keep_at bytes.now) }
+    ensures part { Gives (λ x. (x.0, x.1.now)) result (keep_at bytes.now) }
+    ensures memory { result ≢ Err PartFault.NoMemory }
 {
     match bytes {
         [] => Err(PartFault::Bad {
@@ -208,7 +213,8 @@ pub(crate) fn read_keep(bytes: &[u8]) -> Result<(Keep, &[u8]), PartFault>
 }
 
 pub(crate) fn read_i8(bytes: &[u8]) -> Result<(i8, &[u8]), PartFault>
-    ensures { Gives (λ x. (x.0, x.1.now)) result (i8_at bytes.now) }
+    ensures part { Gives (λ x. (x.0, x.1.now)) result (i8_at bytes.now) }
+    ensures memory { result ≢ Err PartFault.NoMemory }
 {
     match bytes {
         [] => Err(PartFault::Bad {
@@ -220,7 +226,8 @@ pub(crate) fn read_i8(bytes: &[u8]) -> Result<(i8, &[u8]), PartFault>
 }
 
 pub(crate) fn read_i64(bytes: &[u8]) -> Result<(i64, &[u8]), PartFault>
-    ensures { Gives (λ x. (x.0, x.1.now)) result (i64_at bytes.now) }
+    ensures part { Gives (λ x. (x.0, x.1.now)) result (i64_at bytes.now) }
+    ensures memory { result ≢ Err PartFault.NoMemory }
 {
     let (number, rest) = read_u64(bytes)?;
     Ok((number.cast_signed(), rest))
