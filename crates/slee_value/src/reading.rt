@@ -1,4 +1,4 @@
-ghost use Rattle.std.specs.Prelude.{◌≡◌, ◌≢◌, ℕ, ◌+◌, ◌<◌, ◌≤◌, List, length, take, drop, OnOk, IfOk, IfErr, IfSome, ◌++◌, slice_get, Some, Err};
+ghost use Rattle.std.specs.Prelude.{◌≡◌, ◌≢◌, ℕ, ◌+◌, ◌<◌, ◌≤◌, List, length, take, drop, OnOk, IfOk, IfErr, IfSome, ◌++◌, slice_get, None, Some, Err, IsOk};
 ghost use Rattle.std.specs.Int.{w32, w64};
 ghost use Rattle.std.specs.Str.Lossy.{utf8_valid_len, utf8_error_len};
 ghost use Rattle.slee_value.specs.declared.value.Value.{Value as ValueModel};
@@ -60,7 +60,9 @@ pub fn read_flag(bytes: &[u8]) -> Result<(bool, &[u8]), PartFault>
 /// The text at the front, its length first, and the bytes behind it.
 #[tactic(auto, unfolding(crate::specs::Reading::text_at))]
 pub fn read_text(alloc: Global, bytes: &[u8]) -> Result<(Text, &[u8]), PartFault>
-    ensures { Gives (λ x. (x.0, x.1.now)) result (text_at bytes.now) }
+    ensures part { Gives (λ x. (x.0, x.1.now)) result (text_at bytes.now) }
+    // Memory can run out only where a text stands.
+    ensures memory { result ≡ Err PartFault.NoMemory → IsOk (text_at bytes.now) }
 {
     let (len, rest) = read_u32(bytes)?;
     let len = len as usize;
@@ -71,6 +73,7 @@ pub fn read_text(alloc: Global, bytes: &[u8]) -> Result<(Text, &[u8]), PartFault
 fn text_of(alloc: Global, len: usize, bytes: &[u8]) -> Result<Text, PartFault>
     ensures text { Gives (λ x. x) result (unless_fault (text_fault len bytes.now) (take len bytes.now)) }
     ensures bound { OnOk result (len ≤ length bytes.now) }
+    ensures memory { result ≡ Err PartFault.NoMemory → text_fault len bytes.now ≡ None }
 {
     let front = front_of(bytes, len);
     match str::from_utf8(front) {
@@ -103,7 +106,8 @@ fn front_of(bytes: &[u8], len: usize) -> &[u8]
 
 fn fault_at(good: usize, len: usize) -> PartFault
     requires { good ≤ len }
-    ensures { Fails {Y = List ℕ} result (Err (fault_behind good len)) }
+    ensures fault { Fails {Y = List ℕ} result (Err (fault_behind good len)) }
+    ensures memory { result ≢ PartFault.NoMemory }
 {
     if good == len {
         PartFault::Bad {
@@ -159,8 +163,8 @@ pub fn read_value(alloc: Global, bytes: &[u8]) -> Result<(Value, usize), ValueFa
     ensures place { IfErr result (λ e. StandsRight bytes.now e) }
     // Which value or fault it is.
     ensures exact { Answers bytes.now result }
-    // Memory can run out for a text alone.
-    ensures memory { result ≡ Err ValueFault.NoMemory → slice_get bytes.now 0 ≡ Some 1 }
+    // Memory can run out only where a text stands.
+    ensures memory { result ≡ Err ValueFault.NoMemory → (slice_get bytes.now 0 ≡ Some 1) × IsOk (value_at bytes.now) }
 {
     match read_part(alloc, bytes) {
         Ok((value, rest)) => Ok((value, bytes.len() - rest.len())),
@@ -175,8 +179,8 @@ pub fn read_value(alloc: Global, bytes: &[u8]) -> Result<(Value, usize), ValueFa
 /// The value at the front, and the bytes behind it.
 pub fn read_part(alloc: Global, bytes: &[u8]) -> Result<(Value, &[u8]), PartFault>
     ensures part { Gives (λ x. (x.0, x.1.now)) result (value_at bytes.now) }
-    // Memory can run out for a text alone.
-    ensures memory { result ≡ Err PartFault.NoMemory → slice_get bytes.now 0 ≡ Some 1 }
+    // Memory can run out only where a text stands.
+    ensures memory { result ≡ Err PartFault.NoMemory → (slice_get bytes.now 0 ≡ Some 1) × IsOk (value_at bytes.now) }
 {
     match bytes {
         [] => Err(PartFault::Bad {

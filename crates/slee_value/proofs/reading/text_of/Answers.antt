@@ -4,7 +4,7 @@ use Rattle.slee_value.proofs.TextLemmas.{text_bad, text_short, text_whole}
 use Rattle.slee_value.proofs.reading.text_of.Goals as goal
 
 pub returns-in-Err-clause-text : goal.returns-in-Err-clause-text
-returns-in-Err-clause-text c = text_bad c.fault_at.result c.args.len c.good_len_of-good.result c.front_of-front.result.now c.args.bytes.now c.front_of-front.ensures c.in-Err.ensures.cases.0 c.good_len_of-good.ensures.value c.fault_at.ensures
+returns-in-Err-clause-text c = text_bad c.fault_at.result c.args.len c.good_len_of-good.result c.front_of-front.result.now c.args.bytes.now c.front_of-front.ensures c.in-Err.ensures.cases.0 c.good_len_of-good.ensures.value c.fault_at.ensures.fault
 
 pub returns-then-bytes-len-clause-text : goal.returns-then-bytes-len-clause-text
 returns-then-bytes-len-clause-text c =
@@ -13,3 +13,7 @@ returns-then-bytes-len-clause-text c =
 pub returns-in_ok-from_str-in-Ok-clause-text : goal.returns-in_ok-from_str-in-Ok-clause-text
 returns-in_ok-from_str-in-Ok-clause-text c =
     rw (text_whole c.args.len c.front_of-front.result.now c.args.bytes.now c.front_of-front.ensures c.in-Ok.ensures.cases.1 c.if-bytes-len.false) (ap Ok (sym (c.in_ok-from_str-in-Ok.ensures.same ∙ c.in-Ok.ensures.cases.0 ∙ c.front_of-front.ensures)))
+
+pub returns-in_err-from_str-in-Ok-clause-memory : goal.returns-in_err-from_str-in-Ok-clause-memory
+returns-in_err-from_str-in-Ok-clause-memory c = λ e.
+    text_whole c.args.len c.front_of-front.result.now c.args.bytes.now c.front_of-front.ensures c.in-Ok.ensures.cases.1 c.if-bytes-len.false
