@@ -34,14 +34,8 @@ pub(crate) struct Heading<'a> {
 fn number_of(bytes: &[u8]) -> Option<(u64, &[u8])>
     ensures { Reads (λ x. (x.0, x.1.now)) result (number_at bytes.now) }
 {
-    if bytes.len() < 8 {
-        return None;
-    }
-    let (front, rest) = bytes.split_at(8);
-    let number = u64::from_le_bytes([
-        front[0], front[1], front[2], front[3], front[4], front[5], front[6], front[7],
-    ]);
-    Some((number, rest))
+    let (number, rest) = bytes.split_first_chunk::<8>()?;
+    Some((u64::from_le_bytes(*number), rest))
 }
 
 #[tactic(auto, unfolding(crate::specs::Reading::text_at))]
@@ -49,11 +43,8 @@ fn text_of(bytes: &[u8]) -> Option<(&[u8], &[u8])>
     ensures found { Reads (λ x. (x.0.now, x.1.now)) result (text_at bytes.now) }
     ensures size { IfSome result (λ x. length x.0.now + length x.1.now + 4 ≡ length bytes.now) }
 {
-    if bytes.len() < 4 {
-        return None;
-    }
-    let (front, rest) = bytes.split_at(4);
-    let count = u32::from_le_bytes([front[0], front[1], front[2], front[3]]) as usize;
+    let (count, rest) = bytes.split_first_chunk::<4>()?;
+    let count = u32::from_le_bytes(*count) as usize;
     if rest.len() < count {
         return None;
     }
