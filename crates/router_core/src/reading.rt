@@ -1,8 +1,9 @@
 //! Reading back the choice of a payload.
-ghost use Rattle.std.specs.Prelude.{◌≡◌, ◌≤◌, IfOk, length, drop, option_map};
+ghost use Rattle.std.specs.Prelude.{◌≡◌, ◌≤◌, IfOk, IsTrue, MatchResult, length, drop, option_map};
 ghost use Rattle.signal_script.specs.Signals.{signal_unbounded};
 ghost use Rattle.trace_history.specs.declared.choice.Choice.TheVariants as choices;
 ghost use Rattle.router_rules.specs.Payload.{choice_in, input_in, activity_in, behind, behind_reference, behind_utf8, behind_text, behind_effect, are_effects, is_effect_list, is_outcome};
+ghost use Rattle.router_core.specs.Reading.{is_counted, has_line};
 
 use signal_script::{SignalFault, read_unbounded};
 use slee_value::{ActivityId, NoMemory};
@@ -21,26 +22,22 @@ fn line_choice(alloc: Global, line: &[u8]) -> Result<Option<Choice>, NoMemory>
 }
 
 fn input_in(alloc: Global, bytes: &[u8]) -> Result<Option<Choice>, NoMemory>
-    ensures { IfOk result (λ found. found ≡ input_in bytes.now) }
+    ensures { MatchResult result (λ found. found ≡ input_in bytes.now) (λ _. IsTrue (is_counted bytes.now)) }
 {
-    if bytes.len() < 4 {
-        return Ok(None);
+    match bytes.split_first_chunk::<4>() {
+        Some((count, line)) if u32::from_le_bytes(*count) as usize == line.len() => {
+            line_choice(alloc, line)
+        }
+        _ => Ok(None),
     }
-    let (front, line) = bytes.split_at(4);
-    let length = u32::from_le_bytes([front[0], front[1], front[2], front[3]]);
-    if length as usize != line.len() {
-        return Ok(None);
-    }
-    line_choice(alloc, line)
 }
 
 fn activity_in(bytes: &[u8]) -> ActivityId
     requires { 8 ≤ length bytes.now }
     ensures { result ≡ activity_in bytes.now }
 {
-    ActivityId(u64::from_le_bytes([
-        bytes[0], bytes[1], bytes[2], bytes[3], bytes[4], bytes[5], bytes[6], bytes[7],
-    ]))
+    let number = bytes.first_chunk::<8>().unwrap();
+    ActivityId(u64::from_le_bytes(*number))
 }
 
 /// What stands behind so many bytes.
@@ -84,12 +81,8 @@ fn behind_utf8(count: usize, bytes: &[u8]) -> Option<&[u8]>
 fn behind_text(bytes: &[u8]) -> Option<&[u8]>
     ensures { option_map (λ rest. rest.now) result ≡ behind_text bytes.now }
 {
-    if bytes.len() < 4 {
-        return None;
-    }
-    let (front, rest) = bytes.split_at(4);
-    let length = u32::from_le_bytes([front[0], front[1], front[2], front[3]]);
-    behind_utf8(length as usize, rest)
+    let (length, rest) = bytes.split_first_chunk::<4>()?;
+    behind_utf8(u32::from_le_bytes(*length) as usize, rest)
 }
 
 /// What stands behind an effect that emits a text, the only one that is read by now.
@@ -126,14 +119,10 @@ fn are_effects(count: u32, bytes: &[u8]) -> bool
 fn is_effect_list(bytes: &[u8]) -> bool
     ensures { result ≡ is_effect_list bytes.now }
 {
-    if bytes.len() < 4 {
-        return false;
+    match bytes.split_first_chunk::<4>() {
+        Some((count, rest)) => are_effects(u32::from_le_bytes(*count), rest),
+        None => false,
     }
-    let (front, rest) = bytes.split_at(4);
-    are_effects(
-        u32::from_le_bytes([front[0], front[1], front[2], front[3]]),
-        rest,
-    )
 }
 
 /// Whether the bytes are an outcome and effects.
@@ -148,7 +137,7 @@ fn is_outcome(bytes: &[u8]) -> bool
 
 /// The choice that a payload is of, if it is one of the grammar. A line that is too long gives one that can't be made.
 pub fn choice_in(alloc: Global, payload: &[u8]) -> Result<Option<Choice>, NoMemory>
-    ensures { IfOk result (λ found. found ≡ choice_in payload.now) }
+    ensures { MatchResult result (λ found. found ≡ choice_in payload.now) (λ _. IsTrue (has_line payload.now)) }
 {
     let Some((kind, rest)) = payload.split_first() else {
         return Ok(None);
