@@ -1,8 +1,8 @@
 -- How tokens follow one another in a text.
-use Rattle.std.proofs.Common.{◌≡◌, ◌≤◌, ◌<◌, ◌+◌, ◌-◌, ◌*◌, ◌/◌, ℕ, zero, suc, Bool, true, false, cond, ◌&&◌, List, [], ◌∷◌, ◌++◌, length, take, drop, get_or, map, Option, Some, None, Result, Ok, Err, IsUtf8, IsCharBoundary, refl, sym, ap, subst, ◌∙◌, arith, append_assoc}
+use Rattle.std.proofs.Common.{◌≡◌, ◌≤◌, ◌<◌, ◌+◌, ◌-◌, ◌*◌, ◌/◌, ℕ, zero, suc, Bool, true, false, cond, ◌&&◌, List, [], ◌∷◌, ◌++◌, length, take, drop, get_or, Option, Some, None, Result, Ok, Err, IsUtf8, IsCharBoundary, refl, sym, ap, subst, ◌∙◌, arith}
 use Rattle.std.specs.Prelude.{◌==◌, ◌||◌, not, nat_lt, nat_le, slice_index}
 use Rattle.std.specs.List.{prefix_len, take_while, list_all}
-use Rattle.std.proofs.lemmas.List.{drop_more, drop-drop, drop_all, append-nil, length-drop, take_rest, get_or-drop}
+use Rattle.std.proofs.lemmas.List.{drop_more, drop-drop, drop_all, length-drop, take_rest, get_or-drop}
 use Rattle.std.proofs.lemmas.Str.{IsCharBoundary-after_ascii}
 use Rattle.std.proofs.lemmas.List.Folds.{length-prefix_len}
 use Rattle.std.proofs.lemmas.List.Sums.{prefix_len-le-length}
@@ -14,13 +14,10 @@ use Rattle.script_tree.specs.declared.lexeme.Lexeme.TheVariants as t
 use Rattle.script_tree.specs.declared.lexeme.Cut.{Cut}
 use Rattle.script_tree.specs.declared.lexeme.Quote.{Quote}
 use Rattle.script_tree.specs.declared.token.Token.{Token}
-use Rattle.script_tree.specs.declared.token.TokenKind.{TokenKind}
 use Rattle.script_tree.specs.declared.fault.SyntaxFault.{SyntaxFault}
-use Rattle.script_tree.specs.declared.fault.SyntaxBad.TheVariants as bad
 use Rattle.script_tree.specs.Tree.{Bytes}
-use Rattle.script_tree.specs.Lexer.{Spot, Gap, lexed, spots_of, lexemes_of, lexeme_of, spotted, unless_bad, is_bad, is_blank, is_in_line, starts_token, cut, cut_of_one, cut_of_two, sign_cut, sign_of_one, sign_of_two, text_cut, quote_of, with_byte, escape_of, escape_then, word_cut, number_cut, digits_value, decimal_in}
+use Rattle.script_tree.specs.Lexer.{Spot, Gap, lexed, spots_behind, spotted, unless_bad, is_bad, is_blank, is_in_line, starts_token, cut, cut_of_one, cut_of_two, sign_cut, sign_of_one, sign_of_two, text_cut, quote_of, with_byte, escape_of, escape_then, word_cut, number_cut, digits_value, decimal_in}
 use Rattle.script_tree.specs.Words.{is_number}
-use Rattle.script_tree.specs.Reading.{tokens_of, token_list, with_token, token_of, token_kind, fault_at, token_answer}
 
 and_parts : (a b : Bool) → (a && b) ≡ true → (a ≡ true) × (b ≡ true)
 and_parts true b h = (refl, h)
@@ -157,6 +154,14 @@ cut_sized b bs =
     let digits = sized_cond (is_digit b) n (number_cut (take_while is_digit (b ∷ bs))) (cond (b == 34) (text_cut (quote_of false bs)) (sign_cut b bs)) (λ e. run_fits is_digit b bs e) inner in
     sized_cond (is_letter b) n (word_cut (take_while is_byte_of_name (b ∷ bs))) (cond (is_digit b) (number_cut (take_while is_digit (b ∷ bs))) (cond (b == 34) (text_cut (quote_of false bs)) (sign_cut b bs))) (λ e. run_fits is_byte_of_name b bs (letter_in_name b e)) digits
 
+-- ---- the part of a text from a place on
+
+abbrev pub part : Bytes → ℕ → Bytes
+part bytes at = take (length bytes - at) (drop at bytes)
+
+pub part_is : (bytes text : Bytes) (at : ℕ) → bytes ≡ text → part bytes at ≡ drop at text
+part_is bytes text at e = take_rest bytes at ∙ ap (drop at) e
+
 -- ---- tokens
 
 drop_behind : (b : ℕ) (bs : Bytes) (n : ℕ) → 1 ≤ n → drop (n - 1) bs ≡ drop n (b ∷ bs)
@@ -182,126 +187,42 @@ pub token_first : (bs : Bytes) (at : ℕ) (c : Cut) → starts_token bs ≡ true
 token_first [] at c h e = absurd cc
 token_first (b ∷ bs) at c h e = lexed_token b bs at h ∙ ap (λ (k : Cut). spot_of k at ∷ unless_bad k.lexeme (lexed (at + k.size) 0 (drop k.size (b ∷ bs)))) e
 
--- a token at a place of a text
-pub record Cuts (text : Bytes) (at : ℕ) (c : Cut) : Type 0 where
-  pub first : 1 ≤ c.size
-  pub within : at + c.size ≤ length text
-  pub goes_on : lexed at 0 (drop at text) ≡ spot_of c at ∷ unless_bad c.lexeme (lexed (at + c.size) 0 (drop (at + c.size) text))
+cut_fits : (bs : Bytes) → (cut bs).size ≤ length bs
+cut_fits [] = omega arith
+cut_fits (b ∷ bs) = (cut_sized b bs).1
 
-pub cuts : (text : Bytes) (at : ℕ) (c : Cut) → at < length text → starts_token (drop at text) ≡ true → c ≡ cut (drop at text) → Cuts text at c
-cuts text at c lt h e =
-    let b = get_or text at 0 in
-    let bs = drop (at + 1) text in
-    let d : drop at text ≡ b ∷ bs = drop_more text at 0 lt in
-    let e2 : c ≡ cut (b ∷ bs) = e ∙ ap cut d in
-    let sized = cut_sized b bs in
-    let len : length (b ∷ bs) + at ≡ length text = omega (arith, length-drop at text, ap length d) in
-    let h2 : starts_token (b ∷ bs) ≡ true = ap starts_token (sym d) ∙ h in
-    let whole : lexed at 0 (drop at text) ≡ spot_of (cut (b ∷ bs)) at ∷ unless_bad (cut (b ∷ bs)).lexeme (lexed (at + (cut (b ∷ bs)).size) 0 (drop (cut (b ∷ bs)).size (b ∷ bs))) = ap (lexed at 0) d ∙ lexed_token b bs at h2 in
-    let back : spot_of (cut (b ∷ bs)) at ∷ unless_bad (cut (b ∷ bs)).lexeme (lexed (at + (cut (b ∷ bs)).size) 0 (drop (cut (b ∷ bs)).size (b ∷ bs))) ≡ spot_of c at ∷ unless_bad c.lexeme (lexed (at + c.size) 0 (drop c.size (b ∷ bs))) = ap (λ (k : Cut). spot_of k at ∷ unless_bad k.lexeme (lexed (at + k.size) 0 (drop k.size (b ∷ bs)))) (sym e2) in
-    let moved : drop c.size (b ∷ bs) ≡ drop (at + c.size) text = ap (drop c.size) (sym d) ∙ drop-drop c.size at text in
-    let one : 1 ≤ c.size = omega (arith, ap (λ (k : Cut). k.size) e2, sized.0) in
-    let most : c.size ≤ length (b ∷ bs) = omega (arith, ap (λ (k : Cut). k.size) e2, sized.1) in
+-- behind a bad token the text is at its end
+unless_at_end : (y : Lexeme) (text : Bytes) (stop behind : ℕ) → behind ≡ cond (is_bad y) (length text) stop → unless_bad y (spots_behind text stop) ≡ spots_behind text behind
+unless_at_end (t.Int n) text stop behind e = ap (spots_behind text) (sym e)
+unless_at_end (t.Name n) text stop behind e = ap (spots_behind text) (sym e)
+unless_at_end (t.Text n) text stop behind e = ap (spots_behind text) (sym e)
+unless_at_end (t.Symbol y) text stop behind e = ap (spots_behind text) (sym e)
+unless_at_end t.Bad text stop behind e = sym (ap (lexed behind 0) (drop_all behind text (omega (arith, e))))
+
+-- the next token of a text behind a place, and the place behind it
+pub record Next (text : Bytes) (at start : ℕ) (c : Cut) : Type 0 where
+  pub within : start + c.size ≤ length text
+  pub goes_on : (behind : ℕ) → behind ≡ cond (is_bad c.lexeme) (length text) (start + c.size) → spots_behind text at ≡ spot_of c start ∷ spots_behind text behind
+
+pub next_is : (bytes text : Bytes) (at k : ℕ) (c : Cut) → bytes ≡ text → at ≤ length text → Gap (part bytes at) k → ¬ (at + k ≡ length bytes) → c ≡ cut (drop (at + k) text) → Next text at (at + k) c
+next_is bytes text at k c e fits gap more is =
+    let start = at + k in
+    let here : Gap (drop at text) k = subst (λ (bs : Bytes). Gap bs k) (part_is bytes text at e) gap in
+    let moved : drop k (drop at text) ≡ drop start text = drop-drop k at text in
+    let begins : starts_token (drop start text) ≡ true = ap starts_token (sym moved) ∙ here.stops (omega (arith, ap length e, here.within, length-drop at text)) in
+    let behind_gap : spots_behind text at ≡ spots_behind text start = here.passed at ∙ ap (lexed start 0) moved in
+    let cut_off : spots_behind text start ≡ spot_of c start ∷ unless_bad c.lexeme (spots_behind text (start + c.size)) =
+    token_first (drop start text) start c begins (sym is) ∙ ap (λ bs. spot_of c start ∷ unless_bad c.lexeme (lexed (start + c.size) 0 bs)) (drop-drop c.size start text) in
     record {
-      first = one;
-      within = omega arith;
-      goes_on = whole ∙ back ∙ ap (λ (r : Bytes). spot_of c at ∷ unless_bad c.lexeme (lexed (at + c.size) 0 r)) moved;
+      within = omega (arith, ap length e, here.within, length-drop at text, length-drop start text, cut_fits (drop start text), ap (λ (k : Cut). k.size) is);
+      goes_on = λ behind there. behind_gap ∙ cut_off ∙ ap (λ spots. spot_of c start ∷ spots) (unless_at_end c.lexeme text (start + c.size) behind there);
     }
 
--- ---- how far the tokens of a text were read
+-- ---- the tokens that were read, before those that are left
 
 abbrev pub with_front : List Token → Result (List Token) SyntaxFault → Result (List Token) SyntaxFault
 with_front ts (Ok us) = Ok (ts ++ us)
 with_front ts (Err f) = Err f
-
-pub record Progress (text : Bytes) (at : ℕ) (lexemes : List Lexeme) (tokens : List Token) : Type 0 where
-  pub within : at ≤ length text
-  pub starts : at < length text → starts_token (drop at text) ≡ true
-  pub lexemes_so : lexemes ++ map lexeme_of (lexed at 0 (drop at text)) ≡ lexemes_of text
-  pub tokens_so : tokens ++ map token_of (lexed at 0 (drop at text)) ≡ map token_of (spots_of text)
-  pub answer_so : with_front tokens (token_list text (lexed at 0 (drop at text))) ≡ tokens_of text
-
-with_nothing : (r : Result (List Token) SyntaxFault) → with_front [] r ≡ r
-with_nothing (Ok us) = refl
-with_nothing (Err f) = refl
-
-pub begun : (text : Bytes) (n : ℕ) → Gap text n → Progress text n [] []
-begun text n gap =
-    let z : 0 + n ≡ n = omega arith in
-    let e : lexed n 0 (drop n text) ≡ spots_of text = sym (gap.passed 0 ∙ ap (λ m. lexed m 0 (drop n text)) z) in
-    record {
-      within = gap.within;
-      starts = gap.stops;
-      lexemes_so = ap (map lexeme_of) e;
-      tokens_so = ap (map token_of) e;
-      answer_so = with_nothing (token_list text (lexed n 0 (drop n text))) ∙ ap (token_list text) e;
-    }
-
-unless_good : (y : Lexeme) (spots : List Spot) → is_bad y ≡ false → unless_bad y spots ≡ spots
-unless_good (t.Int n) spots h = refl
-unless_good (t.Name n) spots h = refl
-unless_good (t.Text n) spots h = refl
-unless_good (t.Symbol y) spots h = refl
-unless_good t.Bad spots h = absurd cc
-
-unless_last : (y : Lexeme) (spots : List Spot) → is_bad y ≡ true → unless_bad y spots ≡ []
-unless_last (t.Int n) spots h = absurd cc
-unless_last (t.Name n) spots h = absurd cc
-unless_last (t.Text n) spots h = absurd cc
-unless_last (t.Symbol y) spots h = absurd cc
-unless_last t.Bad spots h = refl
-
-with_moved : (ts : List Token) (u : Token) (r : Result (List Token) SyntaxFault) → with_front ts (with_token u r) ≡ with_front (ts ++ u ∷ []) r
-with_moved ts u (Ok us) = ap Ok (sym (append_assoc ts (u ∷ []) us))
-with_moved ts u (Err f) = refl
-
-list_good : (text : Bytes) (spot : Spot) (spots : List Spot) (ts : List Token) → is_bad spot.lexeme ≡ false → with_front ts (token_list text (spot ∷ spots)) ≡ with_front (ts ++ token_of spot ∷ []) (token_list text spots)
-list_good text spot spots ts h =
-    ap (with_front ts) (at_false (is_bad spot.lexeme) (Err (fault_at text spot.start bad.Token)) (with_token (token_of spot) (token_list text spots)) h) ∙ with_moved ts (token_of spot) (token_list text spots)
-
-pub grown : (text : Bytes) (at : ℕ) (ls : List Lexeme) (ts : List Token) (c : Cut) (k : ℕ) → Progress text at ls ts → Cuts text at c → is_bad c.lexeme ≡ false → Gap (drop (at + c.size) text) k → Progress text (at + c.size + k) (ls ++ c.lexeme ∷ []) (ts ++ token_of (spot_of c at) ∷ [])
-grown text at ls ts c k p cuts good gap =
-    let end = at + c.size in
-    let rest : List Spot = lexed (end + k) 0 (drop (end + k) text) in
-    let moved : drop k (drop end text) ≡ drop (end + k) text = drop-drop k end text in
-    let len : length (drop end text) ≡ length text - end = length-drop end text in
-    let tail : lexed at 0 (drop at text) ≡ spot_of c at ∷ rest =
-    cuts.goes_on ∙ ap (λ spots. spot_of c at ∷ spots) (unless_good c.lexeme (lexed end 0 (drop end text)) good ∙ gap.passed end ∙ ap (lexed (end + k) 0) moved) in
-    let within = cuts.within in
-    let few = gap.within in
-    record {
-      within = omega arith;
-      starts = λ lt. ap starts_token (sym moved) ∙ gap.stops (omega arith);
-      lexemes_so = append_assoc ls (c.lexeme ∷ []) (map lexeme_of rest) ∙ ap (λ spots. ls ++ map lexeme_of spots) (sym tail) ∙ p.lexemes_so;
-      tokens_so = append_assoc ts (token_of (spot_of c at) ∷ []) (map token_of rest) ∙ ap (λ spots. ts ++ map token_of spots) (sym tail) ∙ p.tokens_so;
-      answer_so = sym (list_good text (spot_of c at) rest ts good) ∙ ap (λ spots. with_front ts (token_list text spots)) (sym tail) ∙ p.answer_so;
-    }
-
-pub record Ended (text : Bytes) (lexemes : List Lexeme) (tokens : List Token) (at : Option ℕ) : Type 0 where
-  pub lexemes_are : lexemes ≡ lexemes_of text
-  pub tokens_are : tokens ≡ map token_of (spots_of text)
-  pub answer_is : tokens_of text ≡ token_answer text at tokens
-
-pub ended_bad : (text : Bytes) (at : ℕ) (ls : List Lexeme) (ts : List Token) (c : Cut) → Progress text at ls ts → Cuts text at c → is_bad c.lexeme ≡ true → Ended text (ls ++ c.lexeme ∷ []) (ts ++ token_of (spot_of c at) ∷ []) (Some at)
-ended_bad text at ls ts c p cuts last =
-    let end = at + c.size in
-    let tail : lexed at 0 (drop at text) ≡ spot_of c at ∷ [] = cuts.goes_on ∙ ap (λ spots. spot_of c at ∷ spots) (unless_last c.lexeme (lexed end 0 (drop end text)) last) in
-    record {
-      lexemes_are = ap (λ spots. ls ++ map lexeme_of spots) (sym tail) ∙ p.lexemes_so;
-      tokens_are = ap (λ spots. ts ++ map token_of spots) (sym tail) ∙ p.tokens_so;
-      answer_is =
-          sym p.answer_so ∙ ap (λ spots. with_front ts (token_list text spots)) tail
-          ∙ ap (with_front ts) (at_true (is_bad c.lexeme) (Err (fault_at text at bad.Token)) (with_token (token_of (spot_of c at)) (token_list text [])) last);
-    }
-
-pub ended : (text : Bytes) (at : ℕ) (ls : List Lexeme) (ts : List Token) → Progress text at ls ts → length text ≤ at → Ended text ls ts None
-ended text at ls ts p le =
-    let none : lexed at 0 (drop at text) ≡ [] = ap (lexed at 0) (drop_all at text le) in
-    record {
-      lexemes_are = sym (append-nil ls) ∙ ap (λ spots. ls ++ map lexeme_of spots) (sym none) ∙ p.lexemes_so;
-      tokens_are = sym (append-nil ts) ∙ ap (λ spots. ts ++ map token_of spots) (sym none) ∙ p.tokens_so;
-      answer_is = sym p.answer_so ∙ ap (λ spots. with_front ts (token_list text spots)) none ∙ ap Ok (append-nil ts);
-    }
 
 -- ---- numbers
 
@@ -327,13 +248,7 @@ too_large ds n i lt left h =
     no_number : (m : ℕ) → 9223372036854775807 < m → is_number m ≡ false
     no_number m h = grind (arith, nat_tests)
 
--- ---- the part of a text from a place on
-
-abbrev pub part : Bytes → ℕ → Bytes
-part bytes at = take (length bytes - at) (drop at bytes)
-
-pub part_is : (bytes text : Bytes) (at : ℕ) → bytes ≡ text → part bytes at ≡ drop at text
-part_is bytes text at e = take_rest bytes at ∙ ap (drop at) e
+-- ---- a token at a place
 
 pub run_all : (p : ℕ → Bool) (xs : Bytes) (n : ℕ) → n ≡ prefix_len p xs → list_all p (take n xs) ≡ true
 run_all p [] n h = rw h refl
@@ -364,21 +279,3 @@ quote_boundary bytes text at e u some h =
     let z : at + 0 ≡ at = omega arith in
     let byte : get_or text at 0 ≡ 34 = ap (λ i. get_or text i 0) (sym z) ∙ sym (get_or-drop at text 0 0) ∙ ap (λ (xs : Bytes). get_or xs 0 0) (sym p) ∙ h in
     IsCharBoundary-after_ascii text at u lt (omega arith)
-
--- ---- the same, of what the loop has at hand
-
-pub cuts_in : (bytes text : Bytes) (at : ℕ) (ls : List Lexeme) (ts : List Token) (c : Cut) → bytes ≡ text → at < length bytes → Progress text at ls ts → c ≡ cut (drop at text) → Cuts text at c
-cuts_in bytes text at ls ts c e lt p is = let inside : at < length text = omega (arith, ap length e) in cuts text at c inside (p.starts inside) is
-
-pub grown_in : (bytes text : Bytes) (at k : ℕ) (ls more : List Lexeme) (ts others : List Token) (c : Cut) (kind : TokenKind) → bytes ≡ text → Progress text at ls ts → Cuts text at c → is_bad c.lexeme ≡ false → Gap (part bytes (at + c.size)) k → more ≡ ls ++ c.lexeme ∷ [] → kind ≡ token_kind c.lexeme → others ≡ ts ++ record { kind = kind; start = at; end = at + c.size } ∷ [] → Progress text (at + c.size + k) more others
-grown_in bytes text at k ls more ts others c kind e p cutting good gap m is o =
-    let gap2 : Gap (drop (at + c.size) text) k = subst (λ (bs : Bytes). Gap bs k) (part_is bytes text (at + c.size) e) gap in
-    let o2 : others ≡ ts ++ token_of (spot_of c at) ∷ [] = o ∙ ap (λ (y : TokenKind). ts ++ (let u : Token = record { kind = y; start = at; end = at + c.size } in u) ∷ []) is in
-    let all = grown text at ls ts c k p cutting good gap2 in
-    subst (λ (xs : List Token). Progress text (at + c.size + k) more xs) (sym o2) (subst (λ (xs : List Lexeme). Progress text (at + c.size + k) xs (ts ++ token_of (spot_of c at) ∷ [])) (sym m) all)
-
-pub ended_in : (text : Bytes) (at : ℕ) (ls more : List Lexeme) (ts others : List Token) (c : Cut) (kind : TokenKind) → Progress text at ls ts → Cuts text at c → is_bad c.lexeme ≡ true → more ≡ ls ++ c.lexeme ∷ [] → kind ≡ token_kind c.lexeme → others ≡ ts ++ record { kind = kind; start = at; end = at + c.size } ∷ [] → Ended text more others (Some at)
-ended_in text at ls more ts others c kind p cutting last m is o =
-    let o2 : others ≡ ts ++ token_of (spot_of c at) ∷ [] = o ∙ ap (λ (y : TokenKind). ts ++ (let u : Token = record { kind = y; start = at; end = at + c.size } in u) ∷ []) is in
-    let all = ended_bad text at ls ts c p cutting last in
-    subst (λ (xs : List Token). Ended text more xs (Some at)) (sym o2) (subst (λ (xs : List Lexeme). Ended text xs (ts ++ token_of (spot_of c at) ∷ []) (Some at)) (sym m) all)

@@ -9,6 +9,7 @@ use Rattle.script_tree.specs.declared.symbol.Symbol.TheVariants as s
 use Rattle.script_tree.specs.declared.lexeme.Lexeme.{Lexeme}
 use Rattle.script_tree.specs.declared.lexeme.Lexeme.TheVariants as t
 use Rattle.script_tree.specs.declared.lexeme.Cut.{Cut}
+use Rattle.script_tree.specs.declared.lexeme.Spotted.{Spotted}
 use Rattle.script_tree.specs.declared.lexeme.Quote.{Quote}
 use Rattle.script_tree.specs.Words.{reserved, is_number}
 use Rattle.script_tree.specs.Tree.{Bytes}
@@ -123,10 +124,8 @@ cut (b ∷ bs) =
     else sign_cut b bs
 
 -- a token in a text: what it says, where it begins and where it ends
-pub record Spot : Type 0 where
-  pub lexeme : Lexeme
-  pub start : ℕ
-  pub stop : ℕ
+abbrev pub Spot : Type 0
+Spot = Spotted
 
 abbrev pub is_bad : Lexeme → Bool
 is_bad t.Bad = true
@@ -150,6 +149,10 @@ lexed at zero (b ∷ bs) =
 
 abbrev pub spots_of : Bytes → List Spot
 spots_of text = lexed 0 0 text
+
+-- the tokens of a text behind a place
+abbrev pub spots_behind : Bytes → ℕ → List Spot
+spots_behind text at = lexed at 0 (drop at text)
 
 abbrev pub lexeme_of : Spot → Lexeme
 lexeme_of spot = spot.lexeme

@@ -21,6 +21,14 @@ pub struct Cut<'a> {
     pub size: usize,
 }
 
+/// A token in a text: what it says, where it begins and where it ends.
+#[derive(Drop)]
+pub struct Spotted<'a> {
+    pub lexeme: Lexeme<'a>,
+    pub start: usize,
+    pub stop: usize,
+}
+
 /// A text that stands between quotes, and how many bytes it is written with there.
 #[derive(Drop)]
 pub struct Quote {

@@ -1,33 +1,26 @@
-ghost use Rattle.std.specs.Prelude.{◌≡◌, ◌≤◌, map, drop, length, slice_index, IfOk, IsTrue};
+ghost use Rattle.std.specs.Prelude.{◌≡◌, ◌≤◌, ◌∷◌, [], map, drop, length, slice_index, IfOk, IfSome, IsTrue, MatchOption};
 ghost use Rattle.std.specs.List.{list_all, prefix_len};
 ghost use Rattle.slee_value.specs.Name.{is_letter, is_digit, is_byte_of_name};
 ghost use Rattle.script_tree.specs.Lexer.{spots_of, lexemes_of, cut, word_cut, number_cut, decimal_in, is_bad, is_blank, is_in_line, Gap};
 ghost use Rattle.script_tree.specs.Reading.{tokens_of, token_of, token_kind, symbol_kind, token_answer};
 
-use crate::lexeme::{Cut, Lexeme};
+use crate::lexeme::{Cut, Lexeme, Spotted};
 use crate::quote::quoted;
 use crate::reserve::reserved;
 use crate::sign::sign;
 use crate::{NUMBER_LIMIT, NameRef, Number, Symbol, Token, TokenKind};
 use slee_value::{NAME_LIMIT, NoMemory};
 use std::alloc::Global;
+use std::marker::Model;
 
 /// What each token of a text says, up to the first place where none begins; a bad one is the last.
 pub fn lexemes(alloc: Global, text: &str) -> Result<Vec<Lexeme>, NoMemory>
     ensures { IfOk result (λ x. x.items ≡ lexemes_of text.now) }
 {
-    let bytes = text.as_bytes();
-    let mut lexemes = Vec::with_capacity(alloc, bytes.len() / 3)?;
-    let mut at = gap_len(bytes);
-    'tokens: while at < bytes.len() {
-        let Cut { lexeme, size } = token_at(alloc, text, at)?;
-        let bad = is_bad(&lexeme);
-        let end = at + size;
-        lexemes.push(lexeme)?;
-        if bad {
-            return Ok(lexemes);
-        }
-        at = end + gap_len(&bytes[end..]);
+    let mut lexemes = Vec::with_capacity(alloc, text.len() / 3)?;
+    let mut scan = Scan::new(text);
+    'tokens: while let Some(spot) = scan.next(alloc)? {
+        lexemes.push(spot.lexeme)?;
     }
     Ok(lexemes)
 }
@@ -46,27 +39,68 @@ pub fn lex(alloc: Global, text: &str) -> Result<Lexed, NoMemory>
     ensures tokens { IfOk result (λ x. x.tokens.items ≡ map token_of (spots_of text.now)) }
     ensures answer { IfOk result (λ x. tokens_of text.now ≡ token_answer text.now x.bad x.tokens.items) }
 {
-    let bytes = text.as_bytes();
-    let mut tokens = Vec::with_capacity(alloc, bytes.len() / 3)?;
-    let mut at = gap_len(bytes);
-    'tokens: while at < bytes.len() {
-        let Cut { lexeme, size } = token_at(alloc, text, at)?;
-        let bad = is_bad(&lexeme);
-        let end = at + size;
+    let mut tokens = Vec::with_capacity(alloc, text.len() / 3)?;
+    let mut scan = Scan::new(text);
+    'tokens: while let Some(spot) = scan.next(alloc)? {
         tokens.push(Token {
-            kind: kind_of(&lexeme),
-            start: at,
-            end,
+            kind: kind_of(&spot.lexeme),
+            start: spot.start,
+            end: spot.stop,
         })?;
-        if bad {
+        if is_bad(&spot.lexeme) {
             return Ok(Lexed {
                 tokens,
-                bad: Some(at),
+                bad: Some(spot.start),
             });
         }
-        at = end + gap_len(&bytes[end..]);
     }
     Ok(Lexed { tokens, bad: None })
+}
+
+/// The tokens of a text that are left to read.
+#[derive(Drop)]
+struct Scan<'a> {
+    text: &'a str,
+    at: usize,
+}
+
+impl<'a> Model for Scan<'a> {
+    ghost use Rattle.std.specs.Prelude.{◌≤◌, List, length};
+    ghost use Rattle.script_tree.specs.Lexer.{Spot, spots_behind};
+
+    ghost Value = { List Spot };
+
+    ghost view = { λ s. spots_behind s.text.now s.at };
+
+    ghost invariant = { λ s. s.at ≤ length s.text.now };
+}
+
+impl<'a> Scan<'a> {
+    fn new(text: &'a str) -> Self
+        ensures { result ≡ spots_of text.now }
+    {
+        Scan { text, at: 0 }
+    }
+
+    /// The next token; a bad one is the last.
+    fn next(&mut self, alloc: Global) -> Result<Option<Spotted<'a>>, NoMemory>
+        ensures next { IfOk result (λ x. MatchOption x (self.old ≡ []) (λ spot. self.old ≡ spot ∷ self.new)) }
+        ensures last { IfOk result (λ x. IfSome x (λ spot. IsTrue (is_bad spot.lexeme) → self.new ≡ [])) }
+    {
+        let bytes = self.text.as_bytes();
+        let start = self.at + gap_len(&bytes[self.at..]);
+        if start == bytes.len() {
+            return Ok(None);
+        }
+        let Cut { lexeme, size } = token_at(alloc, self.text, start)?;
+        let stop = start + size;
+        self.at = if is_bad(&lexeme) { bytes.len() } else { stop };
+        Ok(Some(Spotted {
+            lexeme,
+            start,
+            stop,
+        }))
+    }
 }
 
 /// How many bytes of blanks and comments come first.
