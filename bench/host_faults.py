@@ -1,6 +1,6 @@
 #!/usr/bin/env python3
 """Runs the built program where the system refuses it: a folder that can't be written, a full disk, a full standard
-output, and a standard input that can't be read. Outside the gate.
+output, a standard input that can't be read, and standard streams that are closed. Outside the gate.
 
     python3 bench/host_faults.py                  with ./slee
     python3 bench/host_faults.py --cmd PROGRAM    with another program
@@ -126,12 +126,25 @@ def unreadable_input(command):
         say("a standard input that can't be read", status, f"printed {text!r}" if wrong else None)
 
 
+def closed_streams(command):
+    """A file of the journal doesn't take the place of a closed stream."""
+    for places, expected in (((1,), 6), ((0,), 3), ((0, 1), 3), ((0, 1, 2), 3), ((2,), 0)):
+        with tempfile.TemporaryDirectory() as folder:
+            run(command, ["play", "1", "100"], b"start c1\n", folder)
+            status, _ = run(command, ["play", "1", "100"], b"start c2\n", folder, preexec_fn=lambda: list(map(os.close, places)))
+            entries = 1 if 0 in places else 2
+            what = "closed " + ", ".join(("standard input", "standard output", "standard error")[i] for i in places)
+            say(what, status, None if status == expected else f"should be {expected}")
+            say(what + ", shown", 0, shown_fault(shown_in_copy(command, folder), entries))
+
+
 def main():
     here = os.path.dirname(os.path.abspath(__file__))
     parser = argparse.ArgumentParser()
     parser.add_argument("--cmd", default=os.path.join(here, "..", "slee"))
     command = os.path.abspath(parser.parse_args().cmd)
     unreadable_input(command)
+    closed_streams(command)
     full_output(command)
     read_only_folder(command)
     full_disk(command)

@@ -30,7 +30,7 @@ header head = magic ++ (to_le_bytes w64 head.generation ++ (text head.deployment
 abbrev pub spelled : Head → List (List ℕ) → List ℕ
 spelled head payloads = 1 ∷ (header head ++ flat_map recorded payloads)
 
--- what has a spelling
+-- a text that has a spelling: its length is a number of 32 bits
 abbrev pub FitsText : List ℕ → Type 0
 FitsText bytes = length bytes < 2 ^ 32
 

@@ -9,7 +9,7 @@ use Rattle.router_model.specs.declared.rows.RootName.{RootName}
 use Rattle.router_model.specs.declared.rows.Stem.{Stem}
 use Rattle.router_model.specs.declared.rows.Stem.TheVariants as stems
 
--- the service of an entity's tree
+-- this is the stem of a root of the service
 abbrev pub is_of_service : ℕ → Stem → Bool
 is_of_service service (stems.Root own) = own == service
 is_of_service service (stems.Child parent relation) = false

@@ -23,6 +23,7 @@ pub record Parts : Type 0 where
   pub next_event : ℕ
   pub services : List Service
   pub entities : List Entity
+  -- the convergence names of the roots
   pub root_names : List RootName
   pub activities : List Activity
   pub links : List Link

@@ -16,7 +16,7 @@ use Rattle.router_rules.specs.Well.{is_entity}
 abbrev pub effects_of : Event → Entity → List Effect
 effects_of v row = map (λ text. effects.Emit (references.Known row.number.0) text) (emitted row.block v.name v.fields)
 
--- the state after an effect: a text that is emitted changes nothing
+-- the state after an effect: a text that is emitted changes nothing, and the others aren't made by any handler yet
 abbrev pub after_effect : Effect → Parts → Parts
 after_effect (effects.Emit entity text) s = s
 after_effect _ s = s

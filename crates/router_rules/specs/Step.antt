@@ -48,7 +48,7 @@ is_next s (choices.Initial a) = is_initial_next (next s a.0)
 is_next s (choices.Deliver a) = is_deliver_next (next s a.0)
 is_next s (choices.Finish a) = is_finish_next (next s a.0)
 
--- a choice may be made, unless the state is used up
+-- a choice may be made now: it is the next one, and the state isn't used up
 abbrev pub is_enabled : Parts → Choice → Bool
 is_enabled s c = not (is_used_up s) && is_next s c
 
@@ -78,7 +78,7 @@ after s c = closing (did s c)
 abbrev pub lines_of_step : Parts → Choice → List (List ℕ)
 lines_of_step s c = told s c ++ lines_of_closing (did s c)
 
--- a signal that a line can give
+-- if the choice takes a line, its signal is one that a line can give
 abbrev pub is_choice : Choice → Bool
 is_choice (choices.Input signal) = is_signal signal
 is_choice (choices.Initial a) = true

@@ -12,11 +12,11 @@ use Rattle.script_tree.specs.Grammar.{level_of}
 use Rattle.script_tree.specs.Tree.{Expression, Binary, tree_of, binary_of, joined}
 use Rattle.script_tree.specs.Spelling.{at_level, level, left_level, spell_expression}
 use Rattle.script_tree.specs.Reading.{opening, closing}
-use Rattle.script_print.specs.Chains.{chain_level, openings, operation, operations}
+use Rattle.script_print.specs.Chains.{level_of_chain, openings, operation, operations}
 use Rattle.script_tree.proofs.Rows.{chain_tree}
 use Rattle.script_print.proofs.Rows.{bracketed}
 
-pub joined_level : (x : Expression) (xs : List (Operator × Expr)) → level (joined x xs) ≡ chain_level (level x) xs
+pub joined_level : (x : Expression) (xs : List (Operator × Expr)) → level (joined x xs) ≡ level_of_chain (level x) xs
 joined_level x [] = refl
 joined_level x (y ∷ xs) = joined_level (Binary y.0 x (tree_of y.1)) xs
 
@@ -92,14 +92,14 @@ binary_spelled x n b c old opened left closed symbol inner right more m is_b is_
     ∙ ap (λ l. old ++ (l ++ op ∷ (opening c ++ (us ++ closing c)))) (in_brackets (tree_of x.0) b (left_level x.1) is_b)
     ∙ ap (λ l. old ++ (at_level (left_level x.1) (tree_of x.0) ts ++ op ∷ l)) (in_brackets (tree_of x.2) c (level_of x.1 - 1) (is_c ∙ ap (λ k. not (nat_le (level (tree_of x.2)) (k - 1))) m))
 
-pub chain_leveled : (x : Box (Expr × Operator × Expr) Global) (v : Vec (Operator × Expr) Global) (y : Expr) → y ≡ Chain x v → level (tree_of y) ≡ chain_level (level_of x.value.1) v.items
+pub chain_leveled : (x : Box (Expr × Operator × Expr) Global) (v : Vec (Operator × Expr) Global) (y : Expr) → y ≡ Chain x v → level (tree_of y) ≡ level_of_chain (level_of x.value.1) v.items
 chain_leveled x v y is = ap level (ap tree_of is ∙ chain_tree x v) ∙ joined_level (binary_of x.value) v.items
 
-pub chain_last : (n : ℕ) (xs : List (Operator × Expr)) (y : Operator × Expr) → 0 < length xs → y ≡ get_or xs (length xs - 1) y → chain_level n xs ≡ level_of y.0
+pub chain_last : (n : ℕ) (xs : List (Operator × Expr)) (y : Operator × Expr) → 0 < length xs → y ≡ get_or xs (length xs - 1) y → level_of_chain n xs ≡ level_of y.0
 chain_last n [] y lt h = absurd (omega arith)
 chain_last n (z ∷ []) y lt h = ap (λ w. level_of w.0) (sym h)
 chain_last n (z ∷ w ∷ xs) y lt h = chain_last (level_of z.0) (w ∷ xs) y (omega arith) (simp unary_clauses (simp unary_clauses at h))
 
-pub chain_alone : (n : ℕ) (xs : List (Operator × Expr)) → length xs ≤ 0 → chain_level n xs ≡ n
+pub chain_alone : (n : ℕ) (xs : List (Operator × Expr)) → length xs ≤ 0 → level_of_chain n xs ≡ n
 chain_alone n [] le = refl
 chain_alone n (z ∷ xs) le = absurd (omega arith)

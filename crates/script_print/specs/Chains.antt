@@ -11,9 +11,9 @@ use Rattle.script_tree.specs.Spelling.{at_level, left_level, spell_expression}
 use Rattle.script_tree.specs.Reading.{opening, closing}
 
 -- the level of a chain: its last operator's, or its first operand's where it has no operator
-abbrev pub chain_level : ℕ → List (Operator × Expr) → ℕ
-chain_level n [] = n
-chain_level n (y ∷ more) = chain_level (level_of y.0) more
+abbrev pub level_of_chain : ℕ → List (Operator × Expr) → ℕ
+level_of_chain n [] = n
+level_of_chain n (y ∷ more) = level_of_chain (level_of y.0) more
 
 -- the brackets that open before the first operand: one for each operator that needs brackets on its left
 abbrev pub openings : ℕ → List (Operator × Expr) → List Lexeme

@@ -20,6 +20,6 @@ is_control b = nat_lt b 32 || b == 127
 abbrev pub is_plain : List ℕ → Bool
 is_plain line = list_all (λ b. not (is_control b)) line && is_utf8 line
 
--- at most 4,096 of them
+-- a line: at most 4,096 such bytes
 abbrev pub is_line : List ℕ → Bool
 is_line line = nat_le (length line) 4096 && is_plain line

@@ -1,6 +1,6 @@
 //! What the program says of itself.
 
-pub const VERSION: &str = "slee 0.1\nproved with rattle-kit-13b logic dac8208d650f15bf\n";
+pub const VERSION: &str = "slee 0.1\nproved with rattle-kit-13f logic dac8208d650f15bf\n";
 
 pub const HELP: &str = "slee: a service container after JAIN SLEE 1.1 (JSR 240)
 
@@ -33,7 +33,7 @@ before it counts; a later run goes on from the state that they have. No other
 file is read or written. Statuses 2, 3, 13 and 14 leave them alone, and 8 and 9
 leave them as they are.
 
-Statuses, printed last and given as the exit status:
+Statuses, printed last but by --help and --version, and the exit status:
   0 ok             all lines were taken, and no choice is left
   2 bad-words      the words are of no form, or a number is out of range
   3 read-fault     standard input failed
@@ -52,7 +52,7 @@ Statuses, printed last and given as the exit status:
   12 no-memory     memory ran out
   13 too-large signals
                    standard input gave more than 16777216 bytes
-  14 not-built     the words or the lines ask what isn't built yet
+  14 not-built     the words ask what isn't built yet, or a line is of no form
 
 example:
   printf 'start c1\\nfire c1 invite addr=tel:5551\\nend c1\\n' | slee play 1 100

@@ -8,6 +8,7 @@ use slee_disk::{HostDisk, HostSink, HostSource, LateFile, write_whole};
 use slee_run::{Status, run_one};
 use slee_value::NoMemory;
 use std::alloc::Global;
+use std::fs::File;
 use std::process::ExitCode;
 use std::{env, io};
 
@@ -62,8 +63,14 @@ fn run_words(rt: &HostRuntime, words: &[String]) -> Result<Status, NoMemory> {
     Ok(run(rt, list.as_slice()))
 }
 
-/// Calls the top call, on the files of this folder.
+/// Calls the top call, on the files of this folder. The system gives the place of a standard stream that is closed to the
+/// next file that is opened: a folder takes it, which can be neither read nor written, and so no file of the journal does.
 fn run(rt: &HostRuntime, words: &[&str]) -> Status {
+    let _places = (
+        File::open(rt, "/"),
+        File::open(rt, "/"),
+        File::open(rt, "/"),
+    );
     let mut deploy = HostSource::new(LateFile::new(rt, "deploy.json"));
     let mut signals = HostSource::new(rt.reader());
     let mut out = HostSink::new(io::writer(rt));

@@ -7,8 +7,8 @@ use Rattle.slee_disk.specs.declared.side.Side.TheVariants.{A, B}
 use Rattle.slee_disk.specs.declared.call.Act.{Act}
 use Rattle.slee_disk.specs.declared.call.Act.TheVariants as acts
 use Rattle.slee_disk.specs.declared.call.Call.{Call}
-use Rattle.slee_disk.specs.Sides.{Sides, on, other, sides_of, filled, Torn, Cut}
-use Rattle.slee_disk.specs.Calls.{Instant, with_side, overwritten, Stepped, seen_after, done, after, fresh, torn_piece, Stopped, left_after, stopped_by, stopped, image_of}
+use Rattle.slee_disk.specs.Sides.{Sides, on, other, sides_of, filled, Torn, Cut, overwritten}
+use Rattle.slee_disk.specs.Calls.{Instant, with_side, Stepped, seen_after, done, after, fresh, torn_piece, Stopped, left_after, stopped_by, stopped, image_of}
 use Rattle.slee_disk.specs.Instants.{seen_there}
 use Rattle.slee_disk.specs.MemoryDisk.{MemoryState, state_of}
 use Rattle.slee_disk.proofs.Moments.{same_sides}

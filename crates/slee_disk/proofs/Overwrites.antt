@@ -3,8 +3,7 @@ use Rattle.std.proofs.Common.{◌≡◌, ℕ, ◌+◌, ◌-◌, ◌≤◌, inl, 
 use Rattle.std.proofs.Math.Seq.{take-append-add}
 use Rattle.std.proofs.lemmas.Bool.{cases_lt}
 use Rattle.std.proofs.lemmas.List.{take-append-le, take-replicate, length-replicate}
-use Rattle.slee_disk.specs.Sides.{filled}
-use Rattle.slee_disk.specs.Calls.{overwritten}
+use Rattle.slee_disk.specs.Sides.{filled, overwritten}
 
 filled_short : (e : ℕ) (old : List ℕ) → e ≤ length old → filled e old ≡ old
 filled_short e old within = let none : e - length old ≡ 0 = omega arith in ap (λ k. old ++ replicate k 0) none ∙ append-nil old

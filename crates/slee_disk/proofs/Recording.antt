@@ -7,10 +7,10 @@ use Rattle.slee_disk.specs.declared.side.Side.TheVariants.{A, B}
 use Rattle.slee_disk.specs.declared.call.Act.{Act}
 use Rattle.slee_disk.specs.declared.call.Act.TheVariants as acts
 use Rattle.slee_disk.specs.declared.call.Call.{Call}
-use Rattle.slee_disk.specs.Sides.{Sides, on, other, Torn, Cut, AtSide, Holds}
+use Rattle.slee_disk.specs.Sides.{Sides, on, other, Torn, Cut, AtSide, Holds, overwritten}
 use Rattle.slee_disk.specs.Causes.{Rose}
 use Rattle.slee_disk.specs.Disk.{DiskState, Passes, Looks, Changes, KeepsSettled, Settles}
-use Rattle.slee_disk.specs.Calls.{Instant, with_side, marked, overwritten, seen_after, done, after, fresh, Since, call_of, more}
+use Rattle.slee_disk.specs.Calls.{Instant, with_side, marked, seen_after, done, after, fresh, Since, call_of, more}
 use Rattle.slee_disk.specs.Instants.{seen_there}
 use Rattle.slee_disk.specs.MemoryDisk.{MemoryState, state_at, state_of, seen_of, Recorded}
 

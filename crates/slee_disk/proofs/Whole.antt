@@ -6,8 +6,8 @@ use Rattle.slee_disk.specs.declared.side.Side.TheVariants.{A, B}
 use Rattle.slee_disk.specs.declared.call.Act.{Act}
 use Rattle.slee_disk.specs.declared.call.Act.TheVariants as acts
 use Rattle.slee_disk.specs.declared.call.Call.{Call}
-use Rattle.slee_disk.specs.Sides.{Sides, on, other, sides_of}
-use Rattle.slee_disk.specs.Calls.{Instant, with_side, overwritten, seen_after, done, after, fresh, torn_piece, left_after, stopped, image_of}
+use Rattle.slee_disk.specs.Sides.{Sides, on, other, sides_of, overwritten}
+use Rattle.slee_disk.specs.Calls.{Instant, with_side, seen_after, done, after, fresh, torn_piece, left_after, stopped, image_of}
 use Rattle.slee_disk.specs.Laws.{WritesUpTo, AreWhole}
 use Rattle.slee_disk.proofs.Recording.{done_seen}
 

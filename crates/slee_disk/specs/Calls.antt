@@ -5,7 +5,7 @@ use Rattle.slee_disk.specs.declared.side.Side.TheVariants.{A, B}
 use Rattle.slee_disk.specs.declared.call.Act.{Act}
 use Rattle.slee_disk.specs.declared.call.Act.TheVariants as acts
 use Rattle.slee_disk.specs.declared.call.Call.{Call}
-use Rattle.slee_disk.specs.Sides.{Sides, on, other, sides_of, filled, Torn, Cut, AtSide}
+use Rattle.slee_disk.specs.Sides.{Sides, on, other, sides_of, overwritten, Torn, Cut, AtSide}
 
 -- What reads give at some moment, what a crash then may leave, and which sides have nothing pending.
 pub record Instant : Type 1 where
@@ -23,10 +23,6 @@ marked A mark marks A = mark
 marked A mark marks B = marks B
 marked B mark marks A = marks A
 marked B mark marks B = mark
-
--- these bytes over the old ones at a place, with zeros in a gap before it
-abbrev pub overwritten : ℕ → List ℕ → List ℕ → List ℕ
-overwritten at bytes old = take at (filled at old) ++ bytes ++ drop (at + length bytes) old
 
 -- what was possible, after a step of one side
 abbrev pub Stepped : Side → (List ℕ → List ℕ → Type 0) → (Sides → Type 0) → Sides → Type 0

@@ -7,8 +7,8 @@ use Rattle.slee_disk.specs.declared.side.Side.TheVariants.{A, B}
 use Rattle.slee_disk.specs.declared.call.Act.{Act}
 use Rattle.slee_disk.specs.declared.call.Act.TheVariants as acts
 use Rattle.slee_disk.specs.declared.call.Call.{Call}
-use Rattle.slee_disk.specs.Sides.{Sides, on, other}
-use Rattle.slee_disk.specs.Calls.{Instant, with_side, marked, Stepped, seen_after, done, after, fresh, Since, overwritten}
+use Rattle.slee_disk.specs.Sides.{Sides, on, other, overwritten}
+use Rattle.slee_disk.specs.Calls.{Instant, with_side, marked, Stepped, seen_after, done, after, fresh, Since}
 
 -- now is one of the moments
 pub still : (calls : List Call) (first : Sides) (t : ℕ) (image : Sides) → t ≤ length calls → (after calls (fresh first)).images image → Since calls first t image

@@ -1,7 +1,7 @@
 //! The bytes of two sides.
 ghost use Rattle.std.specs.Prelude.{◌≡◌, ◌≤◌, ◌+◌, ◌++◌, take, drop, length, IfOk, OnOk, OnErr};
-ghost use Rattle.slee_disk.specs.Sides.{on, other, given, sides_of, filled};
-ghost use Rattle.slee_disk.specs.Calls.{with_side, overwritten};
+ghost use Rattle.slee_disk.specs.Sides.{on, other, given, sides_of, filled, overwritten};
+ghost use Rattle.slee_disk.specs.Calls.{with_side};
 
 use crate::Side;
 use slee_value::NoMemory;

@@ -24,7 +24,7 @@ code_of statuses.NoMemory = 12
 code_of (statuses.TooLarge what) = 13
 code_of statuses.NotBuilt = 14
 
--- the word for a source in messages
+-- the word for a source in messages; today only the signals are read
 abbrev pub given_word : Given → List ℕ
 given_word givens.Deploy = codes "deploy"
 given_word givens.Signals = codes "signals"

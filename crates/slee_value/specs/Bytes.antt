@@ -22,7 +22,7 @@ spelled_text text = spelled_u32 (length text) ++ text
 abbrev pub spelled_flag : Bool → List ℕ
 spelled_flag flag = from_bool flag ∷ []
 
--- the bytes of a value: a byte for its type, and then
+-- the bytes of a value: a byte for its type, and then its own
 abbrev pub spelling_of_value : Value → List ℕ
 spelling_of_value (Int number) = 0 ∷ spelled_i64 number
 spelling_of_value (Text text) = 1 ∷ spelled_text text
