@@ -128,7 +128,7 @@ def unreadable_input(command):
 
 def closed_streams(command):
     """A file of the journal doesn't take the place of a closed stream."""
-    for places, expected in (((1,), 6), ((0,), 3), ((0, 1), 3), ((0, 1, 2), 3), ((2,), 0)):
+    for places, expected in (((1,), 6), ((0,), 3), ((0, 1), 6), ((0, 1, 2), 6), ((2,), 0)):
         with tempfile.TemporaryDirectory() as folder:
             run(command, ["play", "1", "100"], b"start c1\n", folder)
             status, _ = run(command, ["play", "1", "100"], b"start c2\n", folder, preexec_fn=lambda: list(map(os.close, places)))
