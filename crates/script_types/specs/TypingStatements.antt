@@ -4,8 +4,8 @@ use Rattle.std.specs.Prelude.{ℕ, ◌+◌, ◌==◌, Bool, true, not, List, [],
 use Rattle.std.specs.List.{list_any, list_all}
 use Rattle.slee_value.specs.declared.kind.Kind.{Kind}
 use Rattle.slee_value.specs.declared.kind.Kind.TheVariants as k
-use Rattle.script_codes.specs.declared.misuse.CheckBad.TheVariants as bad
-use Rattle.script_codes.specs.declared.codes.FieldCode.{FieldCode}
+use Rattle.script_types.specs.declared.misuse.CheckBad.TheVariants as bad
+use Rattle.script_types.specs.declared.codes.FieldCode.{FieldCode}
 use Rattle.script_tree.specs.declared.symbol.Verb.{Verb}
 use Rattle.script_tree.specs.declared.symbol.Verb.TheVariants as v
 use Rattle.script_tree.specs.declared.tree.Who.{Who}
@@ -14,11 +14,11 @@ use Rattle.script_tree.specs.declared.tree.Over.{Over}
 use Rattle.script_tree.specs.declared.tree.Over.TheVariants as over
 use Rattle.script_tree.specs.Tree as tree
 use Rattle.script_tree.specs.Tree.{Bytes, Expression, Assigning, OnEntities, OnActivities, SettingTimer, Statement, Statements}
-use Rattle.script_codes.specs.Codes.{kind_in, attribute_kind, any_event, declared_event, relation_named, method_named}
-use Rattle.script_codes.specs.TypingResult.{Checked, ◌>>=◌, misused, tested, known}
-use Rattle.script_codes.specs.Scopes.{Scope, with_value, with_child, check_new, check_value, check_child}
-use Rattle.script_codes.specs.TokenCounts.{tokens_in, tokens_in_arguments, tokens_in_tail, tokens_in_statement, tokens_in_statements}
-use Rattle.script_codes.specs.TypingExpressions.{Setting, Role, InMethod, check_expression, check_asked, serves, not_on_remove}
+use Rattle.script_types.specs.Codes.{kind_in, attribute_kind, any_event, declared_event, relation_named, method_named}
+use Rattle.script_types.specs.TypingResult.{Checked, ◌>>=◌, misused, tested, known}
+use Rattle.script_types.specs.Scopes.{Scope, with_value, with_child, check_new, check_value, check_child}
+use Rattle.script_types.specs.TokenCounts.{tokens_in, tokens_in_arguments, tokens_in_tail, tokens_in_statement, tokens_in_statements}
+use Rattle.script_types.specs.TypingExpressions.{Setting, Role, InMethod, check_expression, check_asked, serves, not_on_remove}
 
 -- let NAME = e ;      NAME = e ;      self . NAME = e ;      attr ( e , NAME ) = e ;
 abbrev pub check_assigning : Setting → Scope → ℕ → Assigning → Checked Scope

@@ -20,8 +20,8 @@ use Rattle.script_tree.specs.Tree as tree
 use Rattle.script_tree.specs.Tree.{Bytes, Expression, Leaf, Unary, Binary, Ask, Assigning, OnEntities, OnActivities, SettingTimer, Statement, Statements}
 use Rattle.script_tree.specs.Grammar.{level_of}
 use Rattle.script_tree.specs.Spelling.{fixed, level, left_level, at_level, before_asked, behind_asked, spell_leaf, spell_expression, spell_who, spell_over, spell_assigning, spell_priority, spell_more, spell_arguments, spell_result, spell_on_entities, spell_service, spell_fields, spell_more_fields, spell_on_activities, spell_repeat, spell_keep, spell_timer, ended, braced, spell_statement, spell_statements}
-use Rattle.script_codes.specs.TokenCounts.{tokens_in, tokens_in_leaf, tokens_before, tokens_behind, tokens_in_optional, tokens_in_arguments, tokens_in_tail, tokens_in_each, tokens_in_fields, tokens_in_assigning, tokens_on_entities, tokens_on_activities, tokens_in_repeat, tokens_in_keep, tokens_in_timer, tokens_in_statement, tokens_in_statements}
-use Rattle.script_codes.specs.TypingPlaces.{counts, count_of_tokens}
+use Rattle.script_types.specs.TokenCounts.{tokens_in, tokens_in_leaf, tokens_before, tokens_behind, tokens_in_optional, tokens_in_arguments, tokens_in_tail, tokens_in_each, tokens_in_fields, tokens_in_assigning, tokens_on_entities, tokens_on_activities, tokens_in_repeat, tokens_in_keep, tokens_in_timer, tokens_in_statement, tokens_in_statements}
+use Rattle.script_types.specs.TypingPlaces.{counts, count_of_tokens}
 
 filter-one : (b : Bool) (x : Lexeme) (us vs ws : List Lexeme) → us ≡ vs ++ ws → cond b (x ∷ us) us ≡ cond b (x ∷ vs) vs ++ ws
 filter-one true x us vs ws h = ap (λ us. x ∷ us) h

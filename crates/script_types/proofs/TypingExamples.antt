@@ -2,7 +2,7 @@
 use Rattle.std.specs.Prelude.{◌≡◌, refl, ℕ, false, List, [], ◌∷◌, Option, Some, None, Ok, Err, codes, pos}
 use Rattle.slee_value.specs.declared.kind.Kind.TheVariants as k
 use Rattle.slee_value.specs.declared.keep.Keep.TheVariants as keep
-use Rattle.script_codes.specs.declared.misuse.CheckBad.TheVariants.{Name, Mismatch, Count, Place}
+use Rattle.script_types.specs.declared.misuse.CheckBad.TheVariants.{Name, Mismatch, Count, Place}
 use Rattle.script_tree.specs.declared.symbol.Operator.TheVariants.{Or, And, Equal, Less, Join, Plus, Minus, Times, Divide, Remainder}
 use Rattle.script_tree.specs.declared.symbol.Constant.TheVariants as c
 use Rattle.script_tree.specs.declared.symbol.Function.TheVariants as f
@@ -12,16 +12,16 @@ use Rattle.script_tree.specs.declared.tree.Prefix.TheVariants.{Not}
 use Rattle.script_tree.specs.declared.tree.Query.TheVariants as q
 use Rattle.script_tree.specs.declared.tree.Who.TheVariants.{Own, Child}
 use Rattle.script_tree.specs.declared.tree.Over.TheVariants.{Activities, Children}
-use Rattle.script_codes.specs.declared.codes.CodePart.TheVariants as part
+use Rattle.script_types.specs.declared.codes.CodePart.TheVariants as part
 use Rattle.script_tree.specs.Tree as t
 use Rattle.script_tree.specs.Tree.{Bytes, Expression, Binary, Unary, Ask, Statement, Statements, Nothing, Then, Do, If, While, For}
-use Rattle.script_codes.specs.declared.codes.EventCode.{EventCode}
-use Rattle.script_codes.specs.declared.codes.TableCode.{TableCode}
-use Rattle.script_codes.specs.Codes.{Codes, Block, Method}
-use Rattle.script_codes.specs.TypingResult.{Checked, misused, ◌>>=◌}
-use Rattle.script_codes.specs.TypingExpressions.{Role, OnEvent, InMethod, OnException, OnRemove}
-use Rattle.script_codes.specs.TypingStatements.{check_statements}
-use Rattle.script_codes.specs.Typing.{check_codes, fields_of_event}
+use Rattle.script_types.specs.declared.codes.EventCode.{EventCode}
+use Rattle.script_types.specs.declared.codes.TableCode.{TableCode}
+use Rattle.script_types.specs.Codes.{Codes, Block, Method}
+use Rattle.script_types.specs.TypingResult.{Checked, misused, ◌>>=◌}
+use Rattle.script_types.specs.TypingExpressions.{Role, OnEvent, InMethod, OnException, OnRemove}
+use Rattle.script_types.specs.TypingStatements.{check_statements}
+use Rattle.script_types.specs.Typing.{check_codes, fields_of_event}
 
 -- Short names for the parts of scripts.
 

@@ -1,11 +1,11 @@
 -- The variables that are visible at a place of a script.
 use Rattle.std.specs.Prelude.{ℕ, List, [], ◌∷◌, ◌++◌, map, Option, Some, None, Ok, is_none, option_map}
 use Rattle.slee_value.specs.declared.kind.Kind.{Kind}
-use Rattle.script_codes.specs.declared.misuse.CheckBad.TheVariants as bad
-use Rattle.script_codes.specs.declared.codes.FieldCode.{FieldCode}
+use Rattle.script_types.specs.declared.misuse.CheckBad.TheVariants as bad
+use Rattle.script_types.specs.declared.codes.FieldCode.{FieldCode}
 use Rattle.script_tree.specs.Tree.{Bytes}
-use Rattle.script_codes.specs.Codes.{named}
-use Rattle.script_codes.specs.TypingResult.{Checked, misused, tested}
+use Rattle.script_types.specs.Codes.{named}
+use Rattle.script_types.specs.TypingResult.{Checked, misused, tested}
 
 -- a variable is a value of a type, or a child entity with the number of its block
 pub data Holding : Type 0 where

@@ -1,11 +1,11 @@
 -- The codes that are kept in memory, as a value.
 use Rattle.std.specs.Prelude.{map, option_map}
-use Rattle.script_codes.specs.declared.codes.HandlerCode.{HandlerCode}
-use Rattle.script_codes.specs.declared.codes.MethodCode.{MethodCode}
-use Rattle.script_codes.specs.declared.codes.BlockCode.{BlockCode}
-use Rattle.script_codes.specs.declared.codes.Codes.{Codes as CodesInMemory}
+use Rattle.script_types.specs.declared.codes.HandlerCode.{HandlerCode}
+use Rattle.script_types.specs.declared.codes.MethodCode.{MethodCode}
+use Rattle.script_types.specs.declared.codes.BlockCode.{BlockCode}
+use Rattle.script_types.specs.declared.codes.Codes.{Codes as CodesInMemory}
 use Rattle.script_tree.specs.Script.{tree_of_script}
-use Rattle.script_codes.specs.Codes.{Handler, Method, Block, Codes}
+use Rattle.script_types.specs.Codes.{Handler, Method, Block, Codes}
 
 abbrev pub handler_of_code : HandlerCode → Handler
 handler_of_code h = record { event = h.event; mask = h.mask; script = tree_of_script h.script }

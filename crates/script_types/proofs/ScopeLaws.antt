@@ -3,11 +3,11 @@ use Rattle.std.proofs.Common.{◌≡◌, ◌+◌, ℕ, [], ◌∷◌, ◌++◌, 
 use Rattle.slee_value.specs.declared.kind.Kind.{Kind}
 use Rattle.script_tree.specs.Tree as tree
 use Rattle.script_tree.specs.Tree.{Bytes, Expression, Assigning, OnEntities, OnActivities, SettingTimer, Statement, Statements}
-use Rattle.script_codes.specs.TypingResult.{Checked, ◌>>=◌}
-use Rattle.script_codes.specs.Scopes.{Scope, Variable}
-use Rattle.script_codes.specs.TokenCounts.{tokens_in_statement}
-use Rattle.script_codes.specs.TypingExpressions.{Setting}
-use Rattle.script_codes.specs.TypingStatements.{check_assigning, check_result, check_on_entities, check_on_activities, check_timer, check_statement, check_statements}
+use Rattle.script_types.specs.TypingResult.{Checked, ◌>>=◌}
+use Rattle.script_types.specs.Scopes.{Scope, Variable}
+use Rattle.script_types.specs.TokenCounts.{tokens_in_statement}
+use Rattle.script_types.specs.TypingExpressions.{Setting}
+use Rattle.script_types.specs.TypingStatements.{check_assigning, check_result, check_on_entities, check_on_activities, check_timer, check_statement, check_statements}
 
 -- a check whose scope is that one with new variables behind it
 abbrev pub Grows : Scope → Checked Scope → Type 0

@@ -1,6 +1,6 @@
 -- Which token of a text a misuse stands at, and its line and column.
 use Rattle.std.specs.Prelude.{ℕ, Bool, true, false, List, drop, length, filter, not}
-use Rattle.script_codes.specs.declared.misuse.Misuse.{Misuse}
+use Rattle.script_types.specs.declared.misuse.Misuse.{Misuse}
 use Rattle.script_tree.specs.declared.symbol.Fixed.{Fixed}
 use Rattle.script_tree.specs.declared.symbol.Fixed.TheVariants as x
 use Rattle.script_tree.specs.declared.symbol.Symbol.TheVariants as s

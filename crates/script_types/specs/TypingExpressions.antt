@@ -3,8 +3,8 @@ use Rattle.std.specs.Prelude.{ℕ, ◌+◌, Bool, true, false, not, ◌&&◌, �
 use Rattle.std.specs.List.{list_any}
 use Rattle.slee_value.specs.declared.kind.Kind.{Kind}
 use Rattle.slee_value.specs.declared.kind.Kind.TheVariants as k
-use Rattle.script_codes.specs.declared.misuse.CheckBad.TheVariants as bad
-use Rattle.script_codes.specs.declared.codes.FieldCode.{FieldCode}
+use Rattle.script_types.specs.declared.misuse.CheckBad.TheVariants as bad
+use Rattle.script_types.specs.declared.codes.FieldCode.{FieldCode}
 use Rattle.script_tree.specs.declared.symbol.Operator.{Operator}
 use Rattle.script_tree.specs.declared.symbol.Operator.TheVariants as o
 use Rattle.script_tree.specs.declared.symbol.Constant.{Constant}
@@ -19,10 +19,10 @@ use Rattle.script_tree.specs.declared.tree.Query.{Query}
 use Rattle.script_tree.specs.declared.tree.Query.TheVariants as q
 use Rattle.script_tree.specs.Tree as tree
 use Rattle.script_tree.specs.Tree.{Bytes, Expression}
-use Rattle.script_codes.specs.Codes.{Codes, Block, kind_in, attribute_kind, any_event, table_named, row_kind, relation_named}
-use Rattle.script_codes.specs.TypingResult.{Checked, ◌>>=◌, misused, tested, known}
-use Rattle.script_codes.specs.Scopes.{Scope, check_value, check_child}
-use Rattle.script_codes.specs.TokenCounts.{tokens_in, tokens_before}
+use Rattle.script_types.specs.Codes.{Codes, Block, kind_in, attribute_kind, any_event, table_named, row_kind, relation_named}
+use Rattle.script_types.specs.TypingResult.{Checked, ◌>>=◌, misused, tested, known}
+use Rattle.script_types.specs.Scopes.{Scope, check_value, check_child}
+use Rattle.script_types.specs.TokenCounts.{tokens_in, tokens_before}
 
 -- which of a block's scripts it is: a handler with the fields of its event, a method with its result, or another one
 pub data Role : Type 0 where

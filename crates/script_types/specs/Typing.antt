@@ -1,17 +1,17 @@
 -- Which codes are well typed: each script of each block checks without a fault. The scripts have an order, and so a first fault.
 use Rattle.std.specs.Prelude.{◌≡◌, ℕ, suc, List, [], ◌∷◌, ◌++◌, length, map, Option, Some, None, Result, Ok, Err, slice_get, option_map, unwrap_or}
 use Rattle.std.specs.List.{range_with_len}
-use Rattle.script_codes.specs.declared.misuse.Misuse.{Misuse}
-use Rattle.script_codes.specs.declared.codes.FieldCode.{FieldCode}
-use Rattle.script_codes.specs.declared.codes.CodePart.{CodePart}
-use Rattle.script_codes.specs.declared.codes.CodePart.TheVariants as p
-use Rattle.script_codes.specs.declared.codes.CodePlace.{CodePlace}
+use Rattle.script_types.specs.declared.misuse.Misuse.{Misuse}
+use Rattle.script_types.specs.declared.codes.FieldCode.{FieldCode}
+use Rattle.script_types.specs.declared.codes.CodePart.{CodePart}
+use Rattle.script_types.specs.declared.codes.CodePart.TheVariants as p
+use Rattle.script_types.specs.declared.codes.CodePlace.{CodePlace}
 use Rattle.script_tree.specs.Tree.{Bytes, Statements}
-use Rattle.script_codes.specs.Codes.{Codes, Block, Handler, Method, any_event}
-use Rattle.script_codes.specs.TypingResult.{Checked, ◌>>=◌}
-use Rattle.script_codes.specs.Scopes.{Scope, parameters_in_scope}
-use Rattle.script_codes.specs.TypingExpressions.{Role, OnEvent, InMethod, OnException, OnRolledBack, OnRemove}
-use Rattle.script_codes.specs.TypingStatements.{check_statements}
+use Rattle.script_types.specs.Codes.{Codes, Block, Handler, Method, any_event}
+use Rattle.script_types.specs.TypingResult.{Checked, ◌>>=◌}
+use Rattle.script_types.specs.Scopes.{Scope, parameters_in_scope}
+use Rattle.script_types.specs.TypingExpressions.{Role, OnEvent, InMethod, OnException, OnRolledBack, OnRemove}
+use Rattle.script_types.specs.TypingStatements.{check_statements}
 
 -- a script with what it is for and the variables that are visible at its start
 pub record Task : Type 0 where

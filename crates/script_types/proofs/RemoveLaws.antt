@@ -12,18 +12,18 @@ use Rattle.script_tree.specs.declared.tree.Leaf.{Leaf as ALeaf}
 use Rattle.script_tree.specs.declared.tree.Leaf.TheVariants as l
 use Rattle.script_tree.specs.declared.tree.Query.{Query}
 use Rattle.script_tree.specs.declared.tree.Query.TheVariants as q
-use Rattle.script_codes.specs.declared.codes.CodePart.TheVariants as part
-use Rattle.script_codes.specs.declared.codes.CodePlace.{CodePlace}
+use Rattle.script_types.specs.declared.codes.CodePart.TheVariants as part
+use Rattle.script_types.specs.declared.codes.CodePlace.{CodePlace}
 use Rattle.script_tree.specs.Tree as tree
 use Rattle.script_tree.specs.Tree.{Bytes, Expression, Assigning, OnEntities, OnActivities, SettingTimer, Statement, Statements}
-use Rattle.script_codes.specs.Codes.{Codes, Block}
-use Rattle.script_codes.specs.TypingResult.{Checked, ◌>>=◌}
-use Rattle.script_codes.specs.Scopes.{Scope}
-use Rattle.script_codes.specs.TokenCounts.{tokens_in, tokens_in_statement, tokens_in_statements, tokens_before}
-use Rattle.script_codes.specs.TypingExpressions.{Setting, OnRemove, check_constant, check_leaf, check_query_place, check_expression, check_asked}
-use Rattle.script_codes.specs.TypingStatements.{check_assigning, check_on_entities, check_on_activities, check_timer, check_verb, check_statement, check_statements}
-use Rattle.script_codes.specs.Typing.{WellTyped, check_task, check_part, task_for}
-use Rattle.script_codes.specs.RemoveScripts.{is_fixed_constant, is_own_leaf, is_own_query, is_own_expression, is_for_remove, are_for_remove}
+use Rattle.script_types.specs.Codes.{Codes, Block}
+use Rattle.script_types.specs.TypingResult.{Checked, ◌>>=◌}
+use Rattle.script_types.specs.Scopes.{Scope}
+use Rattle.script_types.specs.TokenCounts.{tokens_in, tokens_in_statement, tokens_in_statements, tokens_before}
+use Rattle.script_types.specs.TypingExpressions.{Setting, OnRemove, check_constant, check_leaf, check_query_place, check_expression, check_asked}
+use Rattle.script_types.specs.TypingStatements.{check_assigning, check_on_entities, check_on_activities, check_timer, check_verb, check_statement, check_statements}
+use Rattle.script_types.specs.Typing.{WellTyped, check_task, check_part, task_for}
+use Rattle.script_types.specs.RemoveScripts.{is_fixed_constant, is_own_leaf, is_own_query, is_own_expression, is_for_remove, are_for_remove}
 
 -- a check that finds a fault unless the test holds
 abbrev Shows : {A : Type 0} → Bool → Checked A → Type 0

@@ -1,8 +1,8 @@
 -- What a check finds: the value that it is after, or the first fault with its kind and place.
 use Rattle.std.specs.Prelude.{ℕ, Bool, true, false, Option, Some, None, Result, Ok, Err}
-use Rattle.script_codes.specs.declared.misuse.CheckBad.{CheckBad}
-use Rattle.script_codes.specs.declared.misuse.CheckBad.TheVariants as bad
-use Rattle.script_codes.specs.declared.misuse.Misuse.{Misuse}
+use Rattle.script_types.specs.declared.misuse.CheckBad.{CheckBad}
+use Rattle.script_types.specs.declared.misuse.CheckBad.TheVariants as bad
+use Rattle.script_types.specs.declared.misuse.Misuse.{Misuse}
 
 abbrev pub Checked : Type 0 → Type 0
 Checked A = Result A Misuse

@@ -2,11 +2,11 @@
 use Rattle.std.specs.Prelude.{ℕ, Bool, List, [], ◌∷◌, ◌++◌, Option, codes, find, bytes_eq, slice_get, option_map, option_and_then}
 use Rattle.slee_value.specs.declared.kind.Kind.{Kind}
 use Rattle.slee_value.specs.declared.kind.Kind.TheVariants as k
-use Rattle.script_codes.specs.declared.codes.FieldCode.{FieldCode}
-use Rattle.script_codes.specs.declared.codes.EventCode.{EventCode}
-use Rattle.script_codes.specs.declared.codes.TableCode.{TableCode}
-use Rattle.script_codes.specs.declared.codes.AttributeCode.{AttributeCode}
-use Rattle.script_codes.specs.declared.codes.RelationCode.{RelationCode}
+use Rattle.script_types.specs.declared.codes.FieldCode.{FieldCode}
+use Rattle.script_types.specs.declared.codes.EventCode.{EventCode}
+use Rattle.script_types.specs.declared.codes.TableCode.{TableCode}
+use Rattle.script_types.specs.declared.codes.AttributeCode.{AttributeCode}
+use Rattle.script_types.specs.declared.codes.RelationCode.{RelationCode}
 use Rattle.script_tree.specs.Tree.{Bytes, Statements}
 
 -- an event handler, and whether its event is masked on attachment

@@ -3,13 +3,13 @@ use Rattle.std.proofs.Common.{◌≡◌, ◌<◌, ◌+◌, ℕ, zero, suc, List,
 use Rattle.std.proofs.lemmas.List.{map-append}
 use Rattle.std.specs.Prelude.{slice_get}
 use Rattle.std.specs.List.{range_with_len}
-use Rattle.script_codes.specs.declared.misuse.Misuse.{Misuse}
-use Rattle.script_codes.specs.declared.codes.CodePart.{CodePart}
-use Rattle.script_codes.specs.declared.codes.CodePart.TheVariants as p
-use Rattle.script_codes.specs.declared.codes.CodePlace.{CodePlace}
-use Rattle.script_codes.specs.Codes.{Codes, Block, Handler, Method}
-use Rattle.script_codes.specs.TypingResult.{Checked, ◌>>=◌}
-use Rattle.script_codes.specs.Typing.{check_of, WellTyped, parts_of, places_in, fault_or, first_fault, check_codes}
+use Rattle.script_types.specs.declared.misuse.Misuse.{Misuse}
+use Rattle.script_types.specs.declared.codes.CodePart.{CodePart}
+use Rattle.script_types.specs.declared.codes.CodePart.TheVariants as p
+use Rattle.script_types.specs.declared.codes.CodePlace.{CodePlace}
+use Rattle.script_types.specs.Codes.{Codes, Block, Handler, Method}
+use Rattle.script_types.specs.TypingResult.{Checked, ◌>>=◌}
+use Rattle.script_types.specs.Typing.{check_of, WellTyped, parts_of, places_in, fault_or, first_fault, check_codes}
 
 -- a check of two parts finds no fault where neither part has one
 pub checked_then : {A B : Type 0} (m : Checked A) (f : A → Checked B) (y : B) → (m >>= f) ≡ Ok y → (x : A) × (m ≡ Ok x) × (f x ≡ Ok y)

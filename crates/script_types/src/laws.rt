@@ -2,14 +2,14 @@
 ghost use Rattle.std.specs.Prelude.{◌≡◌, ◌++◌, ℕ, true, Some, Ok, slice_get};
 ghost use Rattle.script_tree.specs.Spelling.{spell_statements};
 ghost use Rattle.script_tree.specs.Tree.{Statements};
-ghost use Rattle.script_codes.specs.Codes.{Codes, Block};
-ghost use Rattle.script_codes.specs.RemoveScripts.{are_for_remove};
-ghost use Rattle.script_codes.specs.Scopes.{Scope};
-ghost use Rattle.script_codes.specs.TokenCounts.{tokens_in_statements};
-ghost use Rattle.script_codes.specs.Typing.{WellTyped, check_codes};
-ghost use Rattle.script_codes.specs.TypingExpressions.{Setting};
-ghost use Rattle.script_codes.specs.TypingPlaces.{count_of_tokens};
-ghost use Rattle.script_codes.specs.TypingStatements.{check_statements};
+ghost use Rattle.script_types.specs.Codes.{Codes, Block};
+ghost use Rattle.script_types.specs.RemoveScripts.{are_for_remove};
+ghost use Rattle.script_types.specs.Scopes.{Scope};
+ghost use Rattle.script_types.specs.TokenCounts.{tokens_in_statements};
+ghost use Rattle.script_types.specs.Typing.{WellTyped, check_codes};
+ghost use Rattle.script_types.specs.TypingExpressions.{Setting};
+ghost use Rattle.script_types.specs.TypingPlaces.{count_of_tokens};
+ghost use Rattle.script_types.specs.TypingStatements.{check_statements};
 
 /// Where the check of all scripts in their order finds no fault, each script is well typed.
 pub fn codes_without_fault_are_well_typed()
