@@ -1,7 +1,6 @@
 -- The rows of profile tables: what is read of them, and how they change (JSR 240, chapter 10).
-use Rattle.std.specs.Prelude.{ℕ, ◌==◌, Bool, false, ◌&&◌, ◌||◌, not, List, Option, option_map, find, filter}
+use Rattle.std.specs.Prelude.{ℕ, ◌==◌, Bool, ◌||◌, not, List, Option, option_map, find, filter}
 use Rattle.std.specs.List.{list_all}
-use Rattle.std.specs.Option.{option_map_or}
 use Rattle.std.specs.Str.{bytes_eq}
 use Rattle.slee_value.specs.declared.value.Value.{Value}
 use Rattle.handler_meaning.specs.Same.{same_option, same_value}

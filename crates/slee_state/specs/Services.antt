@@ -1,5 +1,5 @@
 -- Services: what is read of them, and how they change (JSR 240, chapter 9).
-use Rattle.std.specs.Prelude.{ℕ, zero, suc, Bool, true, false, List, [], ◌∷◌, Option, slice_get}
+use Rattle.std.specs.Prelude.{ℕ, zero, suc, Bool, true, false, List, [], ◌∷◌, slice_get}
 use Rattle.std.specs.Option.{option_map_or}
 use Rattle.slee_state.specs.declared.rows.Service.{Service}
 use Rattle.slee_state.specs.declared.rows.ServiceState.{ServiceState}

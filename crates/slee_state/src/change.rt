@@ -1,7 +1,5 @@
 use crate::{AcKind, Event, ServiceState, TimerSpec};
-use slee_value::{
-    ActivityId, ConvName, EntityId, Name, Names, Payload, Text, TimerId, Value,
-};
+use slee_value::{ActivityId, ConvName, EntityId, Name, Names, Payload, Text, TimerId, Value};
 
 /// One change of the state: a call of one store, or one of the five last, which no store keeps.
 #[derive(Debug, Drop)]

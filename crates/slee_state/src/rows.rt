@@ -1,4 +1,6 @@
-use slee_value::{ActivityId, ConvName, EntityId, EventId, Keep, Name, Payload, Text, TimerId, Value};
+use slee_value::{
+    ActivityId, ConvName, EntityId, EventId, Keep, Name, Payload, Text, TimerId, Value,
+};
 
 /// What an activity context stands for (JSR 240, chapter 7).
 #[derive(Debug, Drop)]
