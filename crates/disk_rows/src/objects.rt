@@ -1,4 +1,5 @@
-use crate::{
+//! Sources, sinks and disks, in memory and over the host: what they give, what a fault leaves, and what a stop leaves of a disk.
+use slee_disk::{
     Disk, Failed, HostDisk, HostSink, HostSource, LateFile, MemoryDisk, MemorySink, MemorySource,
     ReadFault, Side, Sink, Source, read_whole, write_whole,
 };
