@@ -120,7 +120,7 @@ on_entities_of s scope at (tree.Call child name arguments result) = do
   _ ← tested bad.Count (at + 3) (length arguments == length called.method.parameters)
   next ← check_result scope called.method.result (at + 5 + tokens_in_arguments arguments) result
   _ ← not_on_remove s at
-  Ok (record { scope = next; step = p.Entity (p.Invoke (record { child = found.place; block = found.block; method = called.number; arguments = terms; keeps = is_some result })) })
+  Ok (record { scope = next; step = p.Invoke (record { child = found.place; block = found.block; method = called.number; arguments = terms; keeps = is_some result }) })
 
 -- the entity itself or a child
 abbrev pub who_of : Scope → ℕ → NamedWho → Checked Who

@@ -42,7 +42,6 @@ pub data OnEntities : Type 0 where
   Create : Bytes → Rank → OnEntities
   Remove : ℕ → OnEntities
   Priority : ℕ → Term → OnEntities
-  Invoke : Call → OnEntities
 
 -- Steps on activities. The fields of a fired event stand in the order of the text.
 pub data OnActivities : Type 0 where
@@ -78,6 +77,7 @@ mutual
     Activity : OnActivities → Step
     Timer : OnTimers → Step
     Say : Saying → Step
+    Invoke : Call → Step
     If : Term → Steps → Steps → Step
     While : Term → Steps → Step
     For : Range → Steps → Step
