@@ -8,3 +8,7 @@ pub mod TypingStatements
 pub mod Typing
 pub mod TypingPlaces
 pub mod RemoveScripts
+pub mod Program
+pub mod Elaboration
+pub mod ElaborationOfStatements
+pub mod Programs

@@ -5,6 +5,8 @@ mod code_list;
 mod codes;
 mod laws;
 mod misuse;
+mod step;
+mod term;
 
 pub use code_list::CodeList;
 pub use codes::{
@@ -16,3 +18,5 @@ pub use laws::{
     variables_stay_in_place, well_typed_codes_have_no_fault,
 };
 pub use misuse::{CheckBad, Misuse};
+pub use step::{Range, Who};
+pub use term::{Atom, Joint, Question, Scale, Test};
