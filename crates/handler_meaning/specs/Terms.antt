@@ -1,5 +1,5 @@
 -- What terms give. A node's unit is spent before its parts.
-use Rattle.std.specs.Prelude.{ℕ, pos, neg_ℤ, zero, suc, Bool, false, not, List, length, Option, Some, None, is_some, bytes_eq, if◌then◌else◌, option_map, slice_get}
+use Rattle.std.specs.Prelude.{ℕ, pos, neg_ℤ, Bool, false, not, List, length, Option, Some, None, is_some, bytes_eq, if◌then◌else◌, option_map, slice_get}
 use Rattle.std.specs.List.{list_any}
 use Rattle.slee_value.specs.declared.kind.Kind.{Kind}
 use Rattle.slee_value.specs.declared.value.Value.{Value}
@@ -17,7 +17,7 @@ use Rattle.script_types.specs.declared.term.Question.TheVariants as q
 use Rattle.script_types.specs.declared.term.Joint.{Joint}
 use Rattle.script_types.specs.Program.{Term, Single, Ask, Compare, Combine}
 use Rattle.handler_meaning.specs.Answers.{fit, initial, is_of, row_in, value_under}
-use Rattle.handler_meaning.specs.Running.{Setting, Run, ◌>>=◌, give, break, tick, ticked, look}
+use Rattle.handler_meaning.specs.Running.{Setting, Run, ◌>>=◌, give, break, ticked, look}
 use Rattle.handler_meaning.specs.Values.{int, text, flag, activity_value, with_int, with_text, with_flag, with_activity, with_timer, number, apply, decides, compare, text_of_int, text_of_bool}
 use Rattle.handler_meaning.specs.Observing as read
 

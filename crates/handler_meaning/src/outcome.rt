@@ -37,4 +37,3 @@ pub struct Args {
     pub fields: Payload,
     pub failure: Text,
 }
-
