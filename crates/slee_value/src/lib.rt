@@ -36,6 +36,3 @@ pub use reading::{read_flag, read_part, read_text, read_u32, read_u64, read_valu
 pub use text::Text;
 pub use value::Value;
 pub use writing::{write_text, write_value};
-
-#[cfg(test)]
-mod tests;
