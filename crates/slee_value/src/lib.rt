@@ -42,6 +42,3 @@ pub use value::Value;
 pub use writing::{
     write_bytes, write_flag, write_i8, write_text, write_u32, write_u64, write_value,
 };
-
-#[cfg(test)]
-mod tests;

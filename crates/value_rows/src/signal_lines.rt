@@ -1,4 +1,6 @@
-use crate::{SignalFault, Signals, print_signal, read_signals, unescape};
+//! Signal lines: which are built, which are not, how long they may be, and their escaped texts.
+use signal_script::{SignalFault, Signals, print_signal, read_signals, unescape};
+use slee_value::NoMemory;
 use std::alloc::Global;
 use std::process::Abort;
 use std::test::Fail;
@@ -66,8 +68,12 @@ const NOT_BUILT: &[&[u8]] = &[
     b"start c1\x00",
 ];
 
-fn is_not_built(read: Result<Signals, SignalFault>) -> bool {
-    matches!(read, Err(SignalFault::NotBuilt))
+fn is_not_built(alloc: Global, text: &[u8]) -> Result<bool, NoMemory> {
+    match read_signals(alloc, text) {
+        Ok(_) => Ok(false),
+        Err(SignalFault::NotBuilt) => Ok(true),
+        Err(SignalFault::NoMemory) => Err(NoMemory),
+    }
 }
 
 // The lines of these signals, each ended by a newline.
@@ -96,7 +102,7 @@ fn lines_are_read_and_printed(rt: HostRuntime) -> Result<(), Fail> {
         assert!(rt; is_line(&printed(alloc, &signals)?, line));
     }
     for line in NOT_BUILT {
-        assert!(rt; is_not_built(read_signals(alloc, line)));
+        assert!(rt; is_not_built(alloc, line)?);
     }
     let two = b"start c1\nend c1\n";
     assert_eq!(rt;
@@ -126,7 +132,7 @@ fn long_lines_are_refused(rt: HostRuntime) -> Result<(), Fail> {
     longest.push(b'\n')?;
     assert_eq!(rt; read_signals(alloc, &longest)?.as_slice().len(), 1);
     let longer = invite_of_length(alloc, 4097)?;
-    assert!(rt; is_not_built(read_signals(alloc, &longer)));
+    assert!(rt; is_not_built(alloc, &longer)?);
     Ok(())
 }
 
