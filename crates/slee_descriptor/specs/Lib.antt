@@ -1,1 +1,5 @@
 pub mod Deployed
+pub mod Faults
+pub mod Rules
+pub mod Tables
+pub mod Resolving
