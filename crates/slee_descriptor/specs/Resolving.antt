@@ -3,10 +3,10 @@ use Rattle.std.specs.Prelude.{ℕ, ◌++◌, map, filter_map, find, Option, opti
 use Rattle.std.specs.Option.{option_map_or, unwrap_or}
 use Rattle.slee_value.specs.declared.kind.Kind.{Kind}
 use Rattle.script_tree.specs.Tree.{Bytes}
-use Rattle.script_codes.specs.declared.codes.FieldCode.{FieldCode}
-use Rattle.script_codes.specs.declared.codes.EventCode.{EventCode}
-use Rattle.script_codes.specs.declared.codes.AttributeCode.{AttributeCode}
-use Rattle.script_codes.specs.declared.codes.RelationCode.{RelationCode}
+use Rattle.script_types.specs.declared.codes.FieldCode.{FieldCode}
+use Rattle.script_types.specs.declared.codes.EventCode.{EventCode}
+use Rattle.script_types.specs.declared.codes.AttributeCode.{AttributeCode}
+use Rattle.script_types.specs.declared.codes.RelationCode.{RelationCode}
 use Rattle.slee_descriptor.specs.declared.parts.EventType.{EventType}
 use Rattle.slee_descriptor.specs.declared.parts.ProfileSpec.{ProfileSpec}
 use Rattle.slee_descriptor.specs.declared.parts.Table.{Table}

@@ -1,5 +1,6 @@
 -- Rules for the members of a deployment's objects: for each kind of member, the first fault that what stands there has.
-use Rattle.std.specs.Prelude.{ℕ, ◌+◌, ◌==◌, nat_le, ◌&&◌, Bool, true, false, List, [], ◌∷◌, length, Option, Some, None, decimal, codes, bytes_eq, is_some, position, if◌then◌else◌}
+use Rattle.std.specs.Prelude.{ℕ, ◌+◌, ◌==◌, nat_le, ◌&&◌, Bool, true, false, List, [], ◌∷◌, length, Option, Some, None, decimal, codes, bytes_eq, is_some, if◌then◌else◌}
+use Rattle.std.specs.List.{position_from}
 use Rattle.slee_value.specs.declared.kind.Kind.{Kind}
 use Rattle.slee_value.specs.declared.kind.Kind.TheVariants as kinds
 use Rattle.slee_value.specs.declared.component.ComponentId.{ComponentId}
@@ -95,7 +96,7 @@ rule_of word =
 
 -- The word of a variable, at place n among these words, none of which stands twice.
 abbrev pub variable_word : List Bytes → ℕ → Rule Bytes
-variable_word words n word = if is_some (variable_of word) then fresh (position (bytes_eq word) words) n else here bad.Range
+variable_word words n word = if is_some (variable_of word) then fresh (position_from (bytes_eq word) 0 words) n else here bad.Range
 
 -- The word of a rule of custom selection.
 abbrev pub rule_word : Rule Bytes

@@ -1,11 +1,11 @@
 -- The tables of members of a deployment's objects, and the first fault that parts have.
 -- Types, missing and unknown members and the forms of names are no matter of parts: they are those of a document from which parts are read.
-use Rattle.std.specs.Prelude.{ℕ, ◌||◌, Bool, true, false, List, [], ◌∷◌, flat_map, filter_map, find, not, position, Option, Some, None, option_map, option_and_then, is_some, codes, bytes_eq, if◌then◌else◌}
-use Rattle.std.specs.List.{list_any}
+use Rattle.std.specs.Prelude.{ℕ, ◌||◌, Bool, true, false, List, [], ◌∷◌, flat_map, filter_map, find, not, Option, Some, None, option_map, option_and_then, slice_get, is_some, codes, bytes_eq, if◌then◌else◌}
+use Rattle.std.specs.List.{list_any, position_from}
 use Rattle.slee_value.specs.declared.kind.Kind.{Kind}
 use Rattle.slee_value.specs.declared.component.ComponentId.{ComponentId}
 use Rattle.script_tree.specs.Tree.{Bytes}
-use Rattle.script_codes.specs.Codes.{built_in, named, kind_in}
+use Rattle.script_types.specs.Codes.{built_in, named, kind_in}
 use Rattle.slee_descriptor.specs.declared.parts.EventType.{EventType}
 use Rattle.slee_descriptor.specs.declared.parts.ProfileSpec.{ProfileSpec}
 use Rattle.slee_descriptor.specs.declared.parts.Table.{Table}
@@ -22,7 +22,8 @@ use Rattle.slee_descriptor.specs.Rules.{Rule, table, member, items, entries, lab
 
 -- The type of a declared name.
 abbrev pub kind_of : Bytes → List (Bytes × Kind) → Option Kind
-kind_of name fields = option_map (λ f. f.1) (find (λ f. bytes_eq name f.0) fields)
+kind_of name [] = None
+kind_of name (f ∷ fields) = if bytes_eq name f.0 then Some f.1 else kind_of name fields
 
 -- Which components of a list a name, vendor and version belong to: the first.
 abbrev pub IdNumbering : Type 0
@@ -33,8 +34,7 @@ pub record Known : Type 0 where
   pub events : Numbering
   pub profiles : Numbering
   pub blocks : Numbering
-  -- the type of a field of a declared event
-  pub field_kind : Bytes → Bytes → Option Kind
+  pub event_types : List EventType
   -- the type of the first attribute with an alias
   pub alias_kind : Bytes → Option Kind
 
@@ -74,19 +74,30 @@ tables all = entries (λ t. t.name) (λ t. known (all.profiles t.profile))
 abbrev pub relation : Known → Rule Relation
 relation all = member (codes "block") (λ r. r.block) (λ key. known (all.blocks key))
 
+-- The type of a field of a built-in event.
+abbrev pub built_in_field : Bytes → Bytes → Option Kind
+built_in_field event field = option_and_then (λ e. kind_in field e.fields) (named (λ e. e.name) event built_in)
+
+-- Whether an event is built in.
+abbrev pub is_built_in : Bytes → Bool
+is_built_in event = is_some (named (λ e. e.name) event built_in)
+
+-- The type of a field of an event: the declared one of this number, or a built-in one.
+abbrev pub field_in : List EventType → Option ℕ → Bytes → Bytes → Option Kind
+field_in types None event field = built_in_field event field
+field_in types (Some n) event field = option_and_then (λ e. kind_of field e.fields) (slice_get types n)
+
 -- The type of a field of an event that is declared or built in.
 abbrev pub event_field : Known → Bytes → Bytes → Option Kind
-event_field all event field =
-    if is_some (all.events event) then all.field_kind event field
-    else option_and_then (λ e. kind_in field e.fields) (named (λ e. e.name) event built_in)
+event_field all event field = field_in all.event_types (all.events event) event field
 
 -- An event that is declared or built in.
 abbrev pub is_event : Known → Bytes → Bool
-is_event all event = is_some (all.events event) || is_some (named (λ e. e.name) event built_in)
+is_event all event = is_some (all.events event) || is_built_in event
 
 -- Which of a block's handlers is for the event: the first.
 abbrev pub handler_number : List BlockEvent → Numbering
-handler_number handlers event = position (λ h. bytes_eq event h.event) handlers
+handler_number handlers event = position_from (λ h. bytes_eq event h.event) 0 handlers
 
 -- The event that a handler is for.
 abbrev pub event_name : Known → List BlockEvent → ℕ → Rule Bytes
@@ -124,7 +135,7 @@ block_event all handlers n h =
 
 -- Which of a method's parameters a name belongs to: the first.
 abbrev pub parameter_number : List (Bytes × Kind) → Numbering
-parameter_number params name = position (λ p. bytes_eq name p.0) params
+parameter_number params name = position_from (λ p. bytes_eq name p.0) 0 params
 
 abbrev pub method : Rule Method
 method m = member (codes "params") (λ x. x.params) (items (λ n. member (codes "name") (λ p. p.0) (λ name. fresh (parameter_number m.params name) n))) m
@@ -146,14 +157,29 @@ service all keys ids n =
 
 -- Which item of a list has this key, and which this name, vendor and version: the first.
 abbrev pub key_number : {A : Type 0} → (A → Bytes) → List A → Numbering
-key_number key xs q = position (λ x. bytes_eq q (key x)) xs
+key_number key xs q = position_from (λ x. bytes_eq q (key x)) 0 xs
 
 abbrev pub id_number : {A : Type 0} → (A → ComponentId) → List A → IdNumbering
-id_number id xs q = position (λ x. is_same_id q (id x)) xs
+id_number id xs q = position_from (λ x. is_same_id q (id x)) 0 xs
 
--- The aliases of a block's attributes, each with the attribute's type.
-abbrev pub aliased : Block → List (Bytes × Kind)
-aliased b = filter_map (λ a. option_map (λ kind. (a.1, kind)) (kind_of a.0 b.attributes)) b.aliases
+-- What is there, else what comes later.
+abbrev pub or_later : {A : Type 0} → Option A → Option A → Option A
+or_later None later = later
+or_later (Some x) later = Some x
+
+-- The type of an attribute, where this is its alias.
+abbrev pub aliased : List (Bytes × Kind) → Bytes × Bytes → Bytes → Option Kind
+aliased attributes a name = if bytes_eq name a.1 then kind_of a.0 attributes else None
+
+-- The type of a block's first attribute with this alias.
+abbrev pub alias_in : List (Bytes × Kind) → List (Bytes × Bytes) → Bytes → Option Kind
+alias_in attributes [] name = None
+alias_in attributes (a ∷ aliases) name = or_later (aliased attributes a name) (alias_in attributes aliases name)
+
+-- The type of the first attribute of any block with this alias.
+abbrev pub alias_kind : List Block → Bytes → Option Kind
+alias_kind [] name = None
+alias_kind (b ∷ blocks) name = or_later (alias_in b.attributes b.aliases name) (alias_kind blocks name)
 
 -- What the tables look up, in these parts.
 abbrev pub known_in : Parts → Known
@@ -161,8 +187,8 @@ known_in parts = record {
   events = key_number (λ e. e.key) parts.events;
   profiles = key_number (λ p. p.key) parts.profiles;
   blocks = key_number (λ b. b.key) parts.blocks;
-  field_kind = λ event field. option_and_then (λ e. kind_of field e.fields) (find (λ e. bytes_eq event e.key) parts.events);
-  alias_kind = λ name. kind_of name (flat_map aliased parts.blocks);
+  event_types = parts.events;
+  alias_kind = alias_kind parts.blocks;
 }
 
 -- The first fault of parts in the order of the walk, none exactly where they are a deployment.

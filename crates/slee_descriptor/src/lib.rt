@@ -4,6 +4,7 @@
 mod choice;
 mod fault;
 mod parts;
+mod rule;
 
 pub use choice::{SelectRule, Variable};
 pub use fault::{DeployBad, DeployFault};
