@@ -39,6 +39,11 @@ abbrev pub entries : {A : Type 0} → (A → Bytes) → Rule A → Rule (List A)
 entries name rule [] = None
 entries name rule (x ∷ xs) = and_then (under (name x) (rule x)) (entries name rule xs)
 
+-- What is there, else what comes later.
+abbrev pub or_later : {A : Type 0} → Option A → Option A → Option A
+or_later None later = later
+or_later (Some x) later = Some x
+
 -- The most bytes of a name, vendor or version.
 abbrev pub label_limit : ℕ
 label_limit = 256

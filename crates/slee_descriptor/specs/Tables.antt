@@ -1,6 +1,6 @@
 -- The tables of members of a deployment's objects, and the first fault that parts have.
 -- Types, missing and unknown members and the forms of names are no matter of parts: they are those of a document from which parts are read.
-use Rattle.std.specs.Prelude.{ℕ, ◌||◌, Bool, true, false, List, [], ◌∷◌, flat_map, filter_map, find, not, Option, Some, None, option_map, option_and_then, slice_get, is_some, codes, bytes_eq, if◌then◌else◌}
+use Rattle.std.specs.Prelude.{ℕ, ◌||◌, Bool, true, false, List, [], ◌∷◌, not, Option, Some, None, option_and_then, slice_get, is_some, codes, bytes_eq, if◌then◌else◌}
 use Rattle.std.specs.List.{list_any, position_from}
 use Rattle.slee_value.specs.declared.kind.Kind.{Kind}
 use Rattle.slee_value.specs.declared.component.ComponentId.{ComponentId}
@@ -18,7 +18,7 @@ use Rattle.slee_descriptor.specs.declared.parts.Service.{Service}
 use Rattle.slee_descriptor.specs.declared.parts.Parts.{Parts}
 use Rattle.slee_descriptor.specs.declared.fault.DeployBad.TheVariants as bad
 use Rattle.slee_descriptor.specs.Faults.{Fault, here, unless, and_then}
-use Rattle.slee_descriptor.specs.Rules.{Rule, table, member, items, entries, label, Numbering, fresh, known, profile_kind, variable_word, rule_word, text_field, alias, is_same_id}
+use Rattle.slee_descriptor.specs.Rules.{Rule, table, member, items, entries, label, Numbering, or_later, fresh, known, profile_kind, variable_word, rule_word, text_field, alias, is_same_id}
 
 -- The type of a declared name.
 abbrev pub kind_of : Bytes → List (Bytes × Kind) → Option Kind
@@ -161,11 +161,6 @@ key_number key xs q = position_from (λ x. bytes_eq q (key x)) 0 xs
 
 abbrev pub id_number : {A : Type 0} → (A → ComponentId) → List A → IdNumbering
 id_number id xs q = position_from (λ x. is_same_id q (id x)) 0 xs
-
--- What is there, else what comes later.
-abbrev pub or_later : {A : Type 0} → Option A → Option A → Option A
-or_later None later = later
-or_later (Some x) later = Some x
 
 -- The type of an attribute, where this is its alias.
 abbrev pub aliased : List (Bytes × Kind) → Bytes × Bytes → Bytes → Option Kind

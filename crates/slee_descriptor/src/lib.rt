@@ -3,6 +3,8 @@
 
 mod choice;
 mod fault;
+mod first;
+mod ids;
 mod parts;
 mod rule;
 

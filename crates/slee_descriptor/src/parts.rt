@@ -1,7 +1,7 @@
 //! The parts of a deployment. What comes from a JSON object is a list in byte order of its names.
 
-use script_types::CodeList;
 use script_tree::Script;
+use script_types::CodeList;
 use slee_value::{ComponentId, Kind, Name, Text};
 
 /// An event type (JSR 240, chapter 8). The built-in ones are in no list.

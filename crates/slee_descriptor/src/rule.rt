@@ -55,12 +55,7 @@ fn check_items<A, R: Rule<A>>(alloc: Global, rule: &R, parts: &[A]) -> Result<()
     Ok(())
 }
 
-fn check_item<A, R: Rule<A>>(
-    alloc: Global,
-    rule: &R,
-    i: usize,
-    part: &A,
-) -> Result<(), DeployFault>
+fn check_item<A, R: Rule<A>>(alloc: Global, rule: &R, i: usize, part: &A) -> Result<(), DeployFault>
     ensures { Says (under (decimal i) (R.fault rule.now i part.now)) result }
 {
     match rule.check(alloc, i, part) {
