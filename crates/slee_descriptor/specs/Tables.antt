@@ -29,6 +29,13 @@ kind_of name (f ∷ fields) = if bytes_eq name f.0 then Some f.1 else kind_of na
 abbrev pub IdNumbering : Type 0
 IdNumbering = ComponentId → Option ℕ
 
+-- Which item of a list has this key, and which this name, vendor and version: the first.
+abbrev pub key_number : {A : Type 0} → (A → Bytes) → List A → Numbering
+key_number key xs q = position_from (λ x. bytes_eq q (key x)) 0 xs
+
+abbrev pub id_number : {A : Type 0} → (A → ComponentId) → List A → IdNumbering
+id_number id xs q = position_from (λ x. is_same_id q (id x)) 0 xs
+
 -- What the tables look up in all parts.
 pub record Known : Type 0 where
   pub events : Numbering
@@ -42,16 +49,19 @@ pub record Known : Type 0 where
 abbrev pub version : IdNumbering → ℕ → Rule ComponentId
 version ids n id = and_then (label id.version) (fresh (ids id) n)
 
--- The members of each array's items: key, name, vendor, version.
-abbrev pub component : {A : Type 0} → (A → Bytes) → (A → ComponentId) → Numbering → IdNumbering → ℕ → Rule A
-component key id keys ids n =
-    table (member (codes "key") key (λ k. fresh (keys k) n)
-    ∷ member (codes "name") (λ x. (id x).name) label
-    ∷ member (codes "vendor") (λ x. (id x).vendor) label
-    ∷ member (codes "version") id (version ids n)
+-- The texts that identify a component.
+abbrev pub identity : IdNumbering → ℕ → Rule ComponentId
+identity ids n =
+    table (member (codes "name") (λ x. x.name) label
+    ∷ member (codes "vendor") (λ x. x.vendor) label
+    ∷ member (codes "version") (λ x. x) (version ids n)
     ∷ [])
 
--- The event that each timer fires; its name is also of the form of a key.
+-- The members of each array's items: key, name, vendor, version.
+abbrev pub component : {A : Type 0} → (A → Bytes) → (A → ComponentId) → Numbering → IdNumbering → ℕ → Rule A
+component key id keys ids n = table (member (codes "key") key (λ k. fresh (keys k) n) ∷ (λ x. identity ids n (id x)) ∷ [])
+
+-- The one built-in event whose name has the form of a key; no event type may have it.
 abbrev pub is_taken : Bytes → Bool
 is_taken key = bytes_eq key (codes "timer")
 
@@ -95,13 +105,9 @@ event_field all event field = field_in all.event_types (all.events event) event 
 abbrev pub is_event : Known → Bytes → Bool
 is_event all event = is_some (all.events event) || is_built_in event
 
--- Which of a block's handlers is for the event: the first.
-abbrev pub handler_number : List BlockEvent → Numbering
-handler_number handlers event = position_from (λ h. bytes_eq event h.event) 0 handlers
-
--- The event that a handler is for.
-abbrev pub event_name : Known → List BlockEvent → ℕ → Rule Bytes
-event_name all handlers n event = if is_event all event then fresh (handler_number handlers event) n else here bad.UnknownName
+-- The event that a handler is for; a block has one handler for each.
+abbrev pub event_name : Known → Numbering → ℕ → Rule Bytes
+event_name all handlers n event = if is_event all event then fresh (handlers event) n else here bad.UnknownName
 
 -- The variables of an initial event; the end of an activity never is one.
 abbrev pub initial : Bytes → Rule (Option (List Bytes))
@@ -126,28 +132,31 @@ custom all event true (Some c) = custom_rule all event c
 custom all event false None = None
 custom all event false (Some c) = here bad.Range
 
-abbrev pub block_event : Known → List BlockEvent → ℕ → Rule BlockEvent
+abbrev pub block_event : Known → Numbering → ℕ → Rule BlockEvent
 block_event all handlers n h =
     table (member (codes "event") (λ x. x.event) (event_name all handlers n)
     ∷ member (codes "initial") (λ x. x.initial) (initial h.event)
     ∷ member (codes "custom") (λ x. x.custom) (custom all h.event (wants_custom h.initial))
     ∷ []) h
 
--- Which of a method's parameters a name belongs to: the first.
-abbrev pub parameter_number : List (Bytes × Kind) → Numbering
-parameter_number params name = position_from (λ p. bytes_eq name p.0) 0 params
+-- A parameter of a method.
+abbrev pub parameter : Numbering → ℕ → Rule (Bytes × Kind)
+parameter names n = member (codes "name") (λ p. p.0) (λ name. fresh (names name) n)
 
 abbrev pub method : Rule Method
-method m = member (codes "params") (λ x. x.params) (items (λ n. member (codes "name") (λ p. p.0) (λ name. fresh (parameter_number m.params name) n))) m
+method m = table (member (codes "params") (λ x. x.params) (items (parameter (key_number (λ p. p.0) m.params))) ∷ []) m
 
-abbrev pub block : Known → Numbering → IdNumbering → ℕ → Rule Block
-block all keys ids n b =
-    table (component (λ x. x.key) (λ x. x.id) keys ids n
-    ∷ member (codes "aliases") (λ x. x.aliases) (entries (λ a. a.0) (λ a. alias (kind_of a.0 b.attributes) (all.alias_kind a.1)))
+-- What only a block has, behind its key, name, vendor and version.
+abbrev pub block_members : Known → Rule Block
+block_members all b =
+    table (member (codes "aliases") (λ x. x.aliases) (entries (λ a. a.0) (λ a. alias (kind_of a.0 b.attributes) (all.alias_kind a.1)))
     ∷ member (codes "relations") (λ x. x.relations) (entries (λ r. r.name) (relation all))
-    ∷ member (codes "events") (λ x. x.events) (items (block_event all b.events))
+    ∷ member (codes "events") (λ x. x.events) (items (block_event all (key_number (λ h. h.event) b.events)))
     ∷ member (codes "methods") (λ x. x.methods) (entries (λ m. m.name) method)
     ∷ []) b
+
+abbrev pub block : Known → IdNumbering → ℕ → Rule Block
+block all ids n = table (component (λ x. x.key) (λ x. x.id) all.blocks ids n ∷ block_members all ∷ [])
 
 abbrev pub service : Known → Numbering → IdNumbering → ℕ → Rule Service
 service all keys ids n =
@@ -155,21 +164,14 @@ service all keys ids n =
     ∷ member (codes "root") (λ s. s.root) (λ key. known (all.blocks key))
     ∷ [])
 
--- Which item of a list has this key, and which this name, vendor and version: the first.
-abbrev pub key_number : {A : Type 0} → (A → Bytes) → List A → Numbering
-key_number key xs q = position_from (λ x. bytes_eq q (key x)) 0 xs
-
-abbrev pub id_number : {A : Type 0} → (A → ComponentId) → List A → IdNumbering
-id_number id xs q = position_from (λ x. is_same_id q (id x)) 0 xs
-
--- The type of an attribute, where this is its alias.
-abbrev pub aliased : List (Bytes × Kind) → Bytes × Bytes → Bytes → Option Kind
-aliased attributes a name = if bytes_eq name a.1 then kind_of a.0 attributes else None
+-- The type, where this is its alias.
+abbrev pub aliased : Option Kind → Bytes → Bytes → Option Kind
+aliased kind alias name = if bytes_eq name alias then kind else None
 
 -- The type of a block's first attribute with this alias.
 abbrev pub alias_in : List (Bytes × Kind) → List (Bytes × Bytes) → Bytes → Option Kind
 alias_in attributes [] name = None
-alias_in attributes (a ∷ aliases) name = or_later (aliased attributes a name) (alias_in attributes aliases name)
+alias_in attributes (a ∷ aliases) name = or_later (aliased (kind_of a.0 attributes) a.1 name) (alias_in attributes aliases name)
 
 -- The type of the first attribute of any block with this alias.
 abbrev pub alias_kind : List Block → Bytes → Option Kind
@@ -193,6 +195,6 @@ parts_fault parts =
     table (member (codes "events") (λ x. x.events) (items (event_type all.events (id_number (λ e. e.id) parts.events)))
     ∷ member (codes "profiles") (λ x. x.profiles) (items (profile_spec all.profiles (id_number (λ p. p.id) parts.profiles)))
     ∷ member (codes "tables") (λ x. x.tables) (tables all)
-    ∷ member (codes "blocks") (λ x. x.blocks) (items (block all all.blocks (id_number (λ b. b.id) parts.blocks)))
+    ∷ member (codes "blocks") (λ x. x.blocks) (items (block all (id_number (λ b. b.id) parts.blocks)))
     ∷ member (codes "services") (λ x. x.services) (items (service all (key_number (λ s. s.key) parts.services) (id_number (λ s. s.id) parts.services)))
     ∷ []) parts

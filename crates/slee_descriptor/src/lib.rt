@@ -5,11 +5,13 @@ mod choice;
 mod fault;
 mod first;
 mod ids;
+mod leaf;
 mod parts;
 mod rule;
 
 pub use choice::{SelectRule, Variable};
 pub use fault::{DeployBad, DeployFault};
+pub use leaf::LABEL_LIMIT;
 pub use parts::{
     Block, BlockEvent, CustomRule, EventType, Method, Parts, ProfileSpec, Relation, Service, Table,
 };
