@@ -4,4 +4,5 @@ pub mod Rules
 pub mod Tables
 pub mod Firsts
 pub mod Ids
+pub mod Lookups
 pub mod Resolving

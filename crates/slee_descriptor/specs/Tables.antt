@@ -21,9 +21,9 @@ use Rattle.slee_descriptor.specs.Faults.{Fault, here, unless, and_then}
 use Rattle.slee_descriptor.specs.Rules.{Rule, table, member, items, entries, label, Numbering, or_later, fresh, known, profile_kind, variable_word, rule_word, text_field, alias, is_same_id}
 
 -- The type of a declared name.
-abbrev pub kind_of : Bytes → List (Bytes × Kind) → Option Kind
-kind_of name [] = None
-kind_of name (f ∷ fields) = if bytes_eq name f.0 then Some f.1 else kind_of name fields
+abbrev pub kind_of : List (Bytes × Kind) → Bytes → Option Kind
+kind_of [] name = None
+kind_of (f ∷ fields) name = if bytes_eq name f.0 then Some f.1 else kind_of fields name
 
 -- Which components of a list a name, vendor and version belong to: the first.
 abbrev pub IdNumbering : Type 0
@@ -75,7 +75,7 @@ abbrev pub profile_spec : Numbering → IdNumbering → ℕ → Rule ProfileSpec
 profile_spec keys ids n p =
     table (component (λ q. q.key) (λ q. q.id) keys ids n
     ∷ member (codes "attributes") (λ q. q.attributes) (entries (λ a. a.0) (λ a. profile_kind a.1))
-    ∷ member (codes "unique") (λ q. q.unique) (items (λ _ name. known (kind_of name p.attributes)))
+    ∷ member (codes "unique") (λ q. q.unique) (items (λ _ name. known (kind_of p.attributes name)))
     ∷ []) p
 
 abbrev pub tables : Known → Rule (List Table)
@@ -95,7 +95,7 @@ is_built_in event = is_some (named (λ e. e.name) event built_in)
 -- The type of a field of an event: the declared one of this number, or a built-in one.
 abbrev pub field_in : List EventType → Option ℕ → Bytes → Bytes → Option Kind
 field_in types None event field = built_in_field event field
-field_in types (Some n) event field = option_and_then (λ e. kind_of field e.fields) (slice_get types n)
+field_in types (Some n) event field = option_and_then (λ e. kind_of e.fields field) (slice_get types n)
 
 -- The type of a field of an event that is declared or built in.
 abbrev pub event_field : Known → Bytes → Bytes → Option Kind
@@ -149,7 +149,7 @@ method m = table (member (codes "params") (λ x. x.params) (items (parameter (ke
 -- What only a block has, behind its key, name, vendor and version.
 abbrev pub block_members : Known → Rule Block
 block_members all b =
-    table (member (codes "aliases") (λ x. x.aliases) (entries (λ a. a.0) (λ a. alias (kind_of a.0 b.attributes) (all.alias_kind a.1)))
+    table (member (codes "aliases") (λ x. x.aliases) (entries (λ a. a.0) (λ a. alias (kind_of b.attributes a.0) (all.alias_kind a.1)))
     ∷ member (codes "relations") (λ x. x.relations) (entries (λ r. r.name) (relation all))
     ∷ member (codes "events") (λ x. x.events) (items (block_event all (key_number (λ h. h.event) b.events)))
     ∷ member (codes "methods") (λ x. x.methods) (entries (λ m. m.name) method)
@@ -168,15 +168,15 @@ service all keys ids n =
 abbrev pub aliased : Option Kind → Bytes → Bytes → Option Kind
 aliased kind alias name = if bytes_eq name alias then kind else None
 
--- The type of a block's first attribute with this alias.
-abbrev pub alias_in : List (Bytes × Kind) → List (Bytes × Bytes) → Bytes → Option Kind
-alias_in attributes [] name = None
-alias_in attributes (a ∷ aliases) name = or_later (aliased (kind_of a.0 attributes) a.1 name) (alias_in attributes aliases name)
+-- The type of a block's first attribute with this alias, by the attributes' types.
+abbrev pub alias_in : (Bytes → Option Kind) → List (Bytes × Bytes) → Bytes → Option Kind
+alias_in kind [] name = None
+alias_in kind (a ∷ aliases) name = or_later (aliased (kind a.0) a.1 name) (alias_in kind aliases name)
 
 -- The type of the first attribute of any block with this alias.
 abbrev pub alias_kind : List Block → Bytes → Option Kind
 alias_kind [] name = None
-alias_kind (b ∷ blocks) name = or_later (alias_in b.attributes b.aliases name) (alias_kind blocks name)
+alias_kind (b ∷ blocks) name = or_later (alias_in (kind_of b.attributes) b.aliases name) (alias_kind blocks name)
 
 -- What the tables look up, in these parts.
 abbrev pub known_in : Parts → Known
@@ -188,13 +188,20 @@ known_in parts = record {
   alias_kind = alias_kind parts.blocks;
 }
 
--- The first fault of parts in the order of the walk, none exactly where they are a deployment.
-abbrev pub parts_fault : Parts → Option Fault
-parts_fault parts =
-    let all : Known = known_in parts in
+-- The first fault of parts in the order of the walk, by what the tables look up.
+abbrev pub fault_by : Known → Rule Parts
+fault_by all parts =
     table (member (codes "events") (λ x. x.events) (items (event_type all.events (id_number (λ e. e.id) parts.events)))
     ∷ member (codes "profiles") (λ x. x.profiles) (items (profile_spec all.profiles (id_number (λ p. p.id) parts.profiles)))
     ∷ member (codes "tables") (λ x. x.tables) (tables all)
     ∷ member (codes "blocks") (λ x. x.blocks) (items (block all (id_number (λ b. b.id) parts.blocks)))
     ∷ member (codes "services") (λ x. x.services) (items (service all (key_number (λ s. s.key) parts.services) (id_number (λ s. s.id) parts.services)))
     ∷ []) parts
+
+-- The first fault of parts in the order of the walk, none exactly where they are a deployment.
+abbrev pub parts_fault : Parts → Option Fault
+parts_fault parts = fault_by (known_in parts) parts
+
+-- Whether parts are a deployment.
+abbrev pub is_deployment : Parts → Bool
+is_deployment parts = not (is_some (parts_fault parts))

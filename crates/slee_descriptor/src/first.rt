@@ -67,7 +67,7 @@ pub(crate) fn numbers_of<'v, T: Named>(
 
 /// The types of declared names.
 pub(crate) fn kinds_of<'v>(alloc: Global, fields: &'v [(Name, Kind)]) -> Result<Kinds<'v>, NoMemory>
-    ensures { IfOk result (λ n. (q : Bytes) → answer_of n q ≡ kind_of q fields.now) }
+    ensures { IfOk result (λ n. (q : Bytes) → answer_of n q ≡ kind_of fields.now q) }
 {
     let mut kinds = Firsts::new(alloc);
     for (name, kind) in fields {

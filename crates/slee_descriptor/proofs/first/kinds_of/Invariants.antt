@@ -5,4 +5,4 @@ use Rattle.slee_descriptor.specs.Tables.{kind_of}
 use Rattle.slee_descriptor.proofs.first.kinds_of.Given as goal
 
 abbrev pub invariant-loop-name : goal.invariant-loop-name
-invariant-loop-name l = (q : List ℕ) → or_later (answer_of l.kinds q) (kind_of q (drop l.name-index l.fields)) ≡ kind_of q l.fields
+invariant-loop-name l = (q : List ℕ) → or_later (answer_of l.kinds q) (kind_of (drop l.name-index l.fields) q) ≡ kind_of l.fields q
