@@ -8,4 +8,3 @@ pub mod DraftingLemmas
 pub mod ClosingLemmas
 pub mod KeepingLemmas
 pub mod ShowLemmas
-pub mod ReadingLemmas
