@@ -22,6 +22,35 @@ pub enum Signal {
         service: Option<Name>,
         fields: Fields,
     },
+    /// The clock comes to this moment, in milliseconds.
+    Clock {
+        to: u64,
+    },
+    /// A service becomes active.
+    Activate {
+        service: Name,
+    },
+    /// A service is stopped.
+    Deactivate {
+        service: Name,
+    },
+    /// A table gets a row with these attributes.
+    ProfileAdd {
+        table: Name,
+        row: Text,
+        fields: Fields,
+    },
+    /// A row gets these attributes in place of those that it has.
+    ProfileUpdate {
+        table: Name,
+        row: Text,
+        fields: Fields,
+    },
+    /// A row goes.
+    ProfileRemove {
+        table: Name,
+        row: Text,
+    },
 }
 
 impl Signal {
