@@ -1,3 +1,4 @@
 pub mod Lines
-pub mod Signals
 pub mod WordText
+pub mod Signals
+pub mod Answers

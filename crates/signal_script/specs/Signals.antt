@@ -1,7 +1,7 @@
 -- What lines say: the nine forms, the first fault of a line that has none of them, and the one line of a signal.
-use Rattle.std.specs.Prelude.{ℕ, ◌+◌, Bool, true, false, not, ◌&&◌, ◌||◌, nat_lt, nat_le, if◌then◌else◌, List, [], ◌∷◌, ◌++◌, codes, decimal, length, map, Ok, Err, Some, None, Option}
+use Rattle.std.specs.Prelude.{ℕ, ◌+◌, Bool, true, not, ◌&&◌, ◌||◌, nat_lt, nat_le, if◌then◌else◌, List, [], ◌∷◌, ◌++◌, codes, decimal, length, map, find, Ok, Err, Some, None, Option}
 use Rattle.std.specs.declared.result.Result.{Result}
-use Rattle.std.specs.List.{list_any, join_with_byte}
+use Rattle.std.specs.List.{list_any, flat_map, join_with_byte}
 use Rattle.std.specs.Option.{option_map_or}
 use Rattle.std.specs.Str.{bytes_eq, is_utf8}
 use Rattle.std.specs.Str.Parse.{digits_value}
@@ -13,6 +13,8 @@ use Rattle.signal_script.specs.declared.fault.SignalBad.{SignalBad}
 use Rattle.signal_script.specs.declared.fault.SignalBad.TheVariants as bads
 use Rattle.signal_script.specs.declared.fault.SignalFault.{SignalFault}
 use Rattle.signal_script.specs.declared.fault.SignalFault.TheVariants as faults
+use Rattle.signal_script.specs.declared.verb.Verb.{Verb}
+use Rattle.signal_script.specs.declared.verb.Verb.TheVariants as verbs
 use Rattle.signal_script.specs.declared.signal.Signal.{Signal}
 use Rattle.signal_script.specs.declared.signal.Signal.TheVariants as signals
 
@@ -45,19 +47,22 @@ built_in_events =
 abbrev pub is_event : List ℕ → Bool
 is_event word = is_name word || list_any (bytes_eq word) built_in_events
 
+abbrev pub event_name_of : List ℕ → Reading (List ℕ)
+event_name_of word = tested is_event bads.Name word
+
 -- an event, and behind an at sign the service that it is for, where it is for one alone
 abbrev pub event_alone : List ℕ → Reading (List ℕ × Option (List ℕ))
-event_alone event = and_then (tested is_event bads.Name event) (λ event. Ok (event, None))
+event_alone event = and_then (event_name_of event) (λ event. Ok (event, None))
 
 abbrev pub event_for : List ℕ × List ℕ → Reading (List ℕ × Option (List ℕ))
-event_for parts = and_then (tested is_event bads.Name parts.0) (λ event. and_then (name_of parts.1) (λ service. Ok (event, Some service)))
+event_for parts = and_then (event_name_of parts.0) (λ event. and_then (name_of parts.1) (λ service. Ok (event, Some service)))
 
 abbrev pub event_of : List ℕ → Reading (List ℕ × Option (List ℕ))
 event_of word = option_map_or event_for (cut_at 64 word) (event_alone word)
 
 -- a decimal number without leading zeros, up to the latest moment
 abbrev pub is_moment : List ℕ → Bool
-is_moment word = bytes_eq word (decimal (digits_value 10 word)) && nat_le (digits_value 10 word) clock_limit
+is_moment word = nat_le (digits_value 10 word) clock_limit && bytes_eq word (decimal (digits_value 10 word))
 
 abbrev pub moment_of : List ℕ → Reading ℕ
 moment_of word = if is_moment word then Ok (digits_value 10 word) else Err bads.Number
@@ -92,50 +97,87 @@ abbrev pub fields_of : List (List ℕ × List ℕ) → List (List ℕ) → Readi
 fields_of before [] = Ok before
 fields_of before (word ∷ words) = and_then (field_of before word) (λ field. fields_of (before ++ field ∷ []) words)
 
--- The words behind a verb: one name,
-abbrev pub of_name : (List ℕ → Signal) → List (List ℕ) → Reading Signal
-of_name make (name ∷ []) = and_then (name_of name) (λ name. Ok (make name))
-of_name make words = Err bads.Count
+-- How many words stand behind a verb: one,
+abbrev pub only_word : List (List ℕ) → Reading (List ℕ)
+only_word (word ∷ []) = Ok word
+only_word words = Err bads.Count
 
--- a moment,
-abbrev pub of_moment : List (List ℕ) → Reading Signal
-of_moment (word ∷ []) = and_then (moment_of word) (λ to. Ok (signals.Clock to))
-of_moment words = Err bads.Count
+-- two,
+abbrev pub only_two : List (List ℕ) → Reading (List ℕ × List ℕ)
+only_two (first ∷ second ∷ []) = Ok (first, second)
+only_two words = Err bads.Count
 
--- an activity's name, an event and its fields,
-abbrev pub of_event : List (List ℕ) → Reading Signal
-of_event (name ∷ event ∷ fields) =
-    and_then (name_of name) (λ name. and_then (event_of event) (λ event. and_then (fields_of [] fields) (λ fields. Ok (signals.Fire name event.0 event.1 fields))))
-of_event words = Err bads.Count
+-- or two with any number behind them.
+abbrev pub two_or_more : List (List ℕ) → Reading (List ℕ × List ℕ × List (List ℕ))
+two_or_more (first ∷ second ∷ more) = Ok (first, second, more)
+two_or_more words = Err bads.Count
 
--- a table, a row and its attributes,
-abbrev pub of_attributes : (List ℕ → List ℕ → List (List ℕ × List ℕ) → Signal) → List (List ℕ) → Reading Signal
-of_attributes make (table ∷ row ∷ fields) =
-    and_then (name_of table) (λ table. and_then (row_of row) (λ row. and_then (fields_of [] fields) (λ fields. Ok (make table row fields))))
-of_attributes make words = Err bads.Count
+-- one name
+abbrev pub one_name : List (List ℕ) → Reading (List ℕ)
+one_name words = and_then (only_word words) name_of
 
--- or a table and a row.
-abbrev pub of_row : List (List ℕ) → Reading Signal
-of_row (table ∷ row ∷ []) = and_then (name_of table) (λ table. and_then (row_of row) (λ row. Ok (signals.ProfileRemove table row)))
-of_row words = Err bads.Count
+-- one moment
+abbrev pub one_moment : List (List ℕ) → Reading ℕ
+one_moment words = and_then (only_word words) moment_of
+
+-- an activity's name, an event and its fields
+abbrev pub event_fired : List (List ℕ) → Reading Signal
+event_fired words =
+    and_then (two_or_more words) (λ parts.
+    and_then (name_of parts.0) (λ name.
+    and_then (event_of parts.1) (λ event.
+    and_then (fields_of [] parts.2) (λ fields. Ok (signals.Fire name event.0 event.1 fields)))))
+
+-- a table, a row and its attributes
+abbrev pub row_given : List (List ℕ) → Reading (List ℕ × List ℕ × List (List ℕ × List ℕ))
+row_given words =
+    and_then (two_or_more words) (λ parts.
+    and_then (name_of parts.0) (λ table.
+    and_then (row_of parts.1) (λ row.
+    and_then (fields_of [] parts.2) (λ fields. Ok (table, row, fields)))))
+
+-- a table and a row
+abbrev pub row_named : List (List ℕ) → Reading (List ℕ × List ℕ)
+row_named words =
+    and_then (only_two words) (λ parts.
+    and_then (name_of parts.0) (λ table.
+    and_then (row_of parts.1) (λ row. Ok (table, row))))
+
+-- the first words of the nine forms
+abbrev pub verb_word : Verb → List ℕ
+verb_word verbs.Start = codes "start"
+verb_word verbs.End = codes "end"
+verb_word verbs.Fire = codes "fire"
+verb_word verbs.Clock = codes "clock"
+verb_word verbs.Activate = codes "activate"
+verb_word verbs.Deactivate = codes "deactivate"
+verb_word verbs.ProfileAdd = codes "profile-add"
+verb_word verbs.ProfileUpdate = codes "profile-update"
+verb_word verbs.ProfileRemove = codes "profile-remove"
+
+abbrev pub all_verbs : List Verb
+all_verbs =
+    verbs.Start ∷ verbs.End ∷ verbs.Fire ∷ verbs.Clock ∷ verbs.Activate ∷ verbs.Deactivate
+    ∷ verbs.ProfileAdd ∷ verbs.ProfileUpdate ∷ verbs.ProfileRemove ∷ []
+
+abbrev pub verb_of : List ℕ → Option Verb
+verb_of word = find (λ verb. bytes_eq word (verb_word verb)) all_verbs
 
 -- what a verb and the words behind it say
-abbrev pub signal_of_verb : List ℕ → List (List ℕ) → Reading Signal
-signal_of_verb verb words =
-    if bytes_eq verb (codes "start") then of_name signals.Start words
-    else (if bytes_eq verb (codes "end") then of_name signals.End words
-    else (if bytes_eq verb (codes "fire") then of_event words
-    else (if bytes_eq verb (codes "clock") then of_moment words
-    else (if bytes_eq verb (codes "activate") then of_name signals.Activate words
-    else (if bytes_eq verb (codes "deactivate") then of_name signals.Deactivate words
-    else (if bytes_eq verb (codes "profile-add") then of_attributes signals.ProfileAdd words
-    else (if bytes_eq verb (codes "profile-update") then of_attributes signals.ProfileUpdate words
-    else (if bytes_eq verb (codes "profile-remove") then of_row words
-    else Err bads.Verb))))))))
+abbrev pub signal_of_verb : List (List ℕ) → Verb → Reading Signal
+signal_of_verb words verbs.Start = and_then (one_name words) (λ name. Ok (signals.Start name))
+signal_of_verb words verbs.End = and_then (one_name words) (λ name. Ok (signals.End name))
+signal_of_verb words verbs.Fire = event_fired words
+signal_of_verb words verbs.Clock = and_then (one_moment words) (λ to. Ok (signals.Clock to))
+signal_of_verb words verbs.Activate = and_then (one_name words) (λ service. Ok (signals.Activate service))
+signal_of_verb words verbs.Deactivate = and_then (one_name words) (λ service. Ok (signals.Deactivate service))
+signal_of_verb words verbs.ProfileAdd = and_then (row_given words) (λ given. Ok (signals.ProfileAdd given.0 given.1 given.2))
+signal_of_verb words verbs.ProfileUpdate = and_then (row_given words) (λ given. Ok (signals.ProfileUpdate given.0 given.1 given.2))
+signal_of_verb words verbs.ProfileRemove = and_then (row_named words) (λ named. Ok (signals.ProfileRemove named.0 named.1))
 
 abbrev pub signal_of_words : List (List ℕ) → Reading Signal
 signal_of_words [] = Err bads.Verb
-signal_of_words (verb ∷ words) = signal_of_verb verb words
+signal_of_words (verb ∷ words) = option_map_or (signal_of_verb words) (verb_of verb) (Err bads.Verb)
 
 -- what the bytes of a line say; the empty line says nothing
 abbrev pub signal_of_bytes : List ℕ → Reading Signal
@@ -175,17 +217,21 @@ spelled_event event (Some service) = event ++ 64 ∷ service
 abbrev pub spelled_field : List ℕ × List ℕ → List ℕ
 spelled_field field = field.0 ++ 61 ∷ escaped true field.1
 
+-- field words, a space before each
+abbrev pub field_words : List (List ℕ × List ℕ) → List ℕ
+field_words fields = flat_map (λ field. 32 ∷ spelled_field field) fields
+
 -- a signal's words
 abbrev pub spelled_words : Signal → List (List ℕ)
-spelled_words (signals.Start name) = codes "start" ∷ name ∷ []
-spelled_words (signals.End name) = codes "end" ∷ name ∷ []
-spelled_words (signals.Fire name event service fields) = codes "fire" ∷ name ∷ spelled_event event service ∷ map spelled_field fields
-spelled_words (signals.Clock to) = codes "clock" ∷ decimal to ∷ []
-spelled_words (signals.Activate service) = codes "activate" ∷ service ∷ []
-spelled_words (signals.Deactivate service) = codes "deactivate" ∷ service ∷ []
-spelled_words (signals.ProfileAdd table row fields) = codes "profile-add" ∷ table ∷ escaped true row ∷ map spelled_field fields
-spelled_words (signals.ProfileUpdate table row fields) = codes "profile-update" ∷ table ∷ escaped true row ∷ map spelled_field fields
-spelled_words (signals.ProfileRemove table row) = codes "profile-remove" ∷ table ∷ escaped true row ∷ []
+spelled_words (signals.Start name) = verb_word verbs.Start ∷ name ∷ []
+spelled_words (signals.End name) = verb_word verbs.End ∷ name ∷ []
+spelled_words (signals.Fire name event service fields) = verb_word verbs.Fire ∷ name ∷ spelled_event event service ∷ map spelled_field fields
+spelled_words (signals.Clock to) = verb_word verbs.Clock ∷ decimal to ∷ []
+spelled_words (signals.Activate service) = verb_word verbs.Activate ∷ service ∷ []
+spelled_words (signals.Deactivate service) = verb_word verbs.Deactivate ∷ service ∷ []
+spelled_words (signals.ProfileAdd table row fields) = verb_word verbs.ProfileAdd ∷ table ∷ escaped true row ∷ map spelled_field fields
+spelled_words (signals.ProfileUpdate table row fields) = verb_word verbs.ProfileUpdate ∷ table ∷ escaped true row ∷ map spelled_field fields
+spelled_words (signals.ProfileRemove table row) = verb_word verbs.ProfileRemove ∷ table ∷ escaped true row ∷ []
 
 -- a signal's one line
 abbrev pub spelled : Signal → List ℕ

@@ -30,12 +30,39 @@ pub enum SignalBad {
 #[derive(Clone, Copy, Debug, PartialEq, Eq)]
 pub enum SignalFault {
     /// This line is the first that is none of the grammar, lines being counted from 1.
-    At {
-        line: u64,
-        kind: SignalBad,
-    },
+    At { line: u64, kind: SignalBad },
     /// Memory ran out.
     NoMemory,
+}
+
+/// Why a line is no signal.
+#[derive(Clone, Copy, Debug, PartialEq, Eq)]
+pub enum LineFault {
+    Bad { kind: SignalBad },
+    /// Memory ran out.
+    NoMemory,
+}
+
+impl From<SignalBad> for LineFault {
+    ghost use Rattle.std.specs.Prelude.{◌≡◌};
+    ghost use Rattle.signal_script.specs.declared.fault.LineFault.TheVariants.{Bad};
+
+    ghost from_gives = { λ kind e. e ≡ Bad kind };
+
+    fn from(kind: SignalBad) -> Self {
+        LineFault::Bad { kind }
+    }
+}
+
+impl From<NoMemory> for LineFault {
+    ghost use Rattle.std.specs.Prelude.{◌≡◌};
+    ghost use Rattle.signal_script.specs.declared.fault.LineFault.TheVariants.{NoMemory};
+
+    ghost from_gives = { λ _ e. e ≡ NoMemory };
+
+    fn from(_: NoMemory) -> Self {
+        LineFault::NoMemory
+    }
 }
 
 impl From<NoMemory> for SignalFault {
