@@ -6,7 +6,7 @@ use Rattle.std.proofs.lemmas.List.{drop_all}
 use Rattle.slee_disk.specs.declared.side.Side.{Side}
 use Rattle.slee_disk.specs.Sides.{Sides, on, other, Torn, Cut, Holds, AtSide}
 use Rattle.slee_disk.specs.Disk.{DiskState, Looks, Changes, LeavesOnly, Only}
-use Rattle.slee_disk.proofs.Moments.{Reached, reached_start, reached_call, reached_look}
+use Rattle.slee_disk.proofs.Moments.{Reached, reached_start, reached_call, reached_look, looks_leave, leaves_then, leaves_what}
 use Rattle.commit_journal.specs.Spelling.{Head}
 use Rattle.commit_journal.specs.Reading.{header_at, header_or_not, Front, Blank, front}
 use Rattle.commit_journal.specs.Gate.{EndsShut, IsShutOrOpen}
@@ -118,6 +118,24 @@ blank_or_open side bytes beside image stands =
       here = ⊎_elim (λ shut. inl (blank_shut (on side image) (λ open_gate. shut.2 (sym (ap (λ (l : List ℕ). get_or l 0 0) shut.3) ∙ open_gate)))) (λ opened. inr opened) stands.here;
       elsewhere = stands.elsewhere;
     }
+
+-- ---- the other side is made sure of, and a blank side is written
+
+module _ (side : Side) (bytes : List ℕ) (old sure : DiskState) (f : Type 0) (looks : Looks old sure f) (blank : IsBlankOn side old.seen) (only : Only old.seen old) where
+  abbrev R : Sides → Type 0
+  R = IsBlankOrOpen side bytes (on (other side) old.seen)
+
+  pub sure_start : LeavesOnly old sure R
+  sure_start = looks_leave old sure f R only (record { here = inl blank; elsewhere = refl }) looks
+
+  pub sure_shut : (shut : DiskState) → LeavesOnly sure shut (BlankBeside side (on (other side) sure.seen)) → LeavesOnly old shut R
+  sure_shut shut leaves = leaves_then old sure shut R sure_start (leaves_what sure shut _ R leaves (λ image is. record { here = inl is.blank; elsewhere = is.elsewhere ∙ ap (on (other side)) looks.seen }))
+
+  pub sure_open : (shut new : DiskState) → LeavesOnly sure shut (BlankBeside side (on (other side) sure.seen)) → on (other side) shut.seen ≡ on (other side) sure.seen
+      → LeavesOnly shut new (IsShutOrOpen side [] bytes (on (other side) shut.seen)) → LeavesOnly old new R
+  sure_open shut new first beside second =
+      leaves_then old shut new R (sure_shut shut first) (leaves_what shut new _ R second (λ image stands.
+      blank_or_open side bytes (on (other side) old.seen) image (subst (λ (l : List ℕ). IsShutOrOpen side [] bytes l image) (beside ∙ ap (on (other side)) looks.seen) stands)))
 
 -- ---- an open side is closed
 

@@ -1,12 +1,13 @@
 -- What a crash leaves while bytes are written behind a closed gate and it is opened.
-use Rattle.std.proofs.Common.{◌≡◌, ◌≢◌, ◌⊎◌, inl, inr, ℕ, ◌+◌, ◌-◌, ◌≤◌, ◌<◌, min, max, List, [], ◌∷◌, ◌++◌, length, get_or, take, drop, replicate, IsTrue, refl, sym, ◌∙◌, ap, subst, arith, append_assoc, length-append, length-take, take-append-drop}
+use Rattle.std.proofs.Common.{◌≡◌, ◌≢◌, ◌⊎◌, inl, inr, ℕ, ◌+◌, ◌-◌, ◌≤◌, ◌<◌, min, max, List, [], ◌∷◌, ◌++◌, length, get_or, take, drop, replicate, Result, OnOk, IsTrue, refl, sym, ◌∙◌, ap, subst, arith, append_assoc, length-append, length-take, take-append-drop}
 use Rattle.std.proofs.lemmas.Bool.{cases_eq}
 use Rattle.std.proofs.lemmas.List.{take_at, drop_at, take_all, drop_all, drop_more, append-nil, take-append-le}
 use Rattle.slee_disk.specs.declared.side.Side.{Side}
 use Rattle.slee_disk.specs.Sides.{Sides, on, other, Holds, Torn, AtSide}
 use Rattle.slee_disk.specs.Disk.{DiskState, Looks, Changes, Only, is_clean}
-use Rattle.slee_disk.proofs.Moments.{Reached, reached_start, reached_call, clean_told, clean_settled, clean_of, settled_both, tells}
+use Rattle.slee_disk.proofs.Moments.{Reached, reached_start, reached_call, clean_told, clean_settled, clean_of, settled_both, tells, on_ok}
 use Rattle.commit_journal.specs.Gate.{IsShut, EndsShut, IsShutOrOpen, IsOpened}
+use Rattle.commit_journal.specs.Settling.{SettlesSide}
 
 -- ---- on lists
 
@@ -139,3 +140,8 @@ module _ (side : Side) (at : ℕ) (bytes : List ℕ) (old : DiskState) (ends : E
 pub clean_again : (side : Side) (old new : DiskState) → IsTrue (is_clean old) → new.told ≡ old.told → IsTrue (new.settled side) → new.settled (other side) ≡ old.settled (other side) → IsTrue (is_clean new)
 clean_again side old new clean told here there =
     clean_of new (tells old.told new.told told (clean_told old clean)) (settled_both side new here (subst IsTrue (sym there) (clean_settled old clean (other side))))
+
+-- and so it is where the other side was settled before
+pub clean_end : {T E : Type 0} (side : Side) (old new : DiskState) (r : Result T E) → SettlesSide side old new r → new.told ≡ old.told → IsTrue old.told → IsTrue (old.settled (other side)) → OnOk r (IsTrue (is_clean new))
+clean_end side old new r settles same told beside =
+    on_ok r _ _ (settles.here told) (λ here. clean_of new (tells old.told new.told same told) (settled_both side new here (subst IsTrue (sym settles.there) beside)))

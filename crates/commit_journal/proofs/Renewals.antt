@@ -14,11 +14,11 @@ use Rattle.commit_journal.specs.Reading.{Kept}
 use Rattle.commit_journal.specs.Gate.{IsOpened}
 use Rattle.commit_journal.specs.Rewriting.{IsRewritten}
 use Rattle.commit_journal.specs.Kept.{StandsIn, StandsFound, IsWhole, Keeps, Stands, with_more, StandsOrMore, side_renewed, generation_renewed, renewed, StandsOrRenewed}
-use Rattle.commit_journal.specs.Renewal.{StandsMoreOrRenewed, LeavesRenewed}
+use Rattle.commit_journal.specs.Renewal.{LeavesRenewed}
 use Rattle.commit_journal.specs.Journal.{View, payloads_on, kept_by, IsSound}
 use Rattle.commit_journal.proofs.Rewrites.{first_stands, first_image, next_stands, next_image}
-use Rattle.commit_journal.proofs.Sound.{kept_on}
-use Rattle.commit_journal.proofs.Begins.{clean_images, ready_on, keeps_on, whole_on, same_payloads, ready_idle, length-behind}
+use Rattle.commit_journal.proofs.Sound.{kept_on, nothing_done}
+use Rattle.commit_journal.proofs.Begins.{idle_leaves, ready_on, keeps_on, whole_on, same_payloads, ready_idle, length-behind}
 
 -- ---- by how far the journal has come
 
@@ -99,20 +99,16 @@ view_kept disk kept new batch records limit p = λ i. record { disk = disk; stag
 pub moved : {D : Type 0} (v w : View D) (P : View D → Type 0) → v ≡ w → P w → P v
 moved v w P same holds = subst P (sym same) holds
 
--- ---- where nothing is done, and after the flush
+-- ---- where nothing is done
 
-pub renewed_idle : (stage : Stage) (kept : Kept) (batch : List (List ℕ)) (snapshot : List ℕ) (disk : DiskState) → IsTrue (is_clean disk) → Stands stage kept disk.seen → batch ≡ [] → LeavesRenewed stage kept batch snapshot disk disk
-renewed_idle stage kept batch snapshot disk clean stands none =
+pub renewed_idle : {D : Type 0} (state : D → DiskState) (stage : Stage) (kept : Kept) (batch : List (List ℕ)) (snapshot : List ℕ) (disk : D) → IsTrue (is_clean (state disk)) → Stands stage kept (state disk).seen → batch ≡ []
+    → LeavesRenewed state stage kept batch snapshot disk disk
+renewed_idle state stage kept batch snapshot disk clean stands none =
     let p : kept.payloads ≡ kept.payloads ++ batch = sym (ap (λ (l : List (List ℕ)). kept.payloads ++ l) none ∙ append-nil kept.payloads) in
-    let more : Stands stage (with_more kept batch) disk.seen = subst (λ (ps : List (List ℕ)). Stands stage (record { side = kept.side; head = kept.head; payloads = ps }) disk.seen) p stands in
+    let more : Stands stage (with_more kept batch) (state disk).seen = subst (λ (ps : List (List ℕ)). Stands stage (record { side = kept.side; head = kept.head; payloads = ps }) (state disk).seen) p stands in
     record {
-      flushed = disk.moment;
-      later = omega arith;
-      within = omega arith;
-      each = λ image left. inl (clean_images disk (Stands stage (with_more kept batch)) clean more image (disk.only_now image left));
+      flushed = disk;
+      first = nothing_done stage kept batch (state disk) clean stands;
+      second = idle_leaves (state disk) (StandsOrRenewed stage (with_more kept batch) snapshot) clean (inl more);
       at_once = λ _. refl;
     }
-
-pub renewed_flushed : (stage : Stage) (kept : Kept) (batch : List (List ℕ)) (snapshot : List ℕ) (first mid last : DiskState) → first.moment ≤ mid.moment → (batch ≡ [] → mid.moment ≡ first.moment)
-    → LeavesOnly mid last (StandsOrRenewed stage (with_more kept batch) snapshot) → LeavesRenewed stage kept batch snapshot first last
-renewed_flushed stage kept batch snapshot first mid last later idle leaves = record { flushed = mid.moment; later = later; within = leaves.later; each = leaves.each; at_once = idle }

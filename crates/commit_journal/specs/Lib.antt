@@ -8,6 +8,7 @@ pub mod Blank
 pub mod Batch
 pub mod Journal
 pub mod Rewriting
+pub mod Settling
 pub mod Renewal
 pub mod Written
 pub mod Laws

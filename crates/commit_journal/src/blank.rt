@@ -6,8 +6,10 @@ ghost use Rattle.slee_disk.specs.Disk.{LeavesOnly, is_clean};
 ghost use Rattle.commit_journal.specs.Gate.{EndsShut, IsOpened};
 ghost use Rattle.commit_journal.specs.Blank.{IsBlankOn, BlankBeside, IsOneShut, IsBlankOrOpen, IsBlankOrSame};
 ghost use Rattle.commit_journal.specs.Rewriting.{IsRewritten};
+ghost use Rattle.commit_journal.specs.Settling.{SettlesSide};
 
 use crate::gate::open_gate;
+use crate::reading::other_of;
 use slee_disk::{Disk, Failed, Side};
 
 /// Closes the first gate of a side where it stands open, so that the side is blank.
@@ -55,7 +57,7 @@ fn shut_blank<D: Disk>(disk: &mut D, side: Side) -> Result<(), Failed>
     requires { IsTrue (D.disk disk.old).told → IsBlankOn side (D.disk disk.old).seen }
     ensures shut { IsTrue (D.disk disk.old).told → OnOk result (IsOneShut side (on (other side) (D.disk disk.old).seen) (D.disk disk.new).seen) }
     ensures any_moment { IsTrue (is_clean (D.disk disk.old)) → LeavesOnly (D.disk disk.old) (D.disk disk.new) (BlankBeside side (on (other side) (D.disk disk.old).seen)) }
-    ensures rest { IsTrue (is_clean (D.disk disk.old)) → OnOk result (IsTrue (is_clean (D.disk disk.new))) }
+    ensures settled { SettlesSide side (D.disk disk.old) (D.disk disk.new) result }
     ensures told { (D.disk disk.new).told ≡ (D.disk disk.old).told }
     ensures rising { (D.disk disk.old).faults ≤ (D.disk disk.new).faults }
     ensures cause { IsErr result → Rose (D.disk disk.old).faults (D.disk disk.new).faults }
@@ -64,25 +66,27 @@ fn shut_blank<D: Disk>(disk: &mut D, side: Side) -> Result<(), Failed>
     disk.sync(side) // What was cut stays cut.
 }
 
-/// Writes a blank side anew: closed, then all behind its first gate, and then it is opened.
+/// Makes sure of the other side, and writes a blank side anew: closed, then all behind its first gate, and then it is
+/// opened.
 pub(crate) fn write_side<D: Disk>(disk: &mut D, side: Side, bytes: &[u8]) -> Result<(), Failed>
     requires { IsTrue (D.disk disk.old).told → IsBlankOn side (D.disk disk.old).seen }
     ensures opened { IsTrue (D.disk disk.old).told → OnOk result (IsOpened side [] bytes.now (on (other side) (D.disk disk.old).seen) (D.disk disk.new).seen) }
     ensures any_moment { IsTrue (is_clean (D.disk disk.old)) → LeavesOnly (D.disk disk.old) (D.disk disk.new) (IsBlankOrOpen side bytes.now (on (other side) (D.disk disk.old).seen)) }
-    ensures rest { IsTrue (is_clean (D.disk disk.old)) → OnOk result (IsTrue (is_clean (D.disk disk.new))) }
+    ensures rest { IsTrue (D.disk disk.old).told → OnOk result (IsTrue (is_clean (D.disk disk.new))) }
     ensures told { (D.disk disk.new).told ≡ (D.disk disk.old).told }
     ensures rising { (D.disk disk.old).faults ≤ (D.disk disk.new).faults }
     ensures cause { IsErr result → Rose (D.disk disk.old).faults (D.disk disk.new).faults }
 {
+    disk.sync(other_of(side))?;
     shut_blank(disk, side)?;
     open_gate(disk, side, 0, bytes)
 }
 
-/// Writes a side anew, whatever stands on it.
+/// Writes a side anew, whatever stands on it, and makes sure of the other one.
 pub(crate) fn rewrite_side<D: Disk>(disk: &mut D, side: Side, bytes: &[u8]) -> Result<(), Failed>
     ensures opened { IsTrue (D.disk disk.old).told → OnOk result (IsOpened side [] bytes.now (on (other side) (D.disk disk.old).seen) (D.disk disk.new).seen) }
     ensures any_moment { IsTrue (is_clean (D.disk disk.old)) → LeavesOnly (D.disk disk.old) (D.disk disk.new) (IsRewritten side bytes.now (D.disk disk.old).seen) }
-    ensures rest { IsTrue (is_clean (D.disk disk.old)) → OnOk result (IsTrue (is_clean (D.disk disk.new))) }
+    ensures rest { IsTrue (D.disk disk.old).told → OnOk result (IsTrue (is_clean (D.disk disk.new))) }
     ensures told { (D.disk disk.new).told ≡ (D.disk disk.old).told }
     ensures rising { (D.disk disk.old).faults ≤ (D.disk disk.new).faults }
     ensures cause { IsErr result → Rose (D.disk disk.old).faults (D.disk disk.new).faults }

@@ -2,7 +2,7 @@ ghost use Rattle.std.specs.Prelude.{◌≡◌, ◌≢◌, ◌⊎◌, ◌<◌, �
 
 use crate::batch::Batch;
 use crate::blank::{rewrite_side, write_side};
-use crate::heading::header_bytes;
+use crate::heading::header_within;
 use crate::reading::{next_of, other_of};
 use crate::start::find;
 use crate::writing::{cut_behind, write_batch};
@@ -56,7 +56,7 @@ impl<D: Disk> Journal<D> {
     ghost use Rattle.commit_journal.specs.Spelling.{header, records_size, size};
     ghost use Rattle.commit_journal.specs.Reading.{first_gate, recovered};
     ghost use Rattle.commit_journal.specs.Kept.{IsWhole, with_more, Keeps, Stands, StandsOrMore, StandsOrBegun, side_renewed, generation_renewed, renewed, StandsOrRenewed};
-    ghost use Rattle.commit_journal.specs.Renewal.{StandsMoreOrRenewed, LeavesRenewed};
+    ghost use Rattle.commit_journal.specs.Renewal.{LeavesRenewed};
     ghost use Rattle.commit_journal.specs.Written.{IsWritten, IsUntouched};
     ghost use Rattle.commit_journal.specs.Views.{IsCause, located};
     ghost use Rattle.commit_journal.specs.Journal.{payloads_on, IsOpenedAs, IsSameSide, Refuses, size_begun, IsTooLarge, IsLeft};
@@ -140,7 +140,8 @@ impl<D: Disk> Journal<D> {
         self.batch.size()
     }
 
-    /// Makes it ready for payloads: writes the header of a blank journal, or cuts what stands behind the last gate.
+    /// Makes it ready for payloads: writes the header of a blank journal, or cuts what stands behind the last gate. It makes
+    /// sure of both sides, also of what an earlier run has left unsynced.
     pub fn begin(&mut self) -> Result<(), BeginFault>
         requires { self.old.stage ≢ Stopped }
         ensures ok { IsTrue (D.disk self.old.disk).told → OnOk result (self.new ≡ record self.old { disk = self.new.disk; stage = Ready }) }
@@ -149,9 +150,9 @@ impl<D: Disk> Journal<D> {
         ensures batch { self.new.batch ≡ self.old.batch }
         ensures whole { IsTrue (D.disk self.old.disk).told → OnOk result (IsWhole self.new.kept (D.disk self.new.disk).seen) }
         ensures seen { IsTrue (D.disk self.old.disk).told → OnOk result (Keeps self.new.kept (D.disk self.new.disk).seen) }
-        ensures acknowledged { IsTrue (is_clean (D.disk self.old.disk)) → OnOk result
+        ensures acknowledged { IsTrue (D.disk self.old.disk).told → OnOk result
             ((image : Sides) → (D.disk self.new.disk).images image → Keeps self.new.kept image) }
-        ensures rest { IsTrue (is_clean (D.disk self.old.disk)) → OnOk result (IsTrue (is_clean (D.disk self.new.disk))) }
+        ensures rest { IsTrue (D.disk self.old.disk).told → OnOk result (IsTrue (is_clean (D.disk self.new.disk))) }
 
         // The bytes: a blank side is written whole, any other is cut behind its last gate, and the other side is left alone.
         ensures written { IsTrue (D.disk self.old.disk).told → self.old.stage ≡ stages.Blank → OnOk result (IsWritten self.new.kept (D.disk self.new.disk).seen) }
@@ -186,14 +187,7 @@ impl<D: Disk> Journal<D> {
             };
         };
         let deployment = self.deployment.as_slice();
-        let size = 24 + deployment.len() as u64;
-        if size > self.limit {
-            return Err(BeginFault::Full {
-                length: 0,
-                adding: size,
-            });
-        }
-        let bytes = header_bytes(self.alloc, self.generation, deployment, &[])?;
+        let bytes = header_within(self.alloc, self.limit, self.generation, deployment, &[])?;
         match write_side(&mut self.disk, self.side, &bytes) {
             Ok(()) => {
                 self.end = bytes.len() as u64;
@@ -301,7 +295,7 @@ impl<D: Disk> Journal<D> {
         ensures generation { IfOk result (λ n. n ≡ (renewed self.old.stage self.old.kept snapshot).head.generation) }
         ensures whole { IsTrue (D.disk self.old.disk).told → OnOk result (IsWhole self.new.kept (D.disk self.new.disk).seen) }
         ensures seen { IsTrue (D.disk self.old.disk).told → OnOk result (Keeps self.new.kept (D.disk self.new.disk).seen) }
-        ensures rest { IsTrue (is_clean (D.disk self.old.disk)) → OnOk result (IsTrue (is_clean (D.disk self.new.disk))) }
+        ensures rest { IsTrue (D.disk self.old.disk).told → OnOk result (IsTrue (is_clean (D.disk self.new.disk))) }
         ensures written { IsTrue (D.disk self.old.disk).told → OnOk result (IsWritten self.new.kept (D.disk self.new.disk).seen) }
         ensures beside { IsTrue (D.disk self.old.disk).told → OnOk result
             (IsUntouched (other (side_renewed self.old.stage self.old.kept.side)) (D.disk self.old.disk).seen (D.disk self.new.disk).seen) }
@@ -344,9 +338,9 @@ impl<D: Disk> Journal<D> {
         ensures others { (self.new.records ≡ self.old.records) × (self.new.limit ≡ self.old.limit) }
         ensures whole { IsTrue (D.disk self.old.disk).told → OnOk result (IsWhole self.new.kept (D.disk self.new.disk).seen) }
         ensures seen { IsTrue (D.disk self.old.disk).told → OnOk result (Keeps self.new.kept (D.disk self.new.disk).seen) }
-        ensures acknowledged { IsTrue (is_clean (D.disk self.old.disk)) → OnOk result
+        ensures acknowledged { IsTrue (D.disk self.old.disk).told → OnOk result
             ((image : Sides) → (D.disk self.new.disk).images image → Keeps self.new.kept image) }
-        ensures rest { IsTrue (is_clean (D.disk self.old.disk)) → OnOk result (IsTrue (is_clean (D.disk self.new.disk))) }
+        ensures rest { IsTrue (D.disk self.old.disk).told → OnOk result (IsTrue (is_clean (D.disk self.new.disk))) }
 
         // The bytes: the renewed side is written whole, and the other one stays as the flush leaves it.
         ensures written { IsTrue (D.disk self.old.disk).told → OnOk result (IsWritten self.new.kept (D.disk self.new.disk).seen) }
@@ -355,12 +349,12 @@ impl<D: Disk> Journal<D> {
         ensures beside_flushed { IsTrue (D.disk self.old.disk).told → self.old.batch ≢ [] → OnOk result
             (IsWritten (with_more self.old.kept self.old.batch) (D.disk self.new.disk).seen) }
 
-        // A crash at any moment of the call leaves what was acknowledged, with the batch or without, or the renewed side;
-        // once the batch is gone, the flush has ended.
-        ensures any_moment { IsTrue (is_clean (D.disk self.old.disk)) → LeavesOnly (D.disk self.old.disk) (D.disk self.new.disk)
-            (StandsMoreOrRenewed self.old.stage self.old.kept self.old.batch snapshot.now) }
+        // Up to the end of the flush a crash leaves what was acknowledged, with the batch or without; from then on all of that, or
+        // the renewed side. Where the batch is still there, the flush has failed.
         ensures flushed { IsTrue (is_clean (D.disk self.old.disk)) → self.new.batch ≡ []
-            → LeavesRenewed self.old.stage self.old.kept self.old.batch snapshot.now (D.disk self.old.disk) (D.disk self.new.disk) }
+            → LeavesRenewed D.disk self.old.stage self.old.kept self.old.batch snapshot.now self.old.disk self.new.disk }
+        ensures unflushed { IsTrue (is_clean (D.disk self.old.disk)) → self.new.batch ≢ []
+            → LeavesOnly (D.disk self.old.disk) (D.disk self.new.disk) (StandsOrMore self.old.stage self.old.kept self.old.batch) }
 
         ensures refused { IfErr result (λ fault. IsTooLarge (size (renewed self.old.stage self.old.kept snapshot.now).head []) self.old.limit fault) }
         ensures fits { OnOk result (size (renewed self.old.stage self.old.kept snapshot.now).head [] ≤ self.old.limit) }
@@ -372,14 +366,7 @@ impl<D: Disk> Journal<D> {
     {
         let (_, generation) = self.next_side();
         let deployment = self.deployment.as_slice();
-        let size = 24 + deployment.len() as u64 + snapshot.len() as u64;
-        if size > self.limit {
-            return Err(BeginFault::Full {
-                length: 0,
-                adding: size,
-            });
-        }
-        let bytes = header_bytes(self.alloc, generation, deployment, snapshot)?;
+        let bytes = header_within(self.alloc, self.limit, generation, deployment, snapshot)?;
         let kept = Blob::from_slice(self.alloc, snapshot)?;
         self.flush()?;
         self.switch(kept, &bytes)

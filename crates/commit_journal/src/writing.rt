@@ -11,6 +11,7 @@ ghost use Rattle.commit_journal.specs.Written.{IsWritten, IsUntouched};
 
 use crate::batch::Batch;
 use crate::gate::open_gate;
+use crate::reading::other_of;
 use slee_disk::{Disk, Failed, Side};
 
 /// Writes a batch behind the closed gate that ends a side.
@@ -38,7 +39,7 @@ pub(crate) fn write_batch<D: Disk>(
     open_gate(disk, side, at, batch.behind())
 }
 
-/// Cuts what stands behind the last gate.
+/// Makes sure of the other side, and cuts what stands behind the last gate of this one.
 pub(crate) fn cut_behind<D: Disk>(disk: &mut D, side: Side, at: u64) -> Result<(), Failed>
     requires { at + 1 < 2 ^ 64 }
     ensures ready { (kept : Kept) → kept.side ≡ side → IsTrue (D.disk disk.old).told → StandsFound kept at (D.disk disk.old).seen
@@ -46,11 +47,12 @@ pub(crate) fn cut_behind<D: Disk>(disk: &mut D, side: Side, at: u64) -> Result<(
     ensures cut { IsTrue (D.disk disk.old).told → OnOk result (AtSide side (λ old new. new ≡ take (at + 1) old) (D.disk disk.old).seen (D.disk disk.new).seen) }
     ensures any_moment { (kept : Kept) → kept.side ≡ side → IsTrue (is_clean (D.disk disk.old)) → StandsFound kept at (D.disk disk.old).seen
         → LeavesOnly (D.disk disk.old) (D.disk disk.new) (Keeps kept) }
-    ensures rest { IsTrue (is_clean (D.disk disk.old)) → OnOk result (IsTrue (is_clean (D.disk disk.new))) }
+    ensures rest { IsTrue (D.disk disk.old).told → OnOk result (IsTrue (is_clean (D.disk disk.new))) }
     ensures told { (D.disk disk.new).told ≡ (D.disk disk.old).told }
     ensures rising { (D.disk disk.old).faults ≤ (D.disk disk.new).faults }
     ensures cause { IsErr result → Rose (D.disk disk.old).faults (D.disk disk.new).faults }
 {
+    disk.sync(other_of(side))?;
     disk.cut(side, at + 1)?;
     disk.sync(side)
 }

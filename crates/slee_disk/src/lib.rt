@@ -34,6 +34,3 @@ pub use side::Side;
 pub use sink::Sink;
 pub use source::Source;
 pub use writing::write_whole;
-
-#[cfg(test)]
-mod tests;

@@ -1,6 +1,6 @@
 -- Each effect is read as it is spelled.
-use Rattle.std.proofs.Common.{◌≡◌, ℕ, zero, suc, ◌+◌, ◌^◌, ◌<◌, ℤ, Bool, List, [], ◌∷◌, ◌++◌, length, Option, Ok, Err, refl, ap, subst, ◌∙◌, arith, FitsSigned}
-use Rattle.std.specs.Prelude.{⊤, slice_index_or}
+use Rattle.std.proofs.Common.{◌≡◌, ℕ, zero, suc, ◌+◌, ◌^◌, ◌<◌, ℤ, Bool, true, false, cond, eqb, eqb-true, List, [], ◌∷◌, ◌++◌, length, Option, Ok, Err, refl, sym, ap, subst, ◌∙◌, arith, FitsSigned}
+use Rattle.std.specs.Prelude.{⊤}
 use Rattle.std.specs.Int.{w8, w64}
 use Rattle.slee_value.specs.declared.keep.Keep.{Keep}
 use Rattle.slee_value.specs.declared.fault.ValueBad.TheVariants as bad
@@ -12,11 +12,12 @@ use Rattle.slee_value.proofs.PartLemmas.{reads_u64, reads_i64, reads_flag}
 use Rattle.slee_value.proofs.TextPartLemmas.{reads_text}
 use Rattle.slee_effect.specs.declared.reference.Ref.{Ref}
 use Rattle.slee_effect.specs.declared.value.Val.{Val}
+use Rattle.slee_effect.specs.declared.tag.TheConstants.{SET_FIELD, SET_ATTR, CREATE, REMOVE, SET_PRIORITY, ATTACH, DETACH, SET_MASK, FIRE, NEW_NULL, END_NULL, SET_TIMER, CANCEL_TIMER, BIND, UNBIND, EMIT, USAGE, SUSPEND, RESUME}
 use Rattle.slee_effect.specs.declared.effect.Effect.{Effect}
-use Rattle.slee_effect.specs.declared.effect.Effect.TheVariants.{SetField, SetAttr, Create, Remove, SetPriority, Attach, Detach, SetMask, Fire, NewNull, EndNull, SetTimer, CancelTimer, Bind, Unbind, Emit, Usage}
+use Rattle.slee_effect.specs.declared.effect.Effect.TheVariants.{SetField, SetAttr, Create, Remove, SetPriority, Attach, Detach, SetMask, Fire, NewNull, EndNull, SetTimer, CancelTimer, Bind, Unbind, Emit, Usage, Suspend, Resume}
 use Rattle.slee_effect.specs.Bytes.{spelled_i8, spelled_option, spelled_keep, spelled_ref, spelled_val, spelled_fields, spelled_effect}
 use Rattle.slee_effect.specs.Fitting.{FitsRef, FitsVal, FitsOption, AreLooseFields, AreRisingFields, FitsEffect, IsLooseEffect}
-use Rattle.slee_effect.specs.Reading.{nothing_at, i8_at, keep_at, option_at, ref_at, val_at, fields_at, bodies, no_effect, effect_at}
+use Rattle.slee_effect.specs.Reading.{nothing_at, i8_at, keep_at, option_at, ref_at, val_at, fields_at, bodies, body_of, no_effect, effect_at}
 use Rattle.slee_effect.proofs.PieceLemmas.{reads_nothing, reads_i8, reads_keep, reads_option, reads_ref, reads_val}
 use Rattle.slee_effect.proofs.FieldLemmas.{rise_loosely, reads_fields}
 
@@ -133,61 +134,73 @@ counted = both one (both text amount)
 read_counted : IsRead counted
 read_counted = read_both one (both text amount) reads_ref (read_both text amount reads_text reads_i64)
 
+abbrev delayed : Shape (Ref × ℕ)
+delayed = both one moment
+
+read_delayed : IsRead delayed
+read_delayed = read_both one moment reads_ref reads_u64
+
 -- ---- the effects by their first byte
 
 abbrev IsEffectCase : {A : Type 0} → ℕ → (A → Effect) → Shape A → Type 0
 IsEffectCase tag make s = IsCaseBy spelled_effect FitsEffect IsLooseEffect effect_at tag make s.spell s.fits s.loose s.read
 
-set_field_case : IsEffectCase 1 (λ p. SetField p.0 p.1.0 p.1.1) setting
+set_field_case : IsEffectCase SET_FIELD (λ p. SetField p.0 p.1.0 p.1.1) setting
 set_field_case = record { spells = λ x. refl; fit = λ x f. f; loosens = λ x f. f; reads = λ bytes. refl }
 
-set_attr_case : IsEffectCase 2 (λ p. SetAttr p.0 p.1.0 p.1.1) setting
+set_attr_case : IsEffectCase SET_ATTR (λ p. SetAttr p.0 p.1.0 p.1.1) setting
 set_attr_case = record { spells = λ x. refl; fit = λ x f. f; loosens = λ x f. f; reads = λ bytes. refl }
 
-create_case : IsEffectCase 3 (λ p. Create p.0 p.1.0 p.1.1) creation
+create_case : IsEffectCase CREATE (λ p. Create p.0 p.1.0 p.1.1) creation
 create_case = record { spells = λ x. refl; fit = λ x f. f; loosens = λ x f. f; reads = λ bytes. refl }
 
-remove_case : IsEffectCase 4 (λ p. Remove p) one
+remove_case : IsEffectCase REMOVE (λ p. Remove p) one
 remove_case = record { spells = λ x. refl; fit = λ x f. f; loosens = λ x f. f; reads = λ bytes. refl }
 
-set_priority_case : IsEffectCase 5 (λ p. SetPriority p.0 p.1) ranked
+set_priority_case : IsEffectCase SET_PRIORITY (λ p. SetPriority p.0 p.1) ranked
 set_priority_case = record { spells = λ x. refl; fit = λ x f. f; loosens = λ x f. f; reads = λ bytes. refl }
 
-attach_case : IsEffectCase 6 (λ p. Attach p.0 p.1) two
+attach_case : IsEffectCase ATTACH (λ p. Attach p.0 p.1) two
 attach_case = record { spells = λ x. refl; fit = λ x f. f; loosens = λ x f. f; reads = λ bytes. refl }
 
-detach_case : IsEffectCase 7 (λ p. Detach p.0 p.1) two
+detach_case : IsEffectCase DETACH (λ p. Detach p.0 p.1) two
 detach_case = record { spells = λ x. refl; fit = λ x f. f; loosens = λ x f. f; reads = λ bytes. refl }
 
-set_mask_case : IsEffectCase 8 (λ p. SetMask p.0 p.1.0 p.1.1.0 p.1.1.1) masked
+set_mask_case : IsEffectCase SET_MASK (λ p. SetMask p.0 p.1.0 p.1.1.0 p.1.1.1) masked
 set_mask_case = record { spells = λ x. refl; fit = λ x f. f; loosens = λ x f. f; reads = λ bytes. refl }
 
-fire_case : IsEffectCase 9 (λ p. Fire p.0 p.1.0 p.1.1.0 p.1.1.1) firing
+fire_case : IsEffectCase FIRE (λ p. Fire p.0 p.1.0 p.1.1.0 p.1.1.1) firing
 fire_case = record { spells = λ x. refl; fit = λ x f. f; loosens = λ x f. f; reads = λ bytes. refl }
 
-new_null_case : IsEffectCase 10 (λ p. NewNull) nothing
+new_null_case : IsEffectCase NEW_NULL (λ p. NewNull) nothing
 new_null_case = record { spells = λ x. refl; fit = λ x f. f; loosens = λ x f. f; reads = λ bytes. refl }
 
-end_null_case : IsEffectCase 11 (λ p. EndNull p) one
+end_null_case : IsEffectCase END_NULL (λ p. EndNull p) one
 end_null_case = record { spells = λ x. refl; fit = λ x f. f; loosens = λ x f. f; reads = λ bytes. refl }
 
-set_timer_case : IsEffectCase 12 (λ p. SetTimer p.0 p.1.0 p.1.1.0 p.1.1.1.0 p.1.1.1.1) timed
+set_timer_case : IsEffectCase SET_TIMER (λ p. SetTimer p.0 p.1.0 p.1.1.0 p.1.1.1.0 p.1.1.1.1) timed
 set_timer_case = record { spells = λ x. refl; fit = λ x f. f; loosens = λ x f. f; reads = λ bytes. refl }
 
-cancel_timer_case : IsEffectCase 13 (λ p. CancelTimer p) one
+cancel_timer_case : IsEffectCase CANCEL_TIMER (λ p. CancelTimer p) one
 cancel_timer_case = record { spells = λ x. refl; fit = λ x f. f; loosens = λ x f. f; reads = λ bytes. refl }
 
-bind_case : IsEffectCase 14 (λ p. Bind p.0 p.1) bound
+bind_case : IsEffectCase BIND (λ p. Bind p.0 p.1) bound
 bind_case = record { spells = λ x. refl; fit = λ x f. f; loosens = λ x f. f; reads = λ bytes. refl }
 
-unbind_case : IsEffectCase 15 (λ p. Unbind p) text
+unbind_case : IsEffectCase UNBIND (λ p. Unbind p) text
 unbind_case = record { spells = λ x. refl; fit = λ x f. f; loosens = λ x f. f; reads = λ bytes. refl }
 
-emit_case : IsEffectCase 16 (λ p. Emit p.0 p.1) said
+emit_case : IsEffectCase EMIT (λ p. Emit p.0 p.1) said
 emit_case = record { spells = λ x. refl; fit = λ x f. f; loosens = λ x f. f; reads = λ bytes. refl }
 
-usage_case : IsEffectCase 17 (λ p. Usage p.0 p.1.0 p.1.1) counted
+usage_case : IsEffectCase USAGE (λ p. Usage p.0 p.1.0 p.1.1) counted
 usage_case = record { spells = λ x. refl; fit = λ x f. f; loosens = λ x f. f; reads = λ bytes. refl }
+
+suspend_case : IsEffectCase SUSPEND (λ p. Suspend p.0 p.1) delayed
+suspend_case = record { spells = λ x. refl; fit = λ x f. f; loosens = λ x f. f; reads = λ bytes. refl }
+
+resume_case : IsEffectCase RESUME (λ p. Resume p) one
+resume_case = record { spells = λ x. refl; fit = λ x f. f; loosens = λ x f. f; reads = λ bytes. refl }
 
 pub effect_again : (x : Effect) (rest : List ℕ) → FitsEffect x → effect_at (spelled_effect x ++ rest) ≡ Ok (x, rest)
 effect_again (SetField entity name value) rest f = case_again _ _ _ _ _ _ _ _ _ _ set_field_case read_setting (entity, (name, value)) rest f
@@ -207,6 +220,8 @@ effect_again (Bind name activity) rest f = case_again _ _ _ _ _ _ _ _ _ _ bind_c
 effect_again (Unbind name) rest f = case_again _ _ _ _ _ _ _ _ _ _ unbind_case reads_text name rest f
 effect_again (Emit entity words) rest f = case_again _ _ _ _ _ _ _ _ _ _ emit_case read_said (entity, words) rest f
 effect_again (Usage entity name number) rest f = case_again _ _ _ _ _ _ _ _ _ _ usage_case read_counted (entity, (name, number)) rest f
+effect_again (Suspend activity until) rest f = case_again _ _ _ _ _ _ _ _ _ _ suspend_case read_delayed (activity, until) rest f
+effect_again (Resume activity) rest f = case_again _ _ _ _ _ _ _ _ _ _ resume_case reads_ref activity rest f
 
 effect_bytes : (x : Effect) → FitsEffect x → AreBytes (spelled_effect x)
 effect_bytes (SetField entity name value) f = case_bytes _ _ _ _ _ _ _ _ _ _ set_field_case read_setting (entity, (name, value)) (omega arith) f
@@ -226,17 +241,19 @@ effect_bytes (Bind name activity) f = case_bytes _ _ _ _ _ _ _ _ _ _ bind_case r
 effect_bytes (Unbind name) f = case_bytes _ _ _ _ _ _ _ _ _ _ unbind_case reads_text name (omega arith) f
 effect_bytes (Emit entity words) f = case_bytes _ _ _ _ _ _ _ _ _ _ emit_case read_said (entity, words) (omega arith) f
 effect_bytes (Usage entity name number) f = case_bytes _ _ _ _ _ _ _ _ _ _ usage_case read_counted (entity, (name, number)) (omega arith) f
+effect_bytes (Suspend activity until) f = case_bytes _ _ _ _ _ _ _ _ _ _ suspend_case read_delayed (activity, until) (omega arith) f
+effect_bytes (Resume activity) f = case_bytes _ _ _ _ _ _ _ _ _ _ resume_case reads_ref activity (omega arith) f
 
 effect_some : Begins spelled_effect IsLooseEffect []
-effect_some = (NewNull, 10 ∷ [], tt, refl)
+effect_some = (NewNull, NEW_NULL ∷ [], tt, refl)
 
 -- what stands behind a first byte
 record IsBody (tag : ℕ) (body : List ℕ → Part Effect) : Type 0 where
   takes : ((bytes : List ℕ) → effect_at (tag ∷ bytes) ≡ body bytes) → (bytes : List ℕ) (x : Effect × List ℕ) → AreBytes (tag ∷ bytes) → body bytes ≡ Ok x → Takes (tag ∷ bytes) (spelled_effect x.0) x.1 × FitsEffect x.0
   stuck : ((bytes : List ℕ) → effect_at (tag ∷ bytes) ≡ body bytes) → (bytes : List ℕ) (f : Fault) → AreBytes (tag ∷ bytes) → body bytes ≡ Err f → IsStuckBy spelled_effect FitsEffect IsLooseEffect (tag ∷ bytes) f.left
 
-body_of : {A : Type 0} (tag : ℕ) (make : A → Effect) (s : Shape A) → IsEffectCase tag make s → IsRead s → IsBody tag (mapped make s.read)
-body_of tag make s is reads = record {
+made_of : {A : Type 0} (tag : ℕ) (make : A → Effect) (s : Shape A) → IsEffectCase tag make s → IsRead s → IsBody tag (mapped make s.read)
+made_of tag make s is reads = record {
   takes = λ same bytes x h e. case_takes spelled_effect FitsEffect IsLooseEffect effect_at tag make s.spell s.fits s.loose s.read is reads bytes x h (same bytes ∙ e);
   stuck = λ same bytes f h e. case_stuck spelled_effect FitsEffect IsLooseEffect effect_at tag make s.spell s.fits s.loose s.read is reads effect_again effect_bytes bytes f h (same bytes ∙ e);
 }
@@ -248,84 +265,53 @@ no_body tag = record {
       no_case spelled_effect FitsEffect IsLooseEffect effect_at tag bytes f effect_again effect_some (λ more. (record { left = length more + 1; kind = bad.Tag }, same more)) (omega (arith, ap (λ (d : Fault). d.left) (err_is {A = Effect × List ℕ} _ f e)));
 }
 
-AreBodies : ℕ → List (List ℕ → Part Effect) → Type 0
-AreBodies tag [] = Unit {0}
-AreBodies tag (body ∷ rest) = IsBody tag body × AreBodies (suc tag) rest
+-- what stands behind each first byte of a table
+data AreBodies : List (ℕ × (List ℕ → Part Effect)) → Type 0 where
+  none_left : AreBodies []
+  one_more : {row : ℕ × (List ℕ → Part Effect)} {rows : List (ℕ × (List ℕ → Part Effect))} → IsBody row.0 row.1 → AreBodies rows → AreBodies (row ∷ rows)
 
-all_bodies : AreBodies 0 bodies
-unfolding AreBodies
-all_bodies = (
-  no_body 0,
-  (
-    body_of 1 (λ p. SetField p.0 p.1.0 p.1.1) setting set_field_case read_setting,
-    (
-      body_of 2 (λ p. SetAttr p.0 p.1.0 p.1.1) setting set_attr_case read_setting,
-      (
-        body_of 3 (λ p. Create p.0 p.1.0 p.1.1) creation create_case read_creation,
-        (
-          body_of 4 (λ p. Remove p) one remove_case reads_ref,
-          (
-            body_of 5 (λ p. SetPriority p.0 p.1) ranked set_priority_case read_ranked,
-            (
-              body_of 6 (λ p. Attach p.0 p.1) two attach_case read_two,
-              (
-                body_of 7 (λ p. Detach p.0 p.1) two detach_case read_two,
-                (
-                  body_of 8 (λ p. SetMask p.0 p.1.0 p.1.1.0 p.1.1.1) masked set_mask_case read_masked,
-                  (
-                    body_of 9 (λ p. Fire p.0 p.1.0 p.1.1.0 p.1.1.1) firing fire_case read_firing,
-                    (
-                      body_of 10 (λ p. NewNull) nothing new_null_case reads_nothing,
-                      (
-                        body_of 11 (λ p. EndNull p) one end_null_case reads_ref,
-                        (
-                          body_of 12 (λ p. SetTimer p.0 p.1.0 p.1.1.0 p.1.1.1.0 p.1.1.1.1) timed set_timer_case read_timed,
-                          (
-                            body_of 13 (λ p. CancelTimer p) one cancel_timer_case reads_ref,
-                            (
-                              body_of 14 (λ p. Bind p.0 p.1) bound bind_case read_bound,
-                              (
-                                body_of 15 (λ p. Unbind p) text unbind_case reads_text,
-                                (
-                                  body_of 16 (λ p. Emit p.0 p.1) said emit_case read_said,
-                                  (
-                                    body_of 17 (λ p. Usage p.0 p.1.0 p.1.1) counted usage_case read_counted,
-                                    tt,
-                                  ),
-                                ),
-                              ),
-                            ),
-                          ),
-                        ),
-                      ),
-                    ),
-                  ),
-                ),
-              ),
-            ),
-          ),
-        ),
-      ),
-    ),
-  ),
-)
+infixr 10 ◌&◌
+◌&◌ : {row : ℕ × (List ℕ → Part Effect)} {rows : List (ℕ × (List ℕ → Part Effect))} → IsBody row.0 row.1 → AreBodies rows → AreBodies (row ∷ rows)
+first & others = one_more first others
 
-body_at : (tag : ℕ) (rest : List (List ℕ → Part Effect)) (i : ℕ) → AreBodies tag rest → IsBody (tag + i) (slice_index_or rest i no_effect)
-unfolding AreBodies
-body_at tag [] i all = no_body (tag + i)
-body_at tag (body ∷ rest) zero all = subst (λ (n : ℕ). IsBody n body) (let k : tag ≡ tag + 0 = omega arith in k) all.0
-body_at tag (body ∷ rest) (suc i) all = subst (λ (n : ℕ). IsBody n (slice_index_or rest i no_effect)) (let k : suc tag + i ≡ tag + suc i = omega arith in k) (body_at (suc tag) rest i all.1)
+all_bodies : AreBodies bodies
+all_bodies =
+    made_of SET_FIELD (λ p. SetField p.0 p.1.0 p.1.1) setting set_field_case read_setting
+    & made_of SET_ATTR (λ p. SetAttr p.0 p.1.0 p.1.1) setting set_attr_case read_setting
+    & made_of CREATE (λ p. Create p.0 p.1.0 p.1.1) creation create_case read_creation
+    & made_of REMOVE (λ p. Remove p) one remove_case reads_ref
+    & made_of SET_PRIORITY (λ p. SetPriority p.0 p.1) ranked set_priority_case read_ranked
+    & made_of ATTACH (λ p. Attach p.0 p.1) two attach_case read_two
+    & made_of DETACH (λ p. Detach p.0 p.1) two detach_case read_two
+    & made_of SET_MASK (λ p. SetMask p.0 p.1.0 p.1.1.0 p.1.1.1) masked set_mask_case read_masked
+    & made_of FIRE (λ p. Fire p.0 p.1.0 p.1.1.0 p.1.1.1) firing fire_case read_firing
+    & made_of NEW_NULL (λ p. NewNull) nothing new_null_case reads_nothing
+    & made_of END_NULL (λ p. EndNull p) one end_null_case reads_ref
+    & made_of SET_TIMER (λ p. SetTimer p.0 p.1.0 p.1.1.0 p.1.1.1.0 p.1.1.1.1) timed set_timer_case read_timed
+    & made_of CANCEL_TIMER (λ p. CancelTimer p) one cancel_timer_case reads_ref
+    & made_of BIND (λ p. Bind p.0 p.1) bound bind_case read_bound
+    & made_of UNBIND (λ p. Unbind p) text unbind_case reads_text
+    & made_of EMIT (λ p. Emit p.0 p.1) said emit_case read_said
+    & made_of USAGE (λ p. Usage p.0 p.1.0 p.1.1) counted usage_case read_counted
+    & made_of SUSPEND (λ p. Suspend p.0 p.1) delayed suspend_case read_delayed
+    & made_of RESUME (λ p. Resume p) one resume_case reads_ref
+    & none_left
 
-body_is : (tag : ℕ) → IsBody tag (slice_index_or bodies tag no_effect)
-body_is tag = subst (λ (n : ℕ). IsBody n (slice_index_or bodies tag no_effect)) (let k : 0 + tag ≡ tag = omega arith in k) (body_at 0 bodies tag all_bodies)
+chosen_body : (row : ℕ × (List ℕ → Part Effect)) (rows : List (ℕ × (List ℕ → Part Effect))) (tag : ℕ) (same : Bool) → eqb tag row.0 ≡ same → IsBody row.0 row.1 → IsBody tag (body_of rows tag) → IsBody tag (cond same row.1 (body_of rows tag))
+chosen_body row rows tag true e here behind = subst (λ (n : ℕ). IsBody n row.1) (sym (eqb-true tag row.0 e)) here
+chosen_body row rows tag false e here behind = behind
+
+body_at : (rows : List (ℕ × (List ℕ → Part Effect))) (tag : ℕ) → AreBodies rows → IsBody tag (body_of rows tag)
+body_at [] tag all = no_body tag
+body_at (row ∷ rows) tag (one_more here others) = chosen_body row rows tag (eqb tag row.0) refl here (body_at rows tag others)
 
 effect_takes : (bytes : List ℕ) (x : Effect × List ℕ) → AreBytes bytes → effect_at bytes ≡ Ok x → Takes bytes (spelled_effect x.0) x.1 × FitsEffect x.0
 effect_takes [] x h e = absurd cc
-effect_takes (tag ∷ bytes) x h e = (body_is tag).takes (λ more. refl) bytes x h e
+effect_takes (tag ∷ bytes) x h e = (body_at bodies tag all_bodies).takes (λ more. refl) bytes x h e
 
 effect_stuck : (bytes : List ℕ) (f : Fault) → AreBytes bytes → effect_at bytes ≡ Err f → IsStuckBy spelled_effect FitsEffect IsLooseEffect bytes f.left
 effect_stuck [] f h e = subst (IsStuckBy spelled_effect FitsEffect IsLooseEffect []) (ap (λ (d : Fault). d.left) (err_is {A = Effect × List ℕ} _ f e)) (no_bytes spelled_effect FitsEffect IsLooseEffect effect_at effect_some)
-effect_stuck (tag ∷ bytes) f h e = (body_is tag).stuck (λ more. refl) bytes f h e
+effect_stuck (tag ∷ bytes) f h e = (body_at bodies tag all_bodies).stuck (λ more. refl) bytes f h e
 
 loosen_effect : (x : Effect) → FitsEffect x → IsLooseEffect x
 loosen_effect (SetField entity name value) f = f
@@ -345,6 +331,8 @@ loosen_effect (Bind name activity) f = f
 loosen_effect (Unbind name) f = f
 loosen_effect (Emit entity words) f = f
 loosen_effect (Usage entity name number) f = f
+loosen_effect (Suspend activity until) f = f
+loosen_effect (Resume activity) f = f
 
 pub reads_effect : ReadsBy spelled_effect FitsEffect IsLooseEffect effect_at
 reads_effect = record { takes = effect_takes; again = effect_again; stuck = effect_stuck; some = effect_some; bytes = effect_bytes; loosen = loosen_effect }

@@ -9,8 +9,9 @@ use Rattle.slee_effect.specs.declared.reference.Ref.{Ref}
 use Rattle.slee_effect.specs.declared.reference.Ref.TheVariants.{Known, Fresh}
 use Rattle.slee_effect.specs.declared.value.Val.{Val}
 use Rattle.slee_effect.specs.declared.value.Val.TheVariants.{Plain, NewActivity, NewTimer}
+use Rattle.slee_effect.specs.declared.tag.TheConstants.{SET_FIELD, SET_ATTR, CREATE, REMOVE, SET_PRIORITY, ATTACH, DETACH, SET_MASK, FIRE, NEW_NULL, END_NULL, SET_TIMER, CANCEL_TIMER, BIND, UNBIND, EMIT, USAGE, SUSPEND, RESUME}
 use Rattle.slee_effect.specs.declared.effect.Effect.{Effect}
-use Rattle.slee_effect.specs.declared.effect.Effect.TheVariants.{SetField, SetAttr, Create, Remove, SetPriority, Attach, Detach, SetMask, Fire, NewNull, EndNull, SetTimer, CancelTimer, Bind, Unbind, Emit, Usage}
+use Rattle.slee_effect.specs.declared.effect.Effect.TheVariants.{SetField, SetAttr, Create, Remove, SetPriority, Attach, Detach, SetMask, Fire, NewNull, EndNull, SetTimer, CancelTimer, Bind, Unbind, Emit, Usage, Suspend, Resume}
 
 -- a byte with a sign
 abbrev pub spelled_i8 : ℤ → List ℕ
@@ -44,23 +45,25 @@ spelled_fields fields = spelled_u32 (length fields) ++ flat_map spelled_field fi
 
 -- the bytes of an effect: a byte for which one it is, and then its parts in order
 abbrev pub spelled_effect : Effect → List ℕ
-spelled_effect (SetField entity name value) = 1 ∷ (spelled_ref entity ++ (spelled_text name ++ spelled_val value))
-spelled_effect (SetAttr activity key value) = 2 ∷ (spelled_ref activity ++ (spelled_text key ++ spelled_val value))
-spelled_effect (Create parent relation priority) = 3 ∷ (spelled_ref parent ++ (spelled_text relation ++ spelled_i8 priority))
-spelled_effect (Remove entity) = 4 ∷ spelled_ref entity
-spelled_effect (SetPriority entity priority) = 5 ∷ (spelled_ref entity ++ spelled_i8 priority)
-spelled_effect (Attach entity activity) = 6 ∷ (spelled_ref entity ++ spelled_ref activity)
-spelled_effect (Detach entity activity) = 7 ∷ (spelled_ref entity ++ spelled_ref activity)
-spelled_effect (SetMask entity activity event on) = 8 ∷ (spelled_ref entity ++ (spelled_ref activity ++ (spelled_text event ++ spelled_flag on)))
-spelled_effect (Fire activity event service fields) = 9 ∷ (spelled_ref activity ++ (spelled_text event ++ (spelled_option service ++ spelled_fields fields)))
-spelled_effect NewNull = 10 ∷ []
-spelled_effect (EndNull activity) = 11 ∷ spelled_ref activity
-spelled_effect (SetTimer activity start period times keep) = 12 ∷ (spelled_ref activity ++ (spelled_u64 start ++ (spelled_u64 period ++ (spelled_u64 times ++ spelled_keep keep))))
-spelled_effect (CancelTimer timer) = 13 ∷ spelled_ref timer
-spelled_effect (Bind name activity) = 14 ∷ (spelled_text name ++ spelled_ref activity)
-spelled_effect (Unbind name) = 15 ∷ spelled_text name
-spelled_effect (Emit entity text) = 16 ∷ (spelled_ref entity ++ spelled_text text)
-spelled_effect (Usage entity name amount) = 17 ∷ (spelled_ref entity ++ (spelled_text name ++ spelled_i64 amount))
+spelled_effect (SetField entity name value) = SET_FIELD ∷ (spelled_ref entity ++ (spelled_text name ++ spelled_val value))
+spelled_effect (SetAttr activity key value) = SET_ATTR ∷ (spelled_ref activity ++ (spelled_text key ++ spelled_val value))
+spelled_effect (Create parent relation priority) = CREATE ∷ (spelled_ref parent ++ (spelled_text relation ++ spelled_i8 priority))
+spelled_effect (Remove entity) = REMOVE ∷ spelled_ref entity
+spelled_effect (SetPriority entity priority) = SET_PRIORITY ∷ (spelled_ref entity ++ spelled_i8 priority)
+spelled_effect (Attach entity activity) = ATTACH ∷ (spelled_ref entity ++ spelled_ref activity)
+spelled_effect (Detach entity activity) = DETACH ∷ (spelled_ref entity ++ spelled_ref activity)
+spelled_effect (SetMask entity activity event on) = SET_MASK ∷ (spelled_ref entity ++ (spelled_ref activity ++ (spelled_text event ++ spelled_flag on)))
+spelled_effect (Fire activity event service fields) = FIRE ∷ (spelled_ref activity ++ (spelled_text event ++ (spelled_option service ++ spelled_fields fields)))
+spelled_effect NewNull = NEW_NULL ∷ []
+spelled_effect (EndNull activity) = END_NULL ∷ spelled_ref activity
+spelled_effect (SetTimer activity start period times keep) = SET_TIMER ∷ (spelled_ref activity ++ (spelled_u64 start ++ (spelled_u64 period ++ (spelled_u64 times ++ spelled_keep keep))))
+spelled_effect (CancelTimer timer) = CANCEL_TIMER ∷ spelled_ref timer
+spelled_effect (Bind name activity) = BIND ∷ (spelled_text name ++ spelled_ref activity)
+spelled_effect (Unbind name) = UNBIND ∷ spelled_text name
+spelled_effect (Emit entity text) = EMIT ∷ (spelled_ref entity ++ spelled_text text)
+spelled_effect (Usage entity name amount) = USAGE ∷ (spelled_ref entity ++ (spelled_text name ++ spelled_i64 amount))
+spelled_effect (Suspend activity until) = SUSPEND ∷ (spelled_ref activity ++ spelled_u64 until)
+spelled_effect (Resume activity) = RESUME ∷ spelled_ref activity
 
 -- the bytes of a list of effects
 abbrev pub spelling_of_effects : List Effect → List ℕ
@@ -103,6 +106,8 @@ IsShortEffect (Bind name activity) = IsShortText name
 IsShortEffect (Unbind name) = IsShortText name
 IsShortEffect (Emit entity text) = IsShortText text
 IsShortEffect (Usage entity name amount) = IsShortText name
+IsShortEffect (Suspend activity until) = ⊤
+IsShortEffect (Resume activity) = ⊤
 
 abbrev pub AreShort : List Effect → Type 0
 AreShort effects = (length effects < 2 ^ 32) × AllByRecursion IsShortEffect effects

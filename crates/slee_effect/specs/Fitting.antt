@@ -9,7 +9,7 @@ use Rattle.slee_effect.specs.declared.reference.Ref.TheVariants.{Known, Fresh}
 use Rattle.slee_effect.specs.declared.value.Val.{Val}
 use Rattle.slee_effect.specs.declared.value.Val.TheVariants.{Plain, NewActivity, NewTimer}
 use Rattle.slee_effect.specs.declared.effect.Effect.{Effect}
-use Rattle.slee_effect.specs.declared.effect.Effect.TheVariants.{SetField, SetAttr, Create, Remove, SetPriority, Attach, Detach, SetMask, Fire, NewNull, EndNull, SetTimer, CancelTimer, Bind, Unbind, Emit, Usage}
+use Rattle.slee_effect.specs.declared.effect.Effect.TheVariants.{SetField, SetAttr, Create, Remove, SetPriority, Attach, Detach, SetMask, Fire, NewNull, EndNull, SetTimer, CancelTimer, Bind, Unbind, Emit, Usage, Suspend, Resume}
 
 abbrev pub FitsRef : Ref → Type 0
 FitsRef (Known number) = number < 2 ^ 64
@@ -62,6 +62,8 @@ FitsBy FieldsFit (Bind name activity) = FitsText name × FitsRef activity
 FitsBy FieldsFit (Unbind name) = FitsText name
 FitsBy FieldsFit (Emit entity text) = FitsRef entity × FitsText text
 FitsBy FieldsFit (Usage entity name amount) = FitsRef entity × (FitsText name × FitsSigned w64 amount)
+FitsBy FieldsFit (Suspend activity until) = FitsRef activity × (until < 2 ^ 64)
+FitsBy FieldsFit (Resume activity) = FitsRef activity
 
 abbrev pub FitsEffect : Effect → Type 0
 FitsEffect = FitsBy AreRisingFields

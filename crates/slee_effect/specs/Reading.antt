@@ -1,5 +1,5 @@
 -- Reading effects from left to right. A fault is how many bytes are left from the first one that can't go on.
-use Rattle.std.specs.Prelude.{ℕ, zero, suc, ◌+◌, ◌-◌, ℤ, List, [], ◌∷◌, length, Option, Some, None, Result, Ok, Err, nat_lt, ◌==◌, if◌then◌else◌, slice_index_or, slice_get, option_map}
+use Rattle.std.specs.Prelude.{ℕ, zero, suc, ◌+◌, ◌-◌, ℤ, List, [], ◌∷◌, length, Option, Some, None, Result, Ok, Err, nat_lt, ◌==◌, if◌then◌else◌, slice_get, option_map}
 use Rattle.std.specs.Int.{w8, w32, w64, cast_signed}
 use Rattle.slee_value.specs.declared.keep.Keep.{Keep}
 use Rattle.slee_value.specs.declared.keep.Keep.TheVariants.{All, Last, NoneMissed}
@@ -10,8 +10,9 @@ use Rattle.slee_effect.specs.declared.reference.Ref.{Ref}
 use Rattle.slee_effect.specs.declared.reference.Ref.TheVariants.{Known, Fresh}
 use Rattle.slee_effect.specs.declared.value.Val.{Val}
 use Rattle.slee_effect.specs.declared.value.Val.TheVariants.{Plain, NewActivity, NewTimer}
+use Rattle.slee_effect.specs.declared.tag.TheConstants.{SET_FIELD, SET_ATTR, CREATE, REMOVE, SET_PRIORITY, ATTACH, DETACH, SET_MASK, FIRE, NEW_NULL, END_NULL, SET_TIMER, CANCEL_TIMER, BIND, UNBIND, EMIT, USAGE, SUSPEND, RESUME}
 use Rattle.slee_effect.specs.declared.effect.Effect.{Effect}
-use Rattle.slee_effect.specs.declared.effect.Effect.TheVariants.{SetField, SetAttr, Create, Remove, SetPriority, Attach, Detach, SetMask, Fire, NewNull, EndNull, SetTimer, CancelTimer, Bind, Unbind, Emit, Usage}
+use Rattle.slee_effect.specs.declared.effect.Effect.TheVariants.{SetField, SetAttr, Create, Remove, SetPriority, Attach, Detach, SetMask, Fire, NewNull, EndNull, SetTimer, CancelTimer, Bind, Unbind, Emit, Usage, Suspend, Resume}
 
 -- this byte can't stand here
 abbrev pub stray : {A : Type 0} → List ℕ → Part A
@@ -88,33 +89,39 @@ fields_at bytes = number_at w32 bytes >>= λ n. rows_at n.0 None n.1
 abbrev pub no_effect : List ℕ → Part Effect
 no_effect bytes = Err (record { left = length bytes + 1; kind = bad.Tag })
 
--- what stands behind the byte of each effect, in order from 0, which has none
-abbrev pub bodies : List (List ℕ → Part Effect)
+-- what stands behind the byte of each effect
+abbrev pub bodies : List (ℕ × (List ℕ → Part Effect))
 bodies =
-    no_effect
-    ∷ mapped (λ p. SetField p.0 p.1.0 p.1.1) (pair ref_at (pair text_at val_at))
-    ∷ mapped (λ p. SetAttr p.0 p.1.0 p.1.1) (pair ref_at (pair text_at val_at))
-    ∷ mapped (λ p. Create p.0 p.1.0 p.1.1) (pair ref_at (pair text_at i8_at))
-    ∷ mapped (λ p. Remove p) ref_at
-    ∷ mapped (λ p. SetPriority p.0 p.1) (pair ref_at i8_at)
-    ∷ mapped (λ p. Attach p.0 p.1) (pair ref_at ref_at)
-    ∷ mapped (λ p. Detach p.0 p.1) (pair ref_at ref_at)
-    ∷ mapped (λ p. SetMask p.0 p.1.0 p.1.1.0 p.1.1.1) (pair ref_at (pair ref_at (pair text_at flag_at)))
-    ∷ mapped (λ p. Fire p.0 p.1.0 p.1.1.0 p.1.1.1) (pair ref_at (pair text_at (pair option_at fields_at)))
-    ∷ mapped (λ p. NewNull) nothing_at
-    ∷ mapped (λ p. EndNull p) ref_at
-    ∷ mapped (λ p. SetTimer p.0 p.1.0 p.1.1.0 p.1.1.1.0 p.1.1.1.1) (pair ref_at (pair (number_at w64) (pair (number_at w64) (pair (number_at w64) keep_at))))
-    ∷ mapped (λ p. CancelTimer p) ref_at
-    ∷ mapped (λ p. Bind p.0 p.1) (pair text_at ref_at)
-    ∷ mapped (λ p. Unbind p) text_at
-    ∷ mapped (λ p. Emit p.0 p.1) (pair ref_at text_at)
-    ∷ mapped (λ p. Usage p.0 p.1.0 p.1.1) (pair ref_at (pair text_at i64_at))
+    (SET_FIELD, mapped (λ p. SetField p.0 p.1.0 p.1.1) (pair ref_at (pair text_at val_at)))
+    ∷ (SET_ATTR, mapped (λ p. SetAttr p.0 p.1.0 p.1.1) (pair ref_at (pair text_at val_at)))
+    ∷ (CREATE, mapped (λ p. Create p.0 p.1.0 p.1.1) (pair ref_at (pair text_at i8_at)))
+    ∷ (REMOVE, mapped (λ p. Remove p) ref_at)
+    ∷ (SET_PRIORITY, mapped (λ p. SetPriority p.0 p.1) (pair ref_at i8_at))
+    ∷ (ATTACH, mapped (λ p. Attach p.0 p.1) (pair ref_at ref_at))
+    ∷ (DETACH, mapped (λ p. Detach p.0 p.1) (pair ref_at ref_at))
+    ∷ (SET_MASK, mapped (λ p. SetMask p.0 p.1.0 p.1.1.0 p.1.1.1) (pair ref_at (pair ref_at (pair text_at flag_at))))
+    ∷ (FIRE, mapped (λ p. Fire p.0 p.1.0 p.1.1.0 p.1.1.1) (pair ref_at (pair text_at (pair option_at fields_at))))
+    ∷ (NEW_NULL, mapped (λ p. NewNull) nothing_at)
+    ∷ (END_NULL, mapped (λ p. EndNull p) ref_at)
+    ∷ (SET_TIMER, mapped (λ p. SetTimer p.0 p.1.0 p.1.1.0 p.1.1.1.0 p.1.1.1.1) (pair ref_at (pair (number_at w64) (pair (number_at w64) (pair (number_at w64) keep_at)))))
+    ∷ (CANCEL_TIMER, mapped (λ p. CancelTimer p) ref_at)
+    ∷ (BIND, mapped (λ p. Bind p.0 p.1) (pair text_at ref_at))
+    ∷ (UNBIND, mapped (λ p. Unbind p) text_at)
+    ∷ (EMIT, mapped (λ p. Emit p.0 p.1) (pair ref_at text_at))
+    ∷ (USAGE, mapped (λ p. Usage p.0 p.1.0 p.1.1) (pair ref_at (pair text_at i64_at)))
+    ∷ (SUSPEND, mapped (λ p. Suspend p.0 p.1) (pair ref_at (number_at w64)))
+    ∷ (RESUME, mapped (λ p. Resume p) ref_at)
     ∷ []
+
+-- what stands behind this byte by such a table
+abbrev pub body_of : List (ℕ × (List ℕ → Part Effect)) → ℕ → List ℕ → Part Effect
+body_of [] tag = no_effect
+body_of (row ∷ rows) tag = if tag == row.0 then row.1 else body_of rows tag
 
 -- the effect at the front of the bytes, and the bytes behind it
 abbrev pub effect_at : List ℕ → Part Effect
 effect_at [] = ended
-effect_at (tag ∷ bytes) = slice_index_or bodies tag no_effect bytes
+effect_at (tag ∷ bytes) = body_of bodies tag bytes
 
 unfoldable pub items_at : ℕ → List ℕ → Part (List Effect)
 items_at zero bytes = Ok ([], bytes)

@@ -7,7 +7,7 @@ use Rattle.slee_effect.specs.declared.reference.Ref.TheVariants.{Known, Fresh}
 use Rattle.slee_effect.specs.declared.value.Val.{Val}
 use Rattle.slee_effect.specs.declared.value.Val.TheVariants.{Plain, NewActivity, NewTimer}
 use Rattle.slee_effect.specs.declared.effect.Effect.{Effect}
-use Rattle.slee_effect.specs.declared.effect.Effect.TheVariants.{SetField, SetAttr, Create, Remove, SetPriority, Attach, Detach, SetMask, Fire, NewNull, EndNull, SetTimer, CancelTimer, Bind, Unbind, Emit, Usage}
+use Rattle.slee_effect.specs.declared.effect.Effect.TheVariants.{SetField, SetAttr, Create, Remove, SetPriority, Attach, Detach, SetMask, Fire, NewNull, EndNull, SetTimer, CancelTimer, Bind, Unbind, Emit, Usage, Suspend, Resume}
 use Rattle.slee_effect.specs.declared.next.Next.{Next}
 
 -- the k-th that is created gets the next number and k
@@ -41,6 +41,8 @@ resolved_effect next (Bind name activity) = Bind name (resolved_ref next.activit
 resolved_effect next (Unbind name) = Unbind name
 resolved_effect next (Emit entity text) = Emit (resolved_ref next.entity entity) text
 resolved_effect next (Usage entity name amount) = Usage (resolved_ref next.entity entity) name amount
+resolved_effect next (Suspend activity until) = Suspend (resolved_ref next.activity activity) until
+resolved_effect next (Resume activity) = Resume (resolved_ref next.activity activity)
 
 -- each number that this gives is one of 64 bits
 abbrev pub CanResolveRef : ℕ → Ref → Type 0
@@ -73,3 +75,5 @@ CanResolve next (Bind name activity) = CanResolveRef next.activity activity
 CanResolve next (Unbind name) = ⊤
 CanResolve next (Emit entity text) = CanResolveRef next.entity entity
 CanResolve next (Usage entity name amount) = CanResolveRef next.entity entity
+CanResolve next (Suspend activity until) = CanResolveRef next.activity activity
+CanResolve next (Resume activity) = CanResolveRef next.activity activity

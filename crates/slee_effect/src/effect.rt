@@ -92,6 +92,15 @@ pub enum Effect {
         name: Text,
         amount: i64,
     },
+    /// The delivery of an activity's first event waits until a moment, in milliseconds.
+    Suspend {
+        activity: Ref,
+        until: u64,
+    },
+    /// The delivery of an activity's first event goes on.
+    Resume {
+        activity: Ref,
+    },
 }
 
 impl Effect {
@@ -164,6 +173,8 @@ impl Effect {
                 name,
                 amount,
             } => Ok(usage(*entity, name.copy(alloc)?, *amount)),
+            &Effect::Suspend { activity, until } => Ok(Effect::Suspend { activity, until }),
+            &Effect::Resume { activity } => Ok(Effect::Resume { activity }),
         }
     }
 }

@@ -14,6 +14,7 @@ mod reading;
 mod reference;
 mod resolving;
 mod rows;
+mod tag;
 mod value;
 mod writing;
 

@@ -122,6 +122,15 @@ pub(crate) fn read_usage(
     Ok(((one, (name, amount)), rest))
 }
 
+pub(crate) fn read_suspension(bytes: &[u8]) -> Result<((Ref, u64), &[u8]), PartFault>
+    ensures part { Gives (λ x. (x.0, x.1.now)) result (pair ref_at (number_at w64) bytes.now) }
+    ensures memory { result ≢ Err PartFault.NoMemory }
+{
+    let (one, rest) = read_ref(bytes)?;
+    let (until, rest) = read_u64(rest)?;
+    Ok(((one, until), rest))
+}
+
 pub(crate) fn read_ref(bytes: &[u8]) -> Result<(Ref, &[u8]), PartFault>
     ensures part { Gives (λ x. (x.0, x.1.now)) result (ref_at bytes.now) }
     ensures memory { result ≢ Err PartFault.NoMemory }

@@ -1,4 +1,4 @@
-ghost use Rattle.std.specs.Prelude.{◌≡◌, List, length, slice_index_or, IfOk, IfErr};
+ghost use Rattle.std.specs.Prelude.{◌≡◌, List, length, IfOk, IfErr};
 ghost use Rattle.slee_value.specs.Reading.{Gives};
 ghost use Rattle.slee_value.specs.declared.fault.PartFault.TheVariants.{Bad};
 ghost use Rattle.slee_value.specs.declared.fault.ValueBad.TheVariants.{Tag};
@@ -6,14 +6,14 @@ ghost use Rattle.slee_effect.specs.declared.effect.Effect.{Effect as EffectModel
 ghost use Rattle.slee_effect.specs.Bytes.{spelling_of_effects};
 ghost use Rattle.slee_effect.specs.Fitting.{FitEffects};
 ghost use Rattle.slee_effect.specs.Lists.{IsRead, StandsRight, Answers};
-ghost use Rattle.slee_effect.specs.Reading.{effect_at, bodies, no_effect, items_at, list_of};
+ghost use Rattle.slee_effect.specs.Reading.{effect_at, bodies, body_of, items_at, list_of};
 
 use crate::making::{create, fire, set_attr, set_field, set_mask, set_timer, usage};
 use crate::parts::{
     read_binding, read_creation, read_fire, read_mask, read_named, read_priority, read_ref,
-    read_setting, read_timer, read_two, read_usage,
+    read_setting, read_suspension, read_timer, read_two, read_usage,
 };
-use crate::{Effect, EffectFault, Effects};
+use crate::{Effect, EffectFault, Effects, tag};
 use slee_value::{PartFault, ValueBad, read_text, read_u32};
 use std::alloc::Global;
 
@@ -83,73 +83,81 @@ fn read_effect(alloc: Global, bytes: &[u8]) -> Result<(Effect, &[u8]), PartFault
 }
 
 fn read_body(alloc: Global, tag: u8, rest: &[u8]) -> Result<(Effect, &[u8]), PartFault>
-    ensures { Gives (λ x. (x.0, x.1.now)) result (slice_index_or bodies tag no_effect rest.now) }
+    ensures { Gives (λ x. (x.0, x.1.now)) result (body_of bodies tag rest.now) }
 {
     match tag {
-        1 => {
+        tag::SET_FIELD => {
             let ((entity, (name, value)), rest) = read_setting(alloc, rest)?;
             Ok((set_field(entity, name, value), rest))
         }
-        2 => {
+        tag::SET_ATTR => {
             let ((activity, (key, value)), rest) = read_setting(alloc, rest)?;
             Ok((set_attr(activity, key, value), rest))
         }
-        3 => {
+        tag::CREATE => {
             let ((parent, (relation, priority)), rest) = read_creation(alloc, rest)?;
             Ok((create(parent, relation, priority), rest))
         }
-        4 => {
+        tag::REMOVE => {
             let (entity, rest) = read_ref(rest)?;
             Ok((Effect::Remove { entity }, rest))
         }
-        5 => {
+        tag::SET_PRIORITY => {
             let ((entity, priority), rest) = read_priority(rest)?;
             Ok((Effect::SetPriority { entity, priority }, rest))
         }
-        6 => {
+        tag::ATTACH => {
             let ((entity, activity), rest) = read_two(rest)?;
             Ok((Effect::Attach { entity, activity }, rest))
         }
-        7 => {
+        tag::DETACH => {
             let ((entity, activity), rest) = read_two(rest)?;
             Ok((Effect::Detach { entity, activity }, rest))
         }
-        8 => {
+        tag::SET_MASK => {
             let ((entity, (activity, (event, on))), rest) = read_mask(alloc, rest)?;
             Ok((set_mask(entity, activity, event, on), rest))
         }
-        9 => {
+        tag::FIRE => {
             let ((activity, (event, (service, fields))), rest) = read_fire(alloc, rest)?;
             Ok((fire(activity, event, service, fields), rest))
         }
-        10 => Ok((Effect::NewNull, rest)),
-        11 => {
+        tag::NEW_NULL => Ok((Effect::NewNull, rest)),
+        tag::END_NULL => {
             let (activity, rest) = read_ref(rest)?;
             Ok((Effect::EndNull { activity }, rest))
         }
-        12 => {
+        tag::SET_TIMER => {
             let ((activity, (start, (period, (times, keep)))), rest) = read_timer(rest)?;
             Ok((set_timer(activity, start, period, times, keep), rest))
         }
-        13 => {
+        tag::CANCEL_TIMER => {
             let (timer, rest) = read_ref(rest)?;
             Ok((Effect::CancelTimer { timer }, rest))
         }
-        14 => {
+        tag::BIND => {
             let ((name, activity), rest) = read_binding(alloc, rest)?;
             Ok((Effect::Bind { name, activity }, rest))
         }
-        15 => {
+        tag::UNBIND => {
             let (name, rest) = read_text(alloc, rest)?;
             Ok((Effect::Unbind { name }, rest))
         }
-        16 => {
+        tag::EMIT => {
             let ((entity, text), rest) = read_named(alloc, rest)?;
             Ok((Effect::Emit { entity, text }, rest))
         }
-        17 => {
+        tag::USAGE => {
             let ((entity, (name, amount)), rest) = read_usage(alloc, rest)?;
             Ok((usage(entity, name, amount), rest))
+        }
+        tag::SUSPEND => {
+            let ((activity, until), rest) = read_suspension(rest)?;
+            Ok((Effect::Suspend { activity, until }, rest))
+        }
+        tag::RESUME => {
+            let (activity, rest) = read_ref(rest)?;
+            Ok((Effect::Resume { activity }, rest))
         }
         _ => Err(PartFault::Bad {
             left: rest.len() + 1,

@@ -69,6 +69,8 @@ fn resolve_one(effect: &mut Effect, next: Next)
         Effect::Unbind { .. } => {}
         Effect::Emit { entity, .. } => resolve_ref(entity, next.entity),
         Effect::Usage { entity, .. } => resolve_ref(entity, next.entity),
+        Effect::Suspend { activity, .. } => resolve_ref(activity, next.activity),
+        Effect::Resume { activity } => resolve_ref(activity, next.activity),
     }
 }
 

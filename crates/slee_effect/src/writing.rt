@@ -2,7 +2,7 @@ ghost use Rattle.std.specs.Prelude.{◌≡◌, ◌++◌, ◌∷◌, OnOk, OnErr,
 ghost use Rattle.slee_value.specs.Bytes.{spelled_text, spelled_flag, spelled_u32, spelled_u64};
 ghost use Rattle.slee_effect.specs.Bytes.{spelled_i8, spelled_option, spelled_keep, spelled_ref, spelled_val, spelled_fields, spelled_effect, spelling_of_effects, IsShortText, IsShortOption, IsShortVal, AreShortFields, IsShortEffect, AreShort};
 
-use crate::{Effect, Ref, Val};
+use crate::{Effect, Ref, Val, tag};
 use slee_value::{Keep, NoMemory, Text, write_text, write_value};
 use std::alloc::Global;
 
@@ -39,34 +39,34 @@ fn put_effect(effect: &Effect, into: &mut Vec<u8>) -> Result<(), NoMemory>
             entity,
             name,
             value,
-        } => put_setting(1, *entity, name, value, into),
+        } => put_setting(tag::SET_FIELD, *entity, name, value, into),
         Effect::SetAttr {
             activity,
             key,
             value,
-        } => put_setting(2, *activity, key, value, into),
+        } => put_setting(tag::SET_ATTR, *activity, key, value, into),
         Effect::Create {
             parent,
             relation,
             priority,
         } => {
-            put_named(3, *parent, relation, into)?;
+            put_named(tag::CREATE, *parent, relation, into)?;
             put_i8(*priority, into)
         }
-        Effect::Remove { entity } => put_one(4, *entity, into),
+        Effect::Remove { entity } => put_one(tag::REMOVE, *entity, into),
         Effect::SetPriority { entity, priority } => {
-            put_one(5, *entity, into)?;
+            put_one(tag::SET_PRIORITY, *entity, into)?;
             put_i8(*priority, into)
         }
-        Effect::Attach { entity, activity } => put_two(6, *entity, *activity, into),
-        Effect::Detach { entity, activity } => put_two(7, *entity, *activity, into),
+        Effect::Attach { entity, activity } => put_two(tag::ATTACH, *entity, *activity, into),
+        Effect::Detach { entity, activity } => put_two(tag::DETACH, *entity, *activity, into),
         Effect::SetMask {
             entity,
             activity,
             event,
             on,
         } => {
-            put_two(8, *entity, *activity, into)?;
+            put_two(tag::SET_MASK, *entity, *activity, into)?;
             write_text(event, into)?;
             put_flag(*on, into)
         }
@@ -76,12 +76,12 @@ fn put_effect(effect: &Effect, into: &mut Vec<u8>) -> Result<(), NoMemory>
             service,
             fields,
         } => {
-            put_named(9, *activity, event, into)?;
+            put_named(tag::FIRE, *activity, event, into)?;
             put_option(service, into)?;
             put_fields(fields.as_slice(), into)
         }
-        Effect::NewNull => Ok(into.push(10)?),
-        Effect::EndNull { activity } => put_one(11, *activity, into),
+        Effect::NewNull => Ok(into.push(tag::NEW_NULL)?),
+        Effect::EndNull { activity } => put_one(tag::END_NULL, *activity, into),
         Effect::SetTimer {
             activity,
             start,
@@ -89,26 +89,31 @@ fn put_effect(effect: &Effect, into: &mut Vec<u8>) -> Result<(), NoMemory>
             times,
             keep,
         } => {
-            put_one(12, *activity, into)?;
+            put_one(tag::SET_TIMER, *activity, into)?;
             put_moments(*start, *period, *times, into)?;
             put_keep(*keep, into)
         }
-        Effect::CancelTimer { timer } => put_one(13, *timer, into),
+        Effect::CancelTimer { timer } => put_one(tag::CANCEL_TIMER, *timer, into),
         Effect::Bind { name, activity } => {
-            into.push(14)?;
+            into.push(tag::BIND)?;
             write_text(name, into)?;
             put_ref(*activity, into)
         }
         Effect::Unbind { name } => {
-            into.push(15)?;
+            into.push(tag::UNBIND)?;
             write_text(name, into)
         }
-        Effect::Emit { entity, text } => put_named(16, *entity, text, into),
+        Effect::Emit { entity, text } => put_named(tag::EMIT, *entity, text, into),
         Effect::Usage {
             entity,
             name,
             amount,
-        } => { put_counted(17, *entity, name, amount.cast_unsigned(), into) }
+        } => { put_counted(tag::USAGE, *entity, name, amount.cast_unsigned(), into) }
+        Effect::Suspend { activity, until } => {
+            put_one(tag::SUSPEND, *activity, into)?;
+            put_u64(*until, into)
+        }
+        Effect::Resume { activity } => put_one(tag::RESUME, *activity, into),
     }
 }
 

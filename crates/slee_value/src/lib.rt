@@ -29,7 +29,7 @@ pub use keep::Keep;
 pub use kind::Kind;
 pub use laws::{texts_have_one_spelling, values_have_one_spelling};
 pub use memory::NoMemory;
-pub use name::{NAME_LIMIT, Name};
+pub use name::{INLINE_NAME, NAME_LIMIT, Name};
 pub use names::Names;
 pub use payload::Payload;
 pub use reading::{read_flag, read_part, read_text, read_u32, read_u64, read_value};

@@ -1,6 +1,6 @@
-use Rattle.std.proofs.Common.{sym, ◌∙◌, IsTrue}
+use Rattle.std.proofs.Common.{◌∙◌}
 use Rattle.slee_disk.proofs.Moments.{reached_look, tells, on_ok, clean_told, clean_only}
-use Rattle.commit_journal.proofs.Opening.{seen_staged, seen_opened, gate_written, images_staged, gate_opening, clean_again}
+use Rattle.commit_journal.proofs.Opening.{seen_staged, seen_opened, gate_written, images_staged, gate_opening}
 use Rattle.commit_journal.proofs.gate.open_gate.Goals as goal
 
 pub returns-in_err-write_at-clause-any_moment : goal.returns-in_err-write_at-clause-any_moment
@@ -52,13 +52,10 @@ returns-clause-opened g c told =
     let opened = seen_opened c.args.side c.args.at c.args.bytes.now old ends _ _ _ _ staged (c.in_ok-write_at-2.ensures.written told-2) c.sync-2.ensures.looks in
     on_ok c.sync-2.result _ _ (c.sync-2.ensures.settled.here told-3) (λ _. opened)
 
-pub returns-clause-rest : goal.returns-clause-rest
-returns-clause-rest g c clean =
-    let old = g.D.Disk.disk c.args.disk.now in
-    let told = clean_told old clean in
-    let told-1 = tells _ _ c.write_at.ensures.changes.passes.told told in
-    let told-2 = tells _ _ c.sync.ensures.looks.passes.told told-1 in
-    let told-3 = tells _ _ c.write_at-2.ensures.changes.passes.told told-2 in
-    let same = c.sync-2.ensures.looks.passes.told ∙ c.write_at-2.ensures.changes.passes.told ∙ c.sync.ensures.looks.passes.told ∙ c.write_at.ensures.changes.passes.told in
-    let there = c.sync-2.ensures.settled.there ∙ c.write_at-2.ensures.changes.settled_there ∙ c.sync.ensures.settled.there ∙ c.write_at.ensures.changes.settled_there in
-    on_ok c.sync-2.result _ _ (c.sync-2.ensures.settled.here told-3) (λ here. clean_again c.args.side old (g.D.Disk.disk c.sync-2.new.self) clean same here there)
+pub returns-clause-settled : goal.returns-clause-settled
+returns-clause-settled g c =
+    let until = c.write_at-2.ensures.changes.passes.told ∙ c.sync.ensures.looks.passes.told ∙ c.write_at.ensures.changes.passes.told in
+    record {
+      here = λ told. c.sync-2.ensures.settled.here (tells _ _ until told);
+      there = c.sync-2.ensures.settled.there ∙ c.write_at-2.ensures.changes.settled_there ∙ c.sync.ensures.settled.there ∙ c.write_at.ensures.changes.settled_there;
+    }

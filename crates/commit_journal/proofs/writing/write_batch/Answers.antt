@@ -4,6 +4,7 @@ use Rattle.slee_disk.specs.Sides.{Sides, on, other}
 use Rattle.slee_disk.proofs.Moments.{leaves_what, on_ok, clean_told}
 use Rattle.commit_journal.specs.Gate.{IsShutOrOpen, IsOpened}
 use Rattle.commit_journal.specs.Kept.{KeepsOrMore}
+use Rattle.commit_journal.proofs.Opening.{clean_again}
 use Rattle.commit_journal.proofs.Writes.{keeps_either, stands_more, opened_here}
 use Rattle.commit_journal.proofs.writing.write_batch.Goals as goal
 
@@ -35,3 +36,9 @@ returns-clause-written g c kept same told stands =
 
 pub returns-clause-beside : goal.returns-clause-beside
 returns-clause-beside g c told = on_ok c.open_gate.result _ _ (c.open_gate.ensures.opened told) (λ opened. opened.elsewhere)
+
+pub returns-clause-rest : goal.returns-clause-rest
+returns-clause-rest g c clean =
+    let old = g.D.Disk.disk c.args.disk.now in
+    let settled = c.open_gate.ensures.settled in
+    on_ok c.open_gate.result _ _ (settled.here (clean_told old clean)) (λ here. clean_again c.args.side old (g.D.Disk.disk c.open_gate.new.disk) clean c.open_gate.ensures.told here settled.there)

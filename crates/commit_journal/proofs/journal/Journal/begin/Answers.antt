@@ -53,8 +53,8 @@ returns-in-Ok-clause-acknowledged g c =
     let new = g.D.Disk.disk c.cut_behind.new.disk in
     let kept = kept_by c.self.inside.side c.self.inside.generation c.self.inside.deployment c.self.inside.snapshot old in
     let running = runs _ _ (ap (λ v. v.stage) c.self.view_is) c.requires in
-    rw (← c.self.view_is) (λ clean. clean_images new _ (c.in-Ok.ensures.rest clean) (keeps_on kept c.self.inside.end new
-    (c.in-Ok.ensures.ready kept refl (clean_told old clean) (found_in _ _ _ _ _ _ c.self.invariant running c.in_default.not-Blank (clean_told old clean)))))
+    rw (← c.self.view_is) (λ told. clean_images new _ (c.in-Ok.ensures.rest told) (keeps_on kept c.self.inside.end new
+    (c.in-Ok.ensures.ready kept refl told (found_in _ _ _ _ _ _ c.self.invariant running c.in_default.not-Blank told))))
 
 pub returns-in-Ok-clause-any_moment : goal.returns-in-Ok-clause-any_moment
 returns-in-Ok-clause-any_moment g c =
@@ -79,12 +79,6 @@ returns-in-Ok-clause-beside g c = rw (← c.self.view_is) (λ told. (c.in-Ok.ens
 
 -- ---- the first side is begun
 
-pub returns-then-size-self-clause-any_moment : goal.returns-then-size-self-clause-any_moment
-returns-then-size-self-clause-any_moment g c =
-    let disk = g.D.Disk.disk c.self.inside.disk in
-    let running = runs _ _ (ap (λ v. v.stage) c.self.view_is) c.requires in
-    rw (← c.self.view_is) (λ clean. idle_leaves disk _ clean (inl (sound_seen _ _ _ _ _ _ c.self.invariant running (clean_told disk clean))))
-
 pub returns-in_err-bytes-clause-any_moment : goal.returns-in_err-bytes-clause-any_moment
 returns-in_err-bytes-clause-any_moment g c =
     let disk = g.D.Disk.disk c.self.inside.disk in
@@ -98,9 +92,9 @@ invariant_of-self-in-Ok-write_side g c =
     let sound = subst (λ (s : Stage). IsSound s kept c.self.inside.end c.self.inside.batch c.self.inside.limit old) c.in-Blank.is c.self.invariant in
     let length_is = ap length c.as_slice-deployment.ensures in
     let none_is = ap length (sound.first refl) in
-    let fits : size kept.head [] ≤ c.self.inside.limit = omega (arith, length_is, none_is, c.if-size-self.false) in
+    let fits : size kept.head [] ≤ c.self.inside.limit = omega (arith, length_is, none_is, c.in_ok-bytes.ensures.fits) in
     let is : c.deref.result.now ≡ header (record { generation = c.self.inside.generation; deployment = c.self.inside.deployment; snapshot = [] }) ++ 0 ∷ [] =
-    c.deref.ensures.value ∙ c.in_ok-bytes.ensures ∙ ap (λ (l : List ℕ). header (record { generation = c.self.inside.generation; deployment = l; snapshot = [] }) ++ 0 ∷ []) c.as_slice-deployment.ensures in
+    c.deref.ensures.value ∙ c.in_ok-bytes.ensures.bytes ∙ ap (λ (l : List ℕ). header (record { generation = c.self.inside.generation; deployment = l; snapshot = [] }) ++ 0 ∷ []) c.as_slice-deployment.ensures in
     begun_sound kept _ _ _ old sound fits (omega arith) c.deref.result.now is (g.D.Disk.disk c.write_side.new.disk) c.len.result (c.len.ensures ∙ c.in_ok-bytes.bytes.ok.0 ∙ sym (ap length c.deref.ensures.value)) c.write_side.ensures.told
     c.in-Ok-write_side.ensures.opened
 
@@ -111,9 +105,9 @@ returns-in-Ok-write_side-clause-ok g c =
     let sound = subst (λ (s : Stage). IsSound s kept c.self.inside.end c.self.inside.batch c.self.inside.limit old) c.in-Blank.is c.self.invariant in
     let length_is = ap length c.as_slice-deployment.ensures in
     let none_is = ap length (sound.first refl) in
-    let fits : size kept.head [] ≤ c.self.inside.limit = omega (arith, length_is, none_is, c.if-size-self.false) in
+    let fits : size kept.head [] ≤ c.self.inside.limit = omega (arith, length_is, none_is, c.in_ok-bytes.ensures.fits) in
     let is : c.deref.result.now ≡ header (record { generation = c.self.inside.generation; deployment = c.self.inside.deployment; snapshot = [] }) ++ 0 ∷ [] =
-    c.deref.ensures.value ∙ c.in_ok-bytes.ensures ∙ ap (λ (l : List ℕ). header (record { generation = c.self.inside.generation; deployment = l; snapshot = [] }) ++ 0 ∷ []) c.as_slice-deployment.ensures in
+    c.deref.ensures.value ∙ c.in_ok-bytes.ensures.bytes ∙ ap (λ (l : List ℕ). header (record { generation = c.self.inside.generation; deployment = l; snapshot = [] }) ++ 0 ∷ []) c.as_slice-deployment.ensures in
     let new = g.D.Disk.disk c.write_side.new.disk in
     rw (← c.self.view_is) (λ told. same_kept _ kept _ _ _ _
     (same_payloads _ (length c.deref.result.now) new (begun_stands kept _ _ _ old sound fits (omega arith) c.deref.result.now is new.seen told (c.in-Ok-write_side.ensures.opened told)) ∙ sym (blank_payloads kept _ _ _ old sound told)))
@@ -125,9 +119,9 @@ returns-in-Ok-write_side-clause-seen g c =
     let sound = subst (λ (s : Stage). IsSound s kept c.self.inside.end c.self.inside.batch c.self.inside.limit old) c.in-Blank.is c.self.invariant in
     let length_is = ap length c.as_slice-deployment.ensures in
     let none_is = ap length (sound.first refl) in
-    let fits : size kept.head [] ≤ c.self.inside.limit = omega (arith, length_is, none_is, c.if-size-self.false) in
+    let fits : size kept.head [] ≤ c.self.inside.limit = omega (arith, length_is, none_is, c.in_ok-bytes.ensures.fits) in
     let is : c.deref.result.now ≡ header (record { generation = c.self.inside.generation; deployment = c.self.inside.deployment; snapshot = [] }) ++ 0 ∷ [] =
-    c.deref.ensures.value ∙ c.in_ok-bytes.ensures ∙ ap (λ (l : List ℕ). header (record { generation = c.self.inside.generation; deployment = l; snapshot = [] }) ++ 0 ∷ []) c.as_slice-deployment.ensures in
+    c.deref.ensures.value ∙ c.in_ok-bytes.ensures.bytes ∙ ap (λ (l : List ℕ). header (record { generation = c.self.inside.generation; deployment = l; snapshot = [] }) ++ 0 ∷ []) c.as_slice-deployment.ensures in
     let new = g.D.Disk.disk c.write_side.new.disk in
     rw (← c.self.view_is) (λ told. keeps_on _ (length c.deref.result.now) new (begun_stands kept _ _ _ old sound fits (omega arith) c.deref.result.now is new.seen told (c.in-Ok-write_side.ensures.opened told)))
 
@@ -138,9 +132,9 @@ returns-in-Ok-write_side-clause-whole g c =
     let sound = subst (λ (s : Stage). IsSound s kept c.self.inside.end c.self.inside.batch c.self.inside.limit old) c.in-Blank.is c.self.invariant in
     let length_is = ap length c.as_slice-deployment.ensures in
     let none_is = ap length (sound.first refl) in
-    let fits : size kept.head [] ≤ c.self.inside.limit = omega (arith, length_is, none_is, c.if-size-self.false) in
+    let fits : size kept.head [] ≤ c.self.inside.limit = omega (arith, length_is, none_is, c.in_ok-bytes.ensures.fits) in
     let is : c.deref.result.now ≡ header (record { generation = c.self.inside.generation; deployment = c.self.inside.deployment; snapshot = [] }) ++ 0 ∷ [] =
-    c.deref.ensures.value ∙ c.in_ok-bytes.ensures ∙ ap (λ (l : List ℕ). header (record { generation = c.self.inside.generation; deployment = l; snapshot = [] }) ++ 0 ∷ []) c.as_slice-deployment.ensures in
+    c.deref.ensures.value ∙ c.in_ok-bytes.ensures.bytes ∙ ap (λ (l : List ℕ). header (record { generation = c.self.inside.generation; deployment = l; snapshot = [] }) ++ 0 ∷ []) c.as_slice-deployment.ensures in
     let new = g.D.Disk.disk c.write_side.new.disk in
     rw (← c.self.view_is) (λ told. whole_on _ (length c.deref.result.now) new (begun_stands kept _ _ _ old sound fits (omega arith) c.deref.result.now is new.seen told (c.in-Ok-write_side.ensures.opened told)))
 
@@ -151,12 +145,12 @@ returns-in-Ok-write_side-clause-acknowledged g c =
     let sound = subst (λ (s : Stage). IsSound s kept c.self.inside.end c.self.inside.batch c.self.inside.limit old) c.in-Blank.is c.self.invariant in
     let length_is = ap length c.as_slice-deployment.ensures in
     let none_is = ap length (sound.first refl) in
-    let fits : size kept.head [] ≤ c.self.inside.limit = omega (arith, length_is, none_is, c.if-size-self.false) in
+    let fits : size kept.head [] ≤ c.self.inside.limit = omega (arith, length_is, none_is, c.in_ok-bytes.ensures.fits) in
     let is : c.deref.result.now ≡ header (record { generation = c.self.inside.generation; deployment = c.self.inside.deployment; snapshot = [] }) ++ 0 ∷ [] =
-    c.deref.ensures.value ∙ c.in_ok-bytes.ensures ∙ ap (λ (l : List ℕ). header (record { generation = c.self.inside.generation; deployment = l; snapshot = [] }) ++ 0 ∷ []) c.as_slice-deployment.ensures in
+    c.deref.ensures.value ∙ c.in_ok-bytes.ensures.bytes ∙ ap (λ (l : List ℕ). header (record { generation = c.self.inside.generation; deployment = l; snapshot = [] }) ++ 0 ∷ []) c.as_slice-deployment.ensures in
     let new = g.D.Disk.disk c.write_side.new.disk in
-    rw (← c.self.view_is) (λ clean. clean_images new _ (c.in-Ok-write_side.ensures.rest clean)
-    (keeps_on _ (length c.deref.result.now) new (begun_stands kept _ _ _ old sound fits (omega arith) c.deref.result.now is new.seen (clean_told old clean) (c.in-Ok-write_side.ensures.opened (clean_told old clean)))))
+    rw (← c.self.view_is) (λ told. clean_images new _ (c.in-Ok-write_side.ensures.rest told)
+    (keeps_on _ (length c.deref.result.now) new (begun_stands kept _ _ _ old sound fits (omega arith) c.deref.result.now is new.seen told (c.in-Ok-write_side.ensures.opened told))))
 
 pub returns-in-Ok-write_side-clause-any_moment : goal.returns-in-Ok-write_side-clause-any_moment
 returns-in-Ok-write_side-clause-any_moment g c =
@@ -165,9 +159,9 @@ returns-in-Ok-write_side-clause-any_moment g c =
     let sound = subst (λ (s : Stage). IsSound s kept c.self.inside.end c.self.inside.batch c.self.inside.limit old) c.in-Blank.is c.self.invariant in
     let length_is = ap length c.as_slice-deployment.ensures in
     let none_is = ap length (sound.first refl) in
-    let fits : size kept.head [] ≤ c.self.inside.limit = omega (arith, length_is, none_is, c.if-size-self.false) in
+    let fits : size kept.head [] ≤ c.self.inside.limit = omega (arith, length_is, none_is, c.in_ok-bytes.ensures.fits) in
     let is : c.deref.result.now ≡ header (record { generation = c.self.inside.generation; deployment = c.self.inside.deployment; snapshot = [] }) ++ 0 ∷ [] =
-    c.deref.ensures.value ∙ c.in_ok-bytes.ensures ∙ ap (λ (l : List ℕ). header (record { generation = c.self.inside.generation; deployment = l; snapshot = [] }) ++ 0 ∷ []) c.as_slice-deployment.ensures in
+    c.deref.ensures.value ∙ c.in_ok-bytes.ensures.bytes ∙ ap (λ (l : List ℕ). header (record { generation = c.self.inside.generation; deployment = l; snapshot = [] }) ++ 0 ∷ []) c.as_slice-deployment.ensures in
     rw (← c.self.view_is) (λ clean. leaves_what _ _ _ (StandsOrBegun c.self.inside.stage kept) (c.write_side.ensures.any_moment clean) (λ image is_image.
     subst (λ (s : Stage). StandsOrBegun s kept image) (sym c.in-Blank.is) (begun_image kept _ _ _ old sound fits (omega arith) c.deref.result.now is (clean_told old clean) (blank_payloads kept _ _ _ old sound (clean_told old clean)) image is_image)))
 
@@ -178,9 +172,9 @@ returns-clause-any_moment g c =
     let sound = subst (λ (s : Stage). IsSound s kept c.self.inside.end c.self.inside.batch c.self.inside.limit old) c.in-Blank.is c.self.invariant in
     let length_is = ap length c.as_slice-deployment.ensures in
     let none_is = ap length (sound.first refl) in
-    let fits : size kept.head [] ≤ c.self.inside.limit = omega (arith, length_is, none_is, c.if-size-self.false) in
+    let fits : size kept.head [] ≤ c.self.inside.limit = omega (arith, length_is, none_is, c.in_ok-bytes.ensures.fits) in
     let is : c.deref.result.now ≡ header (record { generation = c.self.inside.generation; deployment = c.self.inside.deployment; snapshot = [] }) ++ 0 ∷ [] =
-    c.deref.ensures.value ∙ c.in_ok-bytes.ensures ∙ ap (λ (l : List ℕ). header (record { generation = c.self.inside.generation; deployment = l; snapshot = [] }) ++ 0 ∷ []) c.as_slice-deployment.ensures in
+    c.deref.ensures.value ∙ c.in_ok-bytes.ensures.bytes ∙ ap (λ (l : List ℕ). header (record { generation = c.self.inside.generation; deployment = l; snapshot = [] }) ++ 0 ∷ []) c.as_slice-deployment.ensures in
     rw (← c.self.view_is) (λ clean. leaves_what _ _ _ (StandsOrBegun c.self.inside.stage kept) (c.write_side.ensures.any_moment clean) (λ image is_image.
     subst (λ (s : Stage). StandsOrBegun s kept image) (sym c.in-Blank.is) (begun_image kept _ _ _ old sound fits (omega arith) c.deref.result.now is (clean_told old clean) (blank_payloads kept _ _ _ old sound (clean_told old clean)) image is_image)))
 
@@ -191,9 +185,9 @@ returns-in-Ok-write_side-clause-written g c =
     let sound = subst (λ (s : Stage). IsSound s kept c.self.inside.end c.self.inside.batch c.self.inside.limit old) c.in-Blank.is c.self.invariant in
     let length_is = ap length c.as_slice-deployment.ensures in
     let none_is = ap length (sound.first refl) in
-    let fits : size kept.head [] ≤ c.self.inside.limit = omega (arith, length_is, none_is, c.if-size-self.false) in
+    let fits : size kept.head [] ≤ c.self.inside.limit = omega (arith, length_is, none_is, c.in_ok-bytes.ensures.fits) in
     let is : c.deref.result.now ≡ header (record { generation = c.self.inside.generation; deployment = c.self.inside.deployment; snapshot = [] }) ++ 0 ∷ [] =
-    c.deref.ensures.value ∙ c.in_ok-bytes.ensures ∙ ap (λ (l : List ℕ). header (record { generation = c.self.inside.generation; deployment = l; snapshot = [] }) ++ 0 ∷ []) c.as_slice-deployment.ensures in
+    c.deref.ensures.value ∙ c.in_ok-bytes.ensures.bytes ∙ ap (λ (l : List ℕ). header (record { generation = c.self.inside.generation; deployment = l; snapshot = [] }) ++ 0 ∷ []) c.as_slice-deployment.ensures in
     let new = g.D.Disk.disk c.write_side.new.disk in
     rw (← c.self.view_is) (λ told _.
     let opened = c.in-Ok-write_side.ensures.opened told in

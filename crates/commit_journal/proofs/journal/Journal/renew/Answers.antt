@@ -6,56 +6,50 @@ use Rattle.commit_journal.specs.declared.stage.Stage.TheVariants.{Ready}
 use Rattle.commit_journal.specs.Kept.{StandsOrRenewed, with_more, side_renewed}
 use Rattle.commit_journal.specs.Written.{IsWritten, IsUntouched}
 use Rattle.commit_journal.specs.Journal.{View}
-use Rattle.commit_journal.proofs.Sound.{runs, sound_seen, ready_if}
-use Rattle.commit_journal.proofs.Begins.{idle_leaves}
-use Rattle.commit_journal.proofs.Renewals.{moved, renewed_idle, renewed_flushed}
+use Rattle.commit_journal.proofs.Sound.{runs, sound_seen, ready_if, nothing_done}
+use Rattle.commit_journal.proofs.Renewals.{moved, renewed_idle}
 use Rattle.commit_journal.proofs.Bytes.{beside_ready}
 use Rattle.commit_journal.proofs.journal.Journal.renew.Goals as goal
-
-pub returns-then-size-self-clause-any_moment : goal.returns-then-size-self-clause-any_moment
-returns-then-size-self-clause-any_moment g c =
-    let disk = g.D.Disk.disk c.self.inside.disk in
-    let running = runs _ _ (ap (λ v. v.stage) c.self.view_is) c.requires in
-    rw (← c.self.view_is) (λ clean. idle_leaves disk _ clean (inl (sound_seen _ _ _ _ _ _ c.self.invariant running (clean_told disk clean))))
-
-pub returns-then-size-self-clause-flushed : goal.returns-then-size-self-clause-flushed
-returns-then-size-self-clause-flushed g c =
-    let disk = g.D.Disk.disk c.self.inside.disk in
-    let running = runs _ _ (ap (λ v. v.stage) c.self.view_is) c.requires in
-    rw (← c.self.view_is) (λ clean none. renewed_idle _ _ _ _ disk clean (sound_seen _ _ _ _ _ _ c.self.invariant running (clean_told disk clean)) none)
-
-pub returns-in_err-bytes-clause-any_moment : goal.returns-in_err-bytes-clause-any_moment
-returns-in_err-bytes-clause-any_moment g c =
-    let disk = g.D.Disk.disk c.self.inside.disk in
-    let running = runs _ _ (ap (λ v. v.stage) c.self.view_is) c.requires in
-    rw (← c.self.view_is) (λ clean. idle_leaves disk _ clean (inl (sound_seen _ _ _ _ _ _ c.self.invariant running (clean_told disk clean))))
 
 pub returns-in_err-bytes-clause-flushed : goal.returns-in_err-bytes-clause-flushed
 returns-in_err-bytes-clause-flushed g c =
     let disk = g.D.Disk.disk c.self.inside.disk in
     let running = runs _ _ (ap (λ v. v.stage) c.self.view_is) c.requires in
-    rw (← c.self.view_is) (λ clean none. renewed_idle _ _ _ _ disk clean (sound_seen _ _ _ _ _ _ c.self.invariant running (clean_told disk clean)) none)
+    rw (← c.self.view_is) (λ clean none. renewed_idle g.D.Disk.disk _ _ _ _ c.self.inside.disk clean (sound_seen _ _ _ _ _ _ c.self.invariant running (clean_told disk clean)) none)
 
-pub returns-in_err-kept-clause-any_moment : goal.returns-in_err-kept-clause-any_moment
-returns-in_err-kept-clause-any_moment g c =
+pub returns-in_err-bytes-clause-unflushed : goal.returns-in_err-bytes-clause-unflushed
+returns-in_err-bytes-clause-unflushed g c =
     let disk = g.D.Disk.disk c.self.inside.disk in
     let running = runs _ _ (ap (λ v. v.stage) c.self.view_is) c.requires in
-    rw (← c.self.view_is) (λ clean. idle_leaves disk _ clean (inl (sound_seen _ _ _ _ _ _ c.self.invariant running (clean_told disk clean))))
+    rw (← c.self.view_is) (λ clean some. nothing_done _ _ _ disk clean (sound_seen _ _ _ _ _ _ c.self.invariant running (clean_told disk clean)))
 
 pub returns-in_err-kept-clause-flushed : goal.returns-in_err-kept-clause-flushed
 returns-in_err-kept-clause-flushed g c =
     let disk = g.D.Disk.disk c.self.inside.disk in
     let running = runs _ _ (ap (λ v. v.stage) c.self.view_is) c.requires in
-    rw (← c.self.view_is) (λ clean none. renewed_idle _ _ _ _ disk clean (sound_seen _ _ _ _ _ _ c.self.invariant running (clean_told disk clean)) none)
+    rw (← c.self.view_is) (λ clean none. renewed_idle g.D.Disk.disk _ _ _ _ c.self.inside.disk clean (sound_seen _ _ _ _ _ _ c.self.invariant running (clean_told disk clean)) none)
+
+pub returns-in_err-kept-clause-unflushed : goal.returns-in_err-kept-clause-unflushed
+returns-in_err-kept-clause-unflushed g c =
+    let disk = g.D.Disk.disk c.self.inside.disk in
+    let running = runs _ _ (ap (λ v. v.stage) c.self.view_is) c.requires in
+    rw (← c.self.view_is) (λ clean some. nothing_done _ _ _ disk clean (sound_seen _ _ _ _ _ _ c.self.invariant running (clean_told disk clean)))
 
 pub returns-clause-flushed : goal.returns-clause-flushed
 returns-clause-flushed g c clean none =
     let first = g.D.Disk.disk c.args.self.now.disk in
     let mid = g.D.Disk.disk c.flush.new.self.disk in
     let last = g.D.Disk.disk c.switch.new.self.disk in
-    renewed_flushed _ _ _ _ first mid last (c.flush.ensures.any_moment clean).later (λ idle. ap (λ v. (g.D.Disk.disk v.disk).moment) (c.flush.ensures.idle idle))
-    (subst (λ v. LeavesOnly mid last (StandsOrRenewed v.stage v.kept c.args.snapshot.now)) (c.in_ok-flush.ensures.ok (clean_told first clean))
-    (subst (λ (l : List ℕ). LeavesOnly mid last (StandsOrRenewed c.flush.new.self.stage c.flush.new.self.kept l)) c.in_ok-kept.ensures (c.switch.ensures.any_moment (c.in_ok-flush.ensures.rest clean))))
+    record {
+      flushed = c.flush.new.self.disk;
+      first = c.flush.ensures.any_moment clean;
+      second = subst (λ v. LeavesOnly mid last (StandsOrRenewed v.stage v.kept c.args.snapshot.now)) (c.in_ok-flush.ensures.ok (clean_told first clean))
+          (subst (λ (l : List ℕ). LeavesOnly mid last (StandsOrRenewed c.flush.new.self.stage c.flush.new.self.kept l)) c.in_ok-kept.ensures (c.switch.ensures.any_moment (c.in_ok-flush.ensures.rest clean)));
+      at_once = λ idle. ap (λ v. v.disk) (c.flush.ensures.idle idle);
+    }
+
+pub returns-clause-unflushed : goal.returns-clause-unflushed
+returns-clause-unflushed g c clean some = absurd (some (c.switch.ensures.others.0 ∙ c.in_ok-flush.ensures.empty))
 
 pub returns-clause-beside : goal.returns-clause-beside
 returns-clause-beside g c told none =

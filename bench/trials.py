@@ -1,0 +1,128 @@
+#!/usr/bin/env python3
+"""Tries the wrong bodies in trials/, those that the gate doesn't try: the prover has to refuse each.
+
+    python3 bench/trials.py                    every crate's, in a new clone of what is committed
+    python3 bench/trials.py slee_run           those of these crates
+    python3 bench/trials.py --gate             those that the gate tries too, from crates/*/must-fail
+    python3 bench/trials.py --folder DIR       in DIR, a clone that is there and may have kept work
+    python3 bench/trials.py --jobs 2           so many crates at a time; as many as there are processors where nothing is said
+
+A line for each: `refused`; `PROVED` where the contract lets the wrong body through; `BROKEN` where it couldn't be tried, since
+its text doesn't stand in the code any more or doesn't compile. It ends with status 0 where all were refused. What the crates
+below a crate have kept in out/ of this repository is used, and else they are proved first; then each wrong body takes half a
+minute or so, and the first of a crate the time of its proof.
+"""
+import argparse
+import glob
+import os
+import re
+import shutil
+import subprocess
+import sys
+import tempfile
+from concurrent.futures import ThreadPoolExecutor, as_completed
+
+TOP = os.path.dirname(os.path.dirname(os.path.abspath(__file__)))
+LINE = re.compile(r"^rt: must-fail (\w+)/(\S+)\.edit: (refused|NOT REFUSED|BAD EDIT)(.*)")
+VERDICTS = {"refused": "refused", "NOT REFUSED": "PROVED", "BAD EDIT": "BROKEN"}
+
+
+def crates_of(folder):
+    """The crates by crates.txt, each with those of this repository that it stands on."""
+    found = {}
+    with open(os.path.join(folder, "crates.txt"), encoding="utf-8") as f:
+        for line in f:
+            name, colon, below = line.split("#")[0].partition(":")
+            if colon:
+                found[name.split()[0]] = below.split()
+    return {name: [it for it in below if it in found] for name, below in found.items()}
+
+
+def below(crates, name):
+    """The crates below this one, each behind those that it stands on."""
+    found = []
+    for one in crates[name]:
+        found += [it for it in [*below(crates, one), one] if it not in found]
+    return found
+
+
+def edits_of(folder):
+    return sorted(glob.glob(os.path.join(folder, "*.edit")))
+
+
+def prepare(folder, crate, with_gate):
+    """Puts the crate's trials where `rt must-fail` looks for them, in place of the gate's wrong bodies or beside them."""
+    place = os.path.join(folder, "crates", crate, "must-fail")
+    os.makedirs(place, exist_ok=True)
+    for edit in [] if with_gate else edits_of(place):
+        os.remove(edit)
+    for edit in edits_of(os.path.join(folder, "trials", crate)):
+        shutil.copy(edit, place)
+
+
+def take_kept(folder, crate):
+    """Takes over what the crate has kept in this repository, where it is a library that was built here."""
+    kept, to = (os.path.join(it, "crates", crate, "out", "rlib") for it in (TOP, folder))
+    if os.path.exists(os.path.join(kept, "stamp")) and not os.path.exists(to):
+        shutil.copytree(kept, to)
+
+
+def build(folder, crate):
+    ran = subprocess.run(["rt", "lib"], cwd=os.path.join(folder, "crates", crate), capture_output=True, text=True, errors="replace", check=False)
+    if ran.returncode:
+        sys.exit(f"{crate}, on which others stand, isn't proved:\n{ran.stdout[-2000:]}{ran.stderr[-2000:]}")
+
+
+def tried(folder, crate):
+    """Returns each wrong body's name with its verdict and what the prover said first."""
+    ran = subprocess.run(["rt", "must-fail", crate], cwd=folder, capture_output=True, text=True, errors="replace", check=False)
+    said = [found.groups() for found in map(LINE.match, ran.stdout.split("\n")) if found]
+    answers = {name: (VERDICTS[word], more.lstrip(":, ")) for of, name, word, more in said if of == crate}
+    for edit in edits_of(os.path.join(folder, "crates", crate, "must-fail")):
+        name = os.path.basename(edit)[: -len(".edit")]
+        answers.setdefault(name, ("BROKEN", f"nothing was said of it: {(ran.stdout + ran.stderr)[-300:]}"))
+    return answers
+
+
+def play(folder, given):
+    crates = crates_of(folder)
+    trials = [it for it in crates if edits_of(os.path.join(folder, "trials", it)) or (given.gate and edits_of(os.path.join(folder, "crates", it, "must-fail")))]
+    unknown = [it for it in given.crates if it not in trials]
+    if unknown:
+        sys.exit(f"no trials for {', '.join(unknown)}")
+    chosen = [it for it in trials if not given.crates or it in given.crates]
+    needed = {it for crate in chosen for it in below(crates, crate)}
+    for crate in [it for it in crates if it in needed]:
+        take_kept(folder, crate)
+        build(folder, crate)
+    for crate in chosen:
+        prepare(folder, crate, given.gate)
+    counts = dict.fromkeys(VERDICTS.values(), 0)
+    with ThreadPoolExecutor(given.jobs) as pool:
+        runs = {pool.submit(tried, folder, it): it for it in chosen}
+        for run in as_completed(runs):
+            for name, (verdict, said) in sorted(run.result().items()):
+                counts[verdict] += 1
+                print(f"{verdict:7} {runs[run]}/{name}  {said[:200]}", flush=True)
+    print(", ".join(f"{count} {verdict}" for verdict, count in counts.items()))
+    return 0 if counts["refused"] and sum(counts.values()) == counts["refused"] else 1
+
+
+def main():
+    parser = argparse.ArgumentParser(description=__doc__, formatter_class=argparse.RawDescriptionHelpFormatter)
+    parser.add_argument("crates", nargs="*", help="the crates whose trials are tried; all where none is named")
+    parser.add_argument("--folder", help="a clone to work in; its must-fail folders are changed")
+    parser.add_argument("--gate", action="store_true", help="the gate's wrong bodies too")
+    parser.add_argument("--jobs", type=int, default=len(os.sched_getaffinity(0)), help="how many crates at a time")
+    given = parser.parse_args()
+    if given.folder and os.path.samefile(given.folder, TOP):
+        sys.exit("this repository's own folder isn't changed: name a clone")
+    with tempfile.TemporaryDirectory(prefix="trials-") as room:
+        folder = given.folder or os.path.join(room, "clone")
+        if not given.folder:
+            subprocess.run(["git", "clone", "-q", TOP, folder], check=True)
+        return play(folder, given)
+
+
+if __name__ == "__main__":
+    sys.exit(main())

@@ -1,0 +1,5 @@
+//! Tests of sources, sinks and disks, by their public calls.
+#![tactic(auto)]
+
+#[cfg(test)]
+mod objects;

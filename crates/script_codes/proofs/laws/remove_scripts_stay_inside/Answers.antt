@@ -1,5 +1,0 @@
-use Rattle.script_codes.proofs.RemoveLaws.{remove_scripts}
-use Rattle.script_codes.proofs.laws.remove_scripts_stay_inside.Goals as goal
-
-pub returns : goal.returns
-returns c = λ all n block script w e f. remove_scripts all n block script w e f

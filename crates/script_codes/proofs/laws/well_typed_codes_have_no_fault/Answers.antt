@@ -1,5 +1,0 @@
-use Rattle.script_codes.proofs.TypingLaws.{well_typed-check_codes}
-use Rattle.script_codes.proofs.laws.well_typed_codes_have_no_fault.Goals as goal
-
-pub returns : goal.returns
-returns c = λ all w. well_typed-check_codes all w

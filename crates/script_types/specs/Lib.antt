@@ -1,0 +1,14 @@
+pub mod Codes
+pub mod CodesOf
+pub mod TypingResult
+pub mod Scopes
+pub mod TokenCounts
+pub mod TypingExpressions
+pub mod TypingStatements
+pub mod Typing
+pub mod TypingPlaces
+pub mod RemoveScripts
+pub mod Program
+pub mod Elaboration
+pub mod ElaborationOfStatements
+pub mod Programs

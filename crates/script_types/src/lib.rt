@@ -1,0 +1,22 @@
+//! All that scripts may name, and when a script is well typed.
+#![tactic(auto)]
+
+mod code_list;
+mod codes;
+mod laws;
+mod misuse;
+mod step;
+mod term;
+
+pub use code_list::CodeList;
+pub use codes::{
+    AttributeCode, BlockCode, CodePart, CodePlace, Codes, EventCode, FieldCode, HandlerCode,
+    MethodCode, RelationCode, TableCode,
+};
+pub use laws::{
+    codes_without_fault_are_well_typed, places_count_tokens, remove_scripts_stay_inside,
+    variables_stay_in_place, well_typed_codes_have_no_fault,
+};
+pub use misuse::{CheckBad, Misuse};
+pub use step::{Range, Who};
+pub use term::{Atom, Joint, Question, Scale, Test};

@@ -1,0 +1,14 @@
+pub mod Orders
+pub mod State
+pub mod Fields
+pub mod Trees
+pub mod Contexts
+pub mod Masks
+pub mod Queues
+pub mod Timers
+pub mod Profiles
+pub mod Services
+pub mod Changes
+pub mod Fits
+pub mod Fitting
+pub mod Ordered

@@ -1,0 +1,13 @@
+//! The state of a service container: its rows as Rust data, and in specs/ what the state is and what can be read off it.
+#![tactic(auto)]
+
+mod change;
+mod kindred;
+mod rows;
+
+pub use change::Change;
+pub use kindred::Kindred;
+pub use rows::{
+    AcKind, Activity, Attribute, Entity, EntityMark, Event, Field, Link, Mask, Named, ProfileRow,
+    Queued, RootName, Service, ServiceMark, ServiceState, Stem, Suspension, Timer, TimerSpec,
+};
