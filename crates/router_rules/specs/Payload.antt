@@ -1,5 +1,5 @@
 -- What the journal keeps of a step, and the choice that is read back from it.
-use Rattle.std.specs.Prelude.{ℕ, zero, suc, ◌<◌, ◌^◌, ◌==◌, ◌&&◌, nat_le, Bool, false, option_and_then, if◌then◌else◌, List, [], ◌∷◌, ◌++◌, length, take, drop, Some, None, Option, option_map, ⊤}
+use Rattle.std.specs.Prelude.{ℕ, zero, suc, ◌<◌, ◌^◌, ◌==◌, ◌&&◌, nat_le, Bool, false, option_and_then, if◌then◌else◌, List, [], ◌∷◌, ◌++◌, length, take, drop, Ok, Err, Some, None, Option, option_map, ⊤}
 use Rattle.std.specs.Option.{option_map_or}
 use Rattle.std.specs.Int.{w32, w64, from_le_bytes}
 use Rattle.std.specs.Str.{is_utf8}
@@ -8,13 +8,15 @@ use Rattle.slee_effect.specs.Bytes.{spelling_of_effects}
 use Rattle.slee_effect.specs.declared.effect.Effect.{Effect}
 use Rattle.trace_history.specs.declared.choice.Choice.{Choice}
 use Rattle.trace_history.specs.declared.choice.Choice.TheVariants as choices
-use Rattle.signal_script.specs.Signals.{spelled, signal_unbounded}
+use Rattle.signal_script.specs.Signals.{Reading, spelled, signal_unbounded}
+use Rattle.signal_script.specs.declared.signal.Signal.{Signal}
 use Rattle.slee_value.specs.declared.ids.ActivityId.{ActivityId}
 use Rattle.router_model.specs.State.{Parts}
 use Rattle.router_model.specs.Activities.{front}
 use Rattle.router_rules.specs.Effects.{effects_of}
 use Rattle.router_rules.specs.Selection.{first}
 use Rattle.router_rules.specs.Step.{after}
+use Rattle.router_rules.specs.Taking.{is_routed}
 
 -- the effects of the delivery that is next on an activity
 abbrev pub effects_due : Parts → ℕ → List Effect
@@ -33,11 +35,16 @@ abbrev pub payloads : Parts → List Choice → List (List ℕ)
 payloads s [] = []
 payloads s (c ∷ cs) = payload s c ∷ payloads (after s c) cs
 
+-- what a line says, if it is of a form that is taken
+abbrev pub routed : Reading Signal → Option Signal
+routed (Ok signal) = if is_routed signal then Some signal else None
+routed (Err bad) = None
+
 -- the line of a text, if it is one but perhaps too long, and nothing stands behind it
 abbrev pub input_in : List ℕ → Option Choice
 input_in bytes =
     if nat_le 4 (length bytes) && (from_le_bytes w32 (take 4 bytes) == length (drop 4 bytes))
-    then option_map choices.Input (signal_unbounded (drop 4 bytes)) else None
+    then option_map choices.Input (routed (signal_unbounded (drop 4 bytes))) else None
 
 -- the activity whose number the first eight bytes are
 abbrev pub activity_in : List ℕ → ActivityId

@@ -158,6 +158,11 @@ plain_back signal form plain =
     ∙ if_true (is_utf8 (spelled signal)) _ _ parts.1
     ∙ bytes_some (spelled signal) signal words (ap signal_of_words words ∙ words_back signal form)
 
+pub printed_unbounded : (signal : Signal) → is_signal signal ≡ true → signal_unbounded (spelled signal) ≡ Ok signal
+printed_unbounded signal valid =
+    let parts = and_parts (is_of_form signal) (is_line (spelled signal)) valid in
+    plain_back signal parts.0 (and_parts (nat_le (length (spelled signal)) line_limit) (is_plain (spelled signal)) parts.1).1
+
 pub printed_read : (signal : Signal) → is_signal signal ≡ true → signal_of (spelled signal) ≡ Ok signal
 printed_read signal valid =
     let parts = and_parts (is_of_form signal) (is_line (spelled signal)) valid in
