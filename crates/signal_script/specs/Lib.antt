@@ -2,3 +2,4 @@ pub mod Lines
 pub mod WordText
 pub mod Signals
 pub mod Answers
+pub mod Words

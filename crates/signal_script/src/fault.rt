@@ -26,6 +26,29 @@ pub enum SignalBad {
     Escape,
 }
 
+impl SignalBad {
+    ghost use Rattle.std.specs.Prelude.{◌≡◌};
+    ghost use Rattle.signal_script.specs.Words.{bad_word};
+
+    /// The word for it in messages.
+    pub fn word(self) -> &'static str
+        ensures { result.now ≡ bad_word self }
+    {
+        match self {
+            SignalBad::Long => "long",
+            SignalBad::Control => "control",
+            SignalBad::Utf8 => "utf8",
+            SignalBad::Empty => "empty",
+            SignalBad::Verb => "verb",
+            SignalBad::Count => "count",
+            SignalBad::Name => "name",
+            SignalBad::Number => "number",
+            SignalBad::Field => "field",
+            SignalBad::Escape => "escape",
+        }
+    }
+}
+
 /// Why bytes are no signals.
 #[derive(Clone, Copy, Debug, PartialEq, Eq)]
 pub enum SignalFault {
