@@ -63,10 +63,8 @@ fn the_first_bad_line_is_told_with_its_fault(rt: HostRuntime) -> Result<(), Fail
     for (lines, place) in BAD {
         let printed = format!(in alloc; "status 5 bad-signals {place}\n")?;
         let ran = run_alone(alloc, &["play", "1", "100"], lines, SOUND)?;
-        compare(&rt, &ran, Wanted {
-            code: 5,
-            printed: &printed,
-        });
+        assert_eq!(rt; ran.code, 5);
+        assert_eq!(rt; text_of(&ran), printed.as_str());
     }
     Ok(())
 }
@@ -123,10 +121,8 @@ fn other_events_and_fields_are_refused(rt: HostRuntime) -> Result<(), Fail> {
             "1 input start c1\n  started a1 c1\n2 input {line}\n  refused {why}\nstatus 0 ok\n"
         )?;
         let ran = run_alone(alloc, &["play", "1", "100"], lines.as_bytes(), SOUND)?;
-        compare(&rt, &ran, Wanted {
-            code: 0,
-            printed: &printed,
-        });
+        assert_eq!(rt; ran.code, 0);
+        assert_eq!(rt; text_of(&ran), printed.as_str());
     }
     Ok(())
 }
