@@ -121,7 +121,7 @@ def lines(count, seed):
 def of_program(line):
     """The kind that the program tells of a text whose second line this is; None where it tells no fault."""
     with tempfile.TemporaryDirectory() as folder:
-        ran = subprocess.run([os.path.join(ROOT, 'build/slee'), 'play', '1', '1'], input=b'start c1\n' + line + b'\n', cwd=folder, stdout=subprocess.PIPE)
+        ran = subprocess.run([os.path.join(ROOT, 'slee'), 'play', '1', '1'], input=b'start c1\n' + line + b'\n', cwd=folder, stdout=subprocess.PIPE)
     last = ran.stdout.split(b'\n')[-2].decode()
     told = re.match(r'status 5 bad-signals (\d+) ([a-z0-9]+)$', last)
     if told and (told[1] != '2' or ran.returncode != 5):

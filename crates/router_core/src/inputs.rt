@@ -1,5 +1,5 @@
 //! Signals that the router takes.
-ghost use Rattle.std.specs.Prelude.{◌≡◌, ◌↔◌, [], IsTrue, IsNone, IfSome, IsErr, IfOk, length};
+ghost use Rattle.std.specs.Prelude.{◌≡◌, [], false, IsTrue, IsNone, IfSome};
 ghost use Rattle.std.specs.List.{list_all};
 ghost use Rattle.router_rules.specs.Taking.{is_routed, is_input};
 
