@@ -6,7 +6,8 @@
     python3 bench/lines.py --small          a tenth of the lines
 
 Tables: `starts`, n, 2n and 4n lines of `start` (all activities stay alive); `calls`, calls of three lines one after
-another; `alive`, the cost of a step while 10, 1,000 and 10,000 calls are alive; `files`, entries a second over real files
+another; `reading`, megabytes a second of reading, by runs of one entry; `memory`, the memory and the user time of 180,000
+lines with 480,000 entries; `alive`, the cost of a step while 10, 1,000 and 10,000 calls are alive; `files`, entries a second over real files
 in the current folder, and how much of that is waiting for the disk; `opening`, the time of `show` as the journal grows.
 Times are the least of three runs. All but `files` run in a folder in memory where there is one, so that the journal's
 syncs cost nothing there.
@@ -74,6 +75,53 @@ def calls(command, small):
     print(f"the cost of a line varies {max(costs) / min(costs):.2f} times")
 
 
+def user_seconds(command, words, lines):
+    """The user time, the peak memory in KiB and the bytes that are written, of the best of three runs."""
+    found = []
+    for _ in range(3):
+        with tempfile.TemporaryDirectory(dir=MEMORY) as folder:
+            with open(os.path.join(folder, "signals"), "wb") as f:
+                f.write(lines)
+            with open(os.path.join(folder, "signals"), "rb") as given, open(os.path.join(folder, "out"), "wb") as out:
+                child = subprocess.Popen([command, *words], stdin=given, stdout=out, cwd=folder)
+                _, _, usage = os.wait4(child.pid, 0)
+            found.append((usage.ru_utime, usage.ru_maxrss, os.path.getsize(os.path.join(folder, "out"))))
+    return min(found)
+
+
+def reading(command, small):
+    print("reading: lines that are read whole, of which the first alone is played")
+    print(f"{'lines':>9} {'bytes':>10} {'ms':>9} {'MB/s':>9} {'KiB':>9}  of")
+    most = 1_600_000 if small else 16_000_000
+    kinds = (
+        ("start", lambda i: b"start c%d\n" % i),
+        ("fire with one field", lambda i: b"fire c%d invite addr=tel:%d\n" % (i, i)),
+        ("fire with escapes", lambda i: b"fire c%d invite addr=%%20%%25%%20%%25%%20%%25%%20%%25\n" % i),
+        ("profile-add with ten fields", lambda i: b"profile-add t r%d " % i + b" ".join(b"f%d=%d" % (k, i) for k in range(10)) + b"\n"),
+        ("4,096 bytes each", lambda i: b"fire c1 invite addr=".ljust(4096, b"5") + b"\n"),
+    )
+    for name, line_of in kinds:
+        lines, count = [], 0
+        size = 0
+        while size < most:
+            count += 1
+            lines.append(line_of(count))
+            size += len(lines[-1])
+        whole = b"".join(lines)[:16_777_216]
+        whole = whole[: whole.rindex(b"\n") + 1]
+        took, memory, status, last = min((run(command, ["play", "1", "1"], whole) for _ in range(3)), key=lambda r: r[0])
+        print(f"{count:>9} {len(whole):>10} {took * 1e3:>9.1f} {len(whole) / took / 1e6:>9.1f} {memory:>9}  {name} ({last})")
+
+
+def memory(command, small):
+    count = 6_000 if small else 60_000
+    lines = calls_of(count)
+    user, peak, written = user_seconds(command, ["play", "1", "1000000"], lines)
+    print("memory: calls of three lines, one after another")
+    print(f"{'lines':>9} {'entries':>9} {'trace':>11} {'user s':>9} {'KiB':>9}")
+    print(f"{3 * count:>9} {8 * count:>9} {written:>11} {user:>9.2f} {peak:>9}")
+
+
 def alive(command, small):
     print("alive: the cost of a step while calls are alive")
     print(f"{'alive':>9} {'us/step':>9}")
@@ -115,7 +163,7 @@ def opening(command, small):
         print(f"{8 * n:>9} {min(took) * 1e3:>9.1f} {min(took) / (8 * n) * 1e6:>9.2f}")
 
 
-TABLES = {"starts": starts, "calls": calls, "alive": alive, "files": files, "opening": opening}
+TABLES = {"starts": starts, "calls": calls, "reading": reading, "memory": memory, "alive": alive, "files": files, "opening": opening}
 
 
 def main():
@@ -123,7 +171,7 @@ def main():
     parser = argparse.ArgumentParser()
     parser.add_argument("--cmd", default=os.path.join(here, "..", "slee"))
     parser.add_argument("--small", action="store_true")
-    parser.add_argument("tables", nargs="*", default=["starts", "calls", "alive", "files", "opening"])
+    parser.add_argument("tables", nargs="*", default=["starts", "calls", "reading", "memory", "alive", "files", "opening"])
     given = parser.parse_args()
     command = os.path.abspath(given.cmd)
     for table in given.tables:

@@ -1,11 +1,11 @@
 -- The drafts of lines.
 use Rattle.std.proofs.Common.{◌≡◌, ℕ, true, List, [], ◌∷◌, refl, sym, ◌∙◌, ap, subst, codes, is_some, is_none, Option, Some, None, inl, inr, Result, Ok, Err, IfOk}
-use Rattle.std.proofs.lemmas.Bool.{cases_Bool}
+use Rattle.std.proofs.lemmas.Bool.{cases_Bool, and_parts}
 use Rattle.slee_value.specs.declared.value.Value.{Value}
 use Rattle.slee_value.specs.declared.ids.ActivityId.{ActivityId}
 use Rattle.signal_script.specs.declared.signal.Signal.{Signal}
 use Rattle.signal_script.specs.declared.signal.Signal.TheVariants as signals
-use Rattle.signal_script.specs.Signals.{spelled}
+use Rattle.signal_script.specs.Signals.{spelled, is_signal}
 use Rattle.trace_history.specs.declared.choice.Choice.TheVariants as choices
 use Rattle.router_model.specs.State.{Parts}
 use Rattle.router_model.specs.Activities.{external}
@@ -16,8 +16,15 @@ use Rattle.router_model.specs.declared.rows.AcKind.TheVariants as kinds
 use Rattle.router_model.specs.declared.rows.Activity.{Activity}
 use Rattle.router_rules.specs.BuiltIn.{activity_end, fields_given, is_event}
 use Rattle.router_rules.specs.Lines.{input_heading, refused_line, started_line, ending_line, queued_line}
-use Rattle.router_rules.specs.Taking.{refusal, after_taking, lines_of_taking, number_named, fields_of, unfit, unfit_event}
+use Rattle.router_rules.specs.Taking.{refusal, after_taking, lines_of_taking, number_named, fields_of, unfit, unfit_event, is_routed, is_input}
 use Rattle.router_core.specs.Plans.{DraftView, IsDraftOf, AllFit, event_next}
+
+-- an input is a signal, of a form that is taken
+pub input_signal : (signal : Signal) → is_input signal ≡ true → is_signal signal ≡ true
+input_signal signal is = (and_parts (is_signal signal) (is_routed signal) is).0
+
+pub input_routed : (signal : Signal) → is_input signal ≡ true → is_routed signal ≡ true
+input_routed signal is = (and_parts (is_signal signal) (is_routed signal) is).1
 
 -- what a line does by its refusal
 drafted : (s : Parts) (signal : Signal) (why : Option (List ℕ)) (d : DraftView) → refusal s signal ≡ why

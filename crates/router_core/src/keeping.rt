@@ -93,6 +93,7 @@ fn delivery(alloc: Global, stores: &Stores, activity: ActivityId) -> Result<Vec<
 }
 
 /// What the journal keeps of the choice.
+#[tactic(auto, using(crate::proofs::TakingLemmas::input_signal))]
 pub fn payload(alloc: Global, stores: &Stores, choice: &Choice) -> Result<Vec<u8>, NoMemory>
     requires well { IsWell stores.now.parts }
     requires valid { IsTrue (is_choice choice.now) }

@@ -7,6 +7,7 @@ mod closing;
 mod draft;
 mod drafting;
 mod fronts;
+mod inputs;
 mod keeping;
 mod plan;
 mod reading;
@@ -16,6 +17,7 @@ mod taking;
 mod telling;
 
 pub use choosing::choice_on;
+pub use inputs::Inputs;
 pub use plan::Plan;
 pub use reading::choice_in;
 pub use state::State;

@@ -2,24 +2,26 @@
 ghost use Rattle.std.specs.Prelude.{◌≡◌, ◌≤◌, ◌&&◌, if◌then◌else◌, nat_le, IfOk, IsTrue, MatchResult, Some, None, length, drop, option_map};
 ghost use Rattle.signal_script.specs.Signals.{signal_unbounded};
 ghost use Rattle.trace_history.specs.declared.choice.Choice.TheVariants as choices;
-ghost use Rattle.router_rules.specs.Payload.{choice_in, input_in, activity_in, is_counted, is_effect_list, is_outcome};
+ghost use Rattle.router_rules.specs.Payload.{routed, choice_in, input_in, activity_in, is_counted, is_effect_list, is_outcome};
 ghost use Rattle.slee_effect.specs.Memory.{takes_memory};
 ghost use Rattle.router_core.specs.Reading.{outcome_takes_memory, payload_takes_memory};
 
-use signal_script::{SignalFault, read_unbounded};
+use crate::inputs::is_routed;
+use signal_script::{LineFault, read_unbounded};
 use slee_effect::{EffectFault, read_effects};
 use slee_value::{ActivityId, NoMemory, read_u64};
 use std::alloc::Global;
 use trace_history::Choice;
 
-/// The choice of a line, if it is one of the grammar but perhaps too long.
+/// The choice of a line, if it is one of a form that is taken but perhaps too long.
 fn line_choice(alloc: Global, line: &[u8]) -> Result<Option<Choice>, NoMemory>
-    ensures { IfOk result (λ found. found ≡ option_map choices.Input (signal_unbounded line.now)) }
+    ensures { IfOk result (λ found. found ≡ option_map choices.Input (routed (signal_unbounded line.now))) }
 {
     match read_unbounded(alloc, line) {
-        Ok(signal) => Ok(Some(Choice::Input(signal))),
-        Err(SignalFault::NotBuilt) => Ok(None),
-        Err(SignalFault::NoMemory) => Err(NoMemory),
+        Ok(signal) if is_routed(&signal) => Ok(Some(Choice::Input(signal))),
+        Ok(_) => Ok(None),
+        Err(LineFault::Bad { kind: _ }) => Ok(None),
+        Err(LineFault::NoMemory) => Err(NoMemory),
     }
 }
 

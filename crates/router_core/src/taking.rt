@@ -1,6 +1,6 @@
 //! A line is taken: the first refusal that stands, or what the line says.
 ghost use Rattle.std.specs.Prelude.{◌≡◌, ◌∷◌, [], IsTrue, IfOk, None, Some, option_copied, is_some};
-ghost use Rattle.signal_script.specs.Signals.{spelled, is_signal};
+ghost use Rattle.signal_script.specs.Signals.{spelled};
 ghost use Rattle.slee_value.specs.declared.value.Value.{Value as TypedValue};
 ghost use Rattle.router_model.specs.Activities.{external};
 ghost use Rattle.router_model.specs.State.{Parts};
@@ -8,7 +8,7 @@ ghost use Rattle.router_model.specs.declared.change.Change.TheVariants as change
 ghost use Rattle.router_model.specs.declared.rows.AcKind.TheVariants as kinds;
 ghost use Rattle.router_rules.specs.BuiltIn.{activity_end, fields_given};
 ghost use Rattle.router_rules.specs.Lines.{input_heading, refused_line, started_line, ending_line, queued_line};
-ghost use Rattle.router_rules.specs.Taking.{unfit, unfit_event, refusal, number_named, fields_of};
+ghost use Rattle.router_rules.specs.Taking.{unfit, unfit_event, refusal, number_named, fields_of, is_routed, is_input};
 ghost use Rattle.trace_history.specs.declared.choice.Choice.TheVariants as choices;
 ghost use Rattle.router_core.specs.Plans.{IsDraftOf, event_next};
 
@@ -67,6 +67,7 @@ fn refusal(stores: &Stores, signal: &Signal) -> Option<&'static str>
             Some(why) => Some(why),
             None => unfit_event(event.as_str(), service, fields.as_slice()),
         },
+        _ => None,
     }
 }
 
@@ -160,6 +161,7 @@ fn fired(
 #[tactic(auto, using(crate::proofs::TakingLemmas::start_drafted, crate::proofs::TakingLemmas::end_drafted, crate::proofs::TakingLemmas::fire_drafted, crate::proofs::TakingLemmas::given_where_it_stands))]
 fn obeyed(alloc: Global, stores: &Stores, heading: Text, signal: &Signal) -> Result<Draft, NoMemory>
     requires heading { heading ≡ input_heading (spelled signal.now) }
+    requires taken { IsTrue (is_routed signal.now) }
     requires stands { refusal stores.now.parts signal.now ≡ None }
     ensures { IfOk result (λ d. IsDraftOf stores.now.parts (choices.Input signal.now) d) }
 {
@@ -182,13 +184,14 @@ fn obeyed(alloc: Global, stores: &Stores, heading: Text, signal: &Signal) -> Res
                 given,
             )
         }
+        _ => unreachable!(),
     }
 }
 
 /// What taking a line does.
-#[tactic(auto, using(crate::proofs::TakingLemmas::refused_drafted))]
+#[tactic(auto, using(crate::proofs::TakingLemmas::refused_drafted, crate::proofs::TakingLemmas::input_signal, crate::proofs::TakingLemmas::input_routed))]
 pub fn draft(alloc: Global, stores: &Stores, signal: &Signal) -> Result<Draft, NoMemory>
-    requires { IsTrue (is_signal signal.now) }
+    requires { IsTrue (is_input signal.now) }
     ensures { IfOk result (λ d. IsDraftOf stores.now.parts (choices.Input signal.now) d) }
 {
     let heading = telling::input(alloc, signal)?;

@@ -234,6 +234,12 @@ taken_apart s signal (Some why) apart = apart
 taken_apart s (signals.Start name) None apart = apart
 taken_apart s (signals.End name) None apart = apart
 taken_apart s (signals.Fire name event service words) None apart = apart
+taken_apart s (signals.Clock to) None apart = apart
+taken_apart s (signals.Activate service) None apart = apart
+taken_apart s (signals.Deactivate service) None apart = apart
+taken_apart s (signals.ProfileAdd table row fields) None apart = apart
+taken_apart s (signals.ProfileUpdate table row fields) None apart = apart
+taken_apart s (signals.ProfileRemove table row) None apart = apart
 
 -- what a choice does
 

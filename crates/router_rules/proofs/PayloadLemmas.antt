@@ -1,5 +1,5 @@
 -- Payloads are read back.
-use Rattle.std.proofs.Common.{◌≡◌, ℕ, ◌+◌, ◌^◌, ◌<◌, ◌≤◌, ◌==◌, nat_le, true, List, [], ◌∷◌, ◌++◌, length, take, drop, refl, ◌∙◌, ap, arith, Option, Some, if◌then◌else◌, None, inl, inr, codes, append-nil, length-append}
+use Rattle.std.proofs.Common.{◌≡◌, ℕ, ◌+◌, ◌^◌, ◌<◌, ◌≤◌, ◌==◌, nat_le, true, List, [], ◌∷◌, ◌++◌, length, take, drop, refl, ◌∙◌, ap, arith, Option, Ok, Some, if◌then◌else◌, None, inl, inr, codes, append-nil, length-append}
 use Rattle.std.specs.Prelude.{is_ok}
 use Rattle.std.specs.Int.{w32, from_le_bytes}
 use Rattle.std.proofs.lemmas.Bool.{cases_Bool, eq-eqb, le-leb, leb-true, and_parts}
@@ -16,6 +16,7 @@ use Rattle.trace_history.specs.declared.choice.Choice.{Choice}
 use Rattle.trace_history.specs.declared.choice.Choice.TheVariants as choices
 use Rattle.router_model.specs.State.{Parts}
 use Rattle.router_rules.specs.Step.{is_choice}
+use Rattle.router_rules.specs.Taking.{is_routed}
 use Rattle.router_rules.specs.Effects.{effects_of}
 use Rattle.router_rules.specs.Payload.{payload, choice_in, input_in, activity_in, effects_due, is_effect_list, HasNumber}
 use Rattle.std.specs.Option.{option_map_or}
@@ -46,12 +47,12 @@ short_line signal is =
 activity_read : (a : ℕ) (rest : List ℕ) → a < 2 ^ 64 → ◌≡◌ {A = ActivityId} (activity_in (spelled_u64 a ++ rest)) (record { 0 = a })
 activity_read a rest fits = ap (λ (n : ℕ). record { 0 = n }) (from_le_bytes-to_le_bytes_8 a fits)
 
-input_read : (line : List ℕ) (signal : Signal) → length line ≤ 4096 → signal_unbounded line ≡ Some signal → input_in (spelled_text line) ≡ Some (choices.Input signal)
-input_read line signal short reads =
+input_read : (line : List ℕ) (signal : Signal) → length line ≤ 4096 → signal_unbounded line ≡ Ok signal → is_routed signal ≡ true → input_in (spelled_text line) ≡ Some (choices.Input signal)
+input_read line signal short reads taken =
     let long : nat_le 4 (length (spelled_text line)) ≡ true = le-leb 4 (length (spelled_text line)) (omega arith) in
     let number : from_le_bytes w32 (take 4 (spelled_text line)) ≡ length line = from_le_bytes-to_le_bytes_4 (length line) (omega (arith, short)) in
     let same : (from_le_bytes w32 (take 4 (spelled_text line)) == length line) ≡ true = eq-eqb _ (length line) number in
-    rw (long, same, reads)
+    rw (long, same, reads, taken)
 
 -- a list of no effect and of one are read back
 
@@ -137,7 +138,9 @@ due_good s a (Some v) sound is =
     row_good v (first s a v) few (rw found.1 at found.3.fields)
 
 pub payload_read : (s : Parts) (c : Choice) → IsSound s → is_choice c ≡ true → HasNumber c → choice_in (payload s c) ≡ Some c
-payload_read s (choices.Input signal) sound is fits = input_read (spelled signal) signal (short_line signal is) (printed_unbounded signal is)
+payload_read s (choices.Input signal) sound is fits =
+    let parts = and_parts (is_signal signal) (is_routed signal) is in
+    input_read (spelled signal) signal (short_line signal parts.0) (printed_unbounded signal parts.0) parts.1
 payload_read s (choices.Initial a) sound is fits = ap (λ (b : ActivityId). Some (choices.Initial b)) (activity_read a.0 [] fits)
 payload_read s (choices.Deliver a) sound is fits =
     let tail = 0 ∷ spelling_of_effects (effects_due s a.0) in
@@ -148,14 +151,14 @@ payload_read s (choices.Finish a) sound is fits = ap (λ (b : ActivityId). Some 
 
 -- no payload is long
 pub payload_short : (s : Parts) (c : Choice) → IsSound s → is_choice c ≡ true → length (payload s c) ≤ 65536
-payload_short s (choices.Input signal) sound valid = omega (arith, short_line signal valid)
+payload_short s (choices.Input signal) sound valid = omega (arith, short_line signal (and_parts (is_signal signal) (is_routed signal) valid).0)
 payload_short s (choices.Initial a) sound valid = omega arith
 payload_short s (choices.Deliver a) sound valid = omega (arith, (due_good s a.0 (front s.events a.0) sound refl).short)
 payload_short s (choices.Finish a) sound valid = omega arith
 
 -- the end of a payload is seen where something stands behind it
 pub payload_left : (s : Parts) (c : Choice) (rest : List ℕ) → IsSound s → is_choice c ≡ true → left_of_payload (payload s c ++ rest) ≡ rest
-payload_left s (choices.Input signal) rest sound valid = text_left (spelled signal) rest (omega (arith, short_line signal valid))
+payload_left s (choices.Input signal) rest sound valid = text_left (spelled signal) rest (omega (arith, short_line signal (and_parts (is_signal signal) (is_routed signal) valid).0))
 payload_left s (choices.Initial a) rest sound valid = refl
 payload_left s (choices.Deliver a) rest sound valid = (due_good s a.0 (front s.events a.0) sound refl).left rest
 payload_left s (choices.Finish a) rest sound valid = refl

@@ -166,6 +166,12 @@ taken_held s signal (Some why) held = held
 taken_held s (signals.Start name) None held = held
 taken_held s (signals.End name) None held = held
 taken_held s (signals.Fire name event service words) None held = held
+taken_held s (signals.Clock to) None held = held
+taken_held s (signals.Activate service) None held = held
+taken_held s (signals.Deactivate service) None held = held
+taken_held s (signals.ProfileAdd table row fields) None held = held
+taken_held s (signals.ProfileUpdate table row fields) None held = held
+taken_held s (signals.ProfileRemove table row) None held = held
 
 linked_count : (links : List Link) (e a : ℕ) → is_linked links e a ≡ true → 0 < links_of links e
 linked_count [] e a is = cc

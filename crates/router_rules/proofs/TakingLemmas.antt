@@ -20,7 +20,7 @@ use Rattle.router_model.specs.declared.change.Change.TheVariants as changes
 use Rattle.router_model.proofs.OrderLemmas.{all_from_all, all_map}
 use Rattle.router_model.proofs.OrderedLemmas.{ordered_after}
 use Rattle.router_rules.specs.BuiltIn.{activity_end, invite, addr, is_event, fields_given}
-use Rattle.router_rules.specs.Taking.{counted, queued, ended, taken, after_taking, unfit, unfit_event, or_else, number_named, fields_of}
+use Rattle.router_rules.specs.Taking.{counted, queued, ended, taken, after_taking, unfit, unfit_event, or_else, number_named, fields_of, is_input, is_routed}
 use Rattle.router_rules.specs.Well.{IsBuiltInActivity, EndsLast, has_fields, is_address, IsSound}
 use Rattle.router_rules.proofs.RowLemmas.{all_both, found_activity, only_found, ended_there}
 use Rattle.router_rules.proofs.PayloadLemmas.{short_line}
@@ -159,7 +159,19 @@ fire_taken s name event service words (Some row) is signal fits w = elim (cases_
   | inr active ↦ rw active (fire_open s name event service words row is active signal fits w)
 ]
 
-pub taken_sound : (s : Parts) (signal : Signal) → is_signal signal ≡ true → HasNext s → IsSound s → IsSound (taken s signal)
-taken_sound s (signals.Start name) is fits w = start_taken s name is fits w
+-- no form is among the inputs that isn't taken
+no_input : {A : Type 0} (b : Bool) → (b && false) ≡ true → A
+no_input true is = cc
+no_input false is = cc
+
+pub taken_sound : (s : Parts) (signal : Signal) → is_input signal ≡ true → HasNext s → IsSound s → IsSound (taken s signal)
+taken_sound s (signals.Start name) is fits w = start_taken s name (and_parts (is_signal (signals.Start name)) true is).0 fits w
 taken_sound s (signals.End name) is fits w = end_taken s name (external s.activities name) refl fits w
-taken_sound s (signals.Fire name event service words) is fits w = fire_taken s name event service words (external s.activities name) refl is fits w
+taken_sound s (signals.Fire name event service words) is fits w =
+    fire_taken s name event service words (external s.activities name) refl (and_parts (is_signal (signals.Fire name event service words)) (is_none service) is).0 fits w
+taken_sound s (signals.Clock to) is fits w = no_input (is_signal (signals.Clock to)) is
+taken_sound s (signals.Activate service) is fits w = no_input (is_signal (signals.Activate service)) is
+taken_sound s (signals.Deactivate service) is fits w = no_input (is_signal (signals.Deactivate service)) is
+taken_sound s (signals.ProfileAdd table row fields) is fits w = no_input (is_signal (signals.ProfileAdd table row fields)) is
+taken_sound s (signals.ProfileUpdate table row fields) is fits w = no_input (is_signal (signals.ProfileUpdate table row fields)) is
+taken_sound s (signals.ProfileRemove table row) is fits w = no_input (is_signal (signals.ProfileRemove table row)) is

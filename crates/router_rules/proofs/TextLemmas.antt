@@ -8,7 +8,7 @@ use Rattle.std.proofs.Math.Seq.{get_or-append_seam}
 use Rattle.std.proofs.lemmas.Str.{IsUtf8-append, IsUtf8-drop, IsUtf8-from_ascii, IsUtf8-from_is_utf8, is_utf8-from_IsUtf8, IsCharBoundary-after_ascii}
 use Rattle.slee_value.specs.Escape.{escaped}
 use Rattle.signal_script.specs.declared.signal.Signal.TheVariants as signals
-use Rattle.signal_script.specs.Signals.{spelled, spelled_service, is_signal, is_of_form}
+use Rattle.signal_script.specs.Signals.{spelled, spelled_event, spelled_field, is_signal, is_of_form}
 use Rattle.signal_script.specs.Lines.{is_line}
 use Rattle.signal_script.proofs.WordTextLemmas.{unescaped_back, unescaped_utf8}
 
@@ -41,11 +41,9 @@ behind_ascii front rest x small is =
 field_utf8 : (name event : List ℕ) (service : Option (List ℕ)) (field : List ℕ × List ℕ) → IsUtf8 (spelled (signals.Fire name event service (field ∷ [])))
     → IsUtf8 (escaped true field.1)
 field_utf8 name event service field is =
-    let word = field.0 ++ (codes "=" ++ escaped true field.1) in
-    let behind_name : IsUtf8 (event ++ (spelled_service service ++ (32 ∷ (word ++ [])))) = behind_ascii (codes "fire " ++ name) _ 32 (omega arith) is in
-    let whole : IsUtf8 ((event ++ spelled_service service) ++ (32 ∷ (word ++ []))) = subst IsUtf8 (sym (append_assoc event (spelled_service service) (32 ∷ (word ++ [])))) behind_name in
-    let last : IsUtf8 (word ++ []) = behind_ascii (event ++ spelled_service service) (word ++ []) 32 (omega arith) whole in
-    behind_ascii field.0 (escaped true field.1) 61 (omega arith) (subst IsUtf8 (append-nil word) last)
+    let behind_name : IsUtf8 (spelled_event event service ++ 32 ∷ spelled_field field) = behind_ascii (codes "fire " ++ name) _ 32 (omega arith) is in
+    let last : IsUtf8 (spelled_field field) = behind_ascii (spelled_event event service) (spelled_field field) 32 (omega arith) behind_name in
+    behind_ascii field.0 (escaped true field.1) 61 (omega arith) last
 
 pub signal_utf8 : (name event : List ℕ) (service : Option (List ℕ)) (field : List ℕ × List ℕ) → is_signal (signals.Fire name event service (field ∷ [])) ≡ true
     → is_utf8 field.1 ≡ true

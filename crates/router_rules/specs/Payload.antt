@@ -1,5 +1,5 @@
 -- What the journal keeps of a step, and the choice that is read back from it.
-use Rattle.std.specs.Prelude.{ℕ, ◌<◌, ◌^◌, ◌==◌, ◌&&◌, nat_le, Bool, false, if◌then◌else◌, is_ok, List, [], ◌∷◌, ◌++◌, length, take, drop, Some, None, Option, option_map, ⊤}
+use Rattle.std.specs.Prelude.{ℕ, ◌<◌, ◌^◌, ◌==◌, ◌&&◌, nat_le, Bool, false, if◌then◌else◌, is_ok, List, [], ◌∷◌, ◌++◌, length, take, drop, Ok, Err, Some, None, Option, option_map, ⊤}
 use Rattle.std.specs.Option.{option_map_or}
 use Rattle.std.specs.Int.{w32, w64, from_le_bytes}
 use Rattle.slee_value.specs.Bytes.{spelled_u64, spelled_text}
@@ -9,13 +9,15 @@ use Rattle.slee_effect.specs.Reading.{list_of}
 use Rattle.slee_effect.specs.declared.effect.Effect.{Effect}
 use Rattle.trace_history.specs.declared.choice.Choice.{Choice}
 use Rattle.trace_history.specs.declared.choice.Choice.TheVariants as choices
-use Rattle.signal_script.specs.Signals.{spelled, signal_unbounded}
+use Rattle.signal_script.specs.Signals.{Reading, spelled, signal_unbounded}
+use Rattle.signal_script.specs.declared.signal.Signal.{Signal}
 use Rattle.slee_value.specs.declared.ids.ActivityId.{ActivityId}
 use Rattle.router_model.specs.State.{Parts}
 use Rattle.router_model.specs.Activities.{front}
 use Rattle.router_rules.specs.Effects.{effects_of}
 use Rattle.router_rules.specs.Selection.{first}
 use Rattle.router_rules.specs.Step.{after}
+use Rattle.router_rules.specs.Taking.{is_routed}
 
 -- the effects of the delivery that is next on an activity
 abbrev pub effects_due : Parts → ℕ → List Effect
@@ -34,13 +36,18 @@ abbrev pub payloads : Parts → List Choice → List (List ℕ)
 payloads s [] = []
 payloads s (c ∷ cs) = payload s c ∷ payloads (after s c) cs
 
+-- what a line says, if it is of a form that is taken
+abbrev pub routed : Reading Signal → Option Signal
+routed (Ok signal) = if is_routed signal then Some signal else None
+routed (Err bad) = None
+
 -- the bytes are a count of four bytes, and so many bytes, with nothing behind them
 abbrev pub is_counted : List ℕ → Bool
 is_counted bytes = nat_le COUNT_LEN (length bytes) && (from_le_bytes w32 (take COUNT_LEN bytes) == length (drop COUNT_LEN bytes))
 
 -- the line that is counted so, if it is one but perhaps too long
 abbrev pub input_in : List ℕ → Option Choice
-input_in bytes = if is_counted bytes then option_map choices.Input (signal_unbounded (drop COUNT_LEN bytes)) else None
+input_in bytes = if is_counted bytes then option_map choices.Input (routed (signal_unbounded (drop COUNT_LEN bytes))) else None
 
 -- the activity whose number the first eight bytes are
 abbrev pub activity_in : List ℕ → ActivityId

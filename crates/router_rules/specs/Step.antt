@@ -1,14 +1,14 @@
 -- One step: whether it may be made, the state after it, and the lines that it gives.
 use Rattle.std.specs.Prelude.{ℕ, Bool, true, false, ◌&&◌, not, List, [], ◌∷◌, ◌++◌, Some, None, Option}
 use Rattle.std.specs.Option.{option_map_or}
-use Rattle.signal_script.specs.Signals.{spelled, is_signal}
+use Rattle.signal_script.specs.Signals.{spelled}
 use Rattle.trace_history.specs.declared.choice.Choice.{Choice}
 use Rattle.trace_history.specs.declared.choice.Choice.TheVariants as choices
 use Rattle.trace_history.specs.declared.entry.Entry.{Entry}
 use Rattle.router_model.specs.State.{Parts, is_used_up}
 use Rattle.router_model.specs.Activities.{front}
 use Rattle.router_rules.specs.Lines.{input_heading}
-use Rattle.router_rules.specs.Taking.{taken, lines_of_taken}
+use Rattle.router_rules.specs.Taking.{taken, lines_of_taken, is_input}
 use Rattle.router_model.specs.Roots.{root_selected}
 use Rattle.router_rules.specs.Selection.{due_service, first, next}
 use Rattle.router_rules.specs.Delivery.{selected, lines_of_selected, delivered, lines_of_delivered, finished, lines_of_finished}
@@ -78,9 +78,9 @@ after s c = closing (did s c)
 abbrev pub lines_of_step : Parts → Choice → List (List ℕ)
 lines_of_step s c = told s c ++ lines_of_closing (did s c)
 
--- if the choice takes a line, its signal is one that a line can give
+-- if the choice takes a line, its signal is one that a line gives, of a form that is taken
 abbrev pub is_choice : Choice → Bool
-is_choice (choices.Input signal) = is_signal signal
+is_choice (choices.Input signal) = is_input signal
 is_choice (choices.Initial a) = true
 is_choice (choices.Deliver a) = true
 is_choice (choices.Finish a) = true

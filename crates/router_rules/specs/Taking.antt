@@ -1,7 +1,8 @@
 -- Taking a line: the first refusal that stands, or what the line says.
-use Rattle.std.specs.Prelude.{ℕ, if◌then◌else◌, is_some, is_none, List, [], ◌∷◌, codes, Some, None, Option}
+use Rattle.std.specs.Prelude.{ℕ, Bool, true, false, ◌&&◌, if◌then◌else◌, is_some, is_none, List, [], ◌∷◌, codes, Some, None, Option}
 use Rattle.std.specs.Option.{option_map_or, unwrap_or}
 use Rattle.slee_value.specs.declared.value.Value.{Value}
+use Rattle.signal_script.specs.Signals.{is_signal}
 use Rattle.signal_script.specs.declared.signal.Signal.{Signal}
 use Rattle.signal_script.specs.declared.signal.Signal.TheVariants as signals
 use Rattle.router_model.specs.State.{Parts}
@@ -12,6 +13,17 @@ use Rattle.router_model.specs.declared.rows.AcKind.TheVariants as kinds
 use Rattle.router_model.specs.declared.change.Change.TheVariants as changes
 use Rattle.router_rules.specs.BuiltIn.{is_event, fields_given, activity_end}
 use Rattle.router_rules.specs.Lines.{refused_line, started_line, ending_line, queued_line}
+
+-- The forms that the router takes by now: activities start and end, and events are fired that are for no service by itself.
+abbrev pub is_routed : Signal → Bool
+is_routed (signals.Start name) = true
+is_routed (signals.End name) = true
+is_routed (signals.Fire name event service words) = is_none service
+is_routed _ = false
+
+-- a signal that a line gives, of a form that is taken
+abbrev pub is_input : Signal → Bool
+is_input signal = is_signal signal && is_routed signal
 
 -- why nothing can be done with an activity: it isn't there, or it is Ending
 abbrev pub unfit : Option Activity → Option (List ℕ)
@@ -32,11 +44,12 @@ abbrev pub or_else : Option (List ℕ) → Option (List ℕ) → Option (List �
 or_else None other = other
 or_else (Some why) other = Some why
 
--- why the line is refused, if it is
+-- why the line is refused, if it is; the forms that aren't taken yet stand in no history
 abbrev pub refusal : Parts → Signal → Option (List ℕ)
 refusal s (signals.Start name) = if is_some (external s.activities name) then Some (codes "exists") else None
 refusal s (signals.End name) = unfit (external s.activities name)
 refusal s (signals.Fire name event service words) = or_else (unfit (external s.activities name)) (unfit_event event service words)
+refusal s _ = None
 
 -- one more line was taken
 abbrev pub counted : Parts → Parts
@@ -64,6 +77,7 @@ abbrev pub obeyed : Parts → Signal → Parts
 obeyed s (signals.Start name) = after_change (changes.Start (kinds.External name)) s
 obeyed s (signals.End name) = ended s (number_named s name)
 obeyed s (signals.Fire name event service words) = queued s (number_named s name) event (fields_of words)
+obeyed s _ = s
 
 -- the lines that it gives then
 abbrev pub lines_obeyed : Parts → Signal → List (List ℕ)
@@ -71,6 +85,7 @@ lines_obeyed s (signals.Start name) = started_line s.next_activity name ∷ []
 lines_obeyed s (signals.End name) =
     ending_line (number_named s name) ∷ queued_line s.next_event activity_end (number_named s name) ∷ []
 lines_obeyed s (signals.Fire name event service words) = queued_line s.next_event event (number_named s name) ∷ []
+lines_obeyed s _ = []
 
 -- A refused line changes the count of inputs alone.
 abbrev pub after_taking : Parts → Signal → Option (List ℕ) → Parts

@@ -1,4 +1,9 @@
+pub mod CountLemmas
 pub mod LineLemmas
+pub mod NumberLemmas
 pub mod WordLemmas
 pub mod WordTextLemmas
+pub mod SpellingLemmas
+pub mod GivenLemmas
 pub mod LawLemmas
+pub mod PrintLemmas

@@ -1,5 +1,5 @@
 -- The first line of a text, the words of a line, and signals so far.
-use Rattle.std.proofs.Common.{◌≡◌, ℕ, ◌+◌, ◌-◌, ◌<◌, zero, suc, List, [], ◌∷◌, ◌++◌, length, get_or, take, drop, refl, sym, ◌∙◌, ap, arith, eq-eqb, ne_eqb, add-one, Some, None, Option, option_map, option_and_then, append_assoc}
+use Rattle.std.proofs.Common.{◌≡◌, ℕ, ◌+◌, ◌-◌, ◌<◌, zero, suc, List, [], ◌∷◌, ◌++◌, length, get_or, take, drop, ap, arith, eq-eqb, ne_eqb, add-one, Ok, Err}
 use Rattle.std.proofs.Common.{true, false}
 use Rattle.std.proofs.lemmas.List.{take_rest}
 use Rattle.std.proofs.lemmas.Bool.{false_from_ne_true}
@@ -7,8 +7,10 @@ use Rattle.std.proofs.lemmas.Str.{IsUtf8-from_is_utf8, is_utf8-from_IsUtf8}
 use Rattle.std.specs.List.{onto_first}
 use Rattle.std.specs.Str.{IsUtf8, is_utf8}
 use Rattle.signal_script.specs.Lines.{lines_of}
-use Rattle.signal_script.specs.Signals.{signal_of, signals_of_lines}
+use Rattle.signal_script.specs.Signals.{signal_of, signals_behind}
 use Rattle.signal_script.specs.declared.signal.Signal.{Signal}
+use Rattle.signal_script.specs.declared.fault.SignalBad.{SignalBad}
+use Rattle.signal_script.specs.declared.fault.SignalFault.TheVariants as faults
 
 -- the first line ends at the first newline
 pub first_line_at : (bs : List ℕ) (i : ℕ) → i < length bs → ((k : ℕ) → k < i → get_or bs k 0 ≡ 10 → ⊥) → get_or bs i 0 ≡ 10
@@ -35,26 +37,18 @@ pub only_line_of : (bs : List ℕ) → 0 < length bs → ((k : ℕ) → k < leng
 only_line_of [] some before = absurd (omega arith)
 only_line_of (b ∷ bs) some before = only_line b bs before
 
--- these signals, and then those of the lines
-abbrev pub with_front : List Signal → Option (List Signal) → Option (List Signal)
-with_front front more = option_map (λ list. front ++ list) more
-
--- a line more was read
-pub with_front-next : (front : List Signal) (line : List ℕ) (lines : List (List ℕ)) (signal : Signal) → signal_of line ≡ Some signal
-    → with_front front (signals_of_lines (line ∷ lines)) ≡ with_front (front ++ signal ∷ []) (signals_of_lines lines)
-with_front-next front line lines signal is = rw is (joined (signals_of_lines lines))
-  where
-    joined : (more : Option (List Signal)) → with_front front (option_map (λ list. signal ∷ list) more) ≡ with_front (front ++ signal ∷ []) more
-    joined None = refl
-    joined (Some list) = ap Some (sym (append_assoc front (signal ∷ []) list))
-
--- a line that says nothing
-pub with_front-none : (front : List Signal) (line : List ℕ) (lines : List (List ℕ)) → signal_of line ≡ None
-    → with_front front (signals_of_lines (line ∷ lines)) ≡ None
-with_front-none front line lines is = rw is
-
 pub utf8_test : (bs : List ℕ) → IsUtf8 bs → is_utf8 bs ≡ true
 utf8_test bs is = is_utf8-from_IsUtf8 bs is
 
 pub utf8_refused : (bs : List ℕ) → (IsUtf8 bs → ⊥) → is_utf8 bs ≡ false
 utf8_refused bs is_not = false_from_ne_true (is_utf8 bs) (λ test. is_not (IsUtf8-from_is_utf8 bs test))
+
+-- a line more
+pub line_more : (before : List Signal) (line : List ℕ) (bytes : List ℕ) (lines : List (List ℕ)) (signal : Signal) → lines_of bytes ≡ line ∷ lines → signal_of line ≡ Ok signal
+    → signals_behind before (lines_of bytes) ≡ signals_behind (before ++ signal ∷ []) lines
+line_more before line bytes lines signal is read = rw (is, read)
+
+-- a line that is bad
+pub line_fault : (before : List Signal) (line : List ℕ) (bytes : List ℕ) (lines : List (List ℕ)) (kind : SignalBad) → lines_of bytes ≡ line ∷ lines → signal_of line ≡ Err kind
+    → signals_behind before (lines_of bytes) ≡ Err (faults.At (length before + 1) kind)
+line_fault before line bytes lines kind is bad = rw (is, bad)

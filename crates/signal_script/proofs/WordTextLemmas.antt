@@ -1,12 +1,12 @@
 -- Escaping and its inverse.
-use Rattle.std.proofs.Common.{◌≡◌, ℕ, ◌+◌, ◌-◌, ◌*◌, ◌/◌, ◌%◌, ◌<◌, ◌≤◌, zero, suc, Bool, true, false, ◌&&◌, ◌||◌, ◌==◌, if◌then◌else◌, nat_lt, nat_le, List, [], ◌∷◌, ◌++◌, length, get_or, take, drop, refl, sym, ◌∙◌, ap, subst, arith, append_assoc, append-nil, length-append, Option, Some, None, option_map, true≢false, ◌⊎◌, inl, inr, ne_eqb, eq-eqb}
+use Rattle.std.proofs.Common.{◌≡◌, ℕ, ◌-◌, ◌/◌, ◌%◌, ◌<◌, ◌≤◌, zero, suc, Bool, true, false, ◌&&◌, ◌==◌, if◌then◌else◌, List, [], ◌∷◌, ◌++◌, length, get_or, take, drop, refl, sym, ◌∙◌, ap, subst, arith, append_assoc, append-nil, length-append, Option, Some, None, option_map, true≢false, ◌⊎◌, inl, inr, ne_eqb, eq-eqb}
 use Rattle.std.proofs.lemmas.List.{take_rest}
-use Rattle.std.proofs.lemmas.Bool.{cases_Bool, cases_lt, and_parts, and_from}
+use Rattle.std.proofs.lemmas.Bool.{cases_Bool, cases_lt, and_parts}
 use Rattle.std.proofs.lemmas.Bool.Decides.{nat_tests}
 use Rattle.std.proofs.lemmas.Str.{IsUtf8-append, IsUtf8-nil, IsUtf8-drop, IsUtf8-encode, IsCharBoundary-after_ascii, encode_ascii, inside_one, length-encode, len_utf8_bounds}
 use lib.Utf8.{scalar, scalars, encode, encodes, low_scalar}
 use Rattle.std.specs.Str.{IsUtf8}
-use Rattle.slee_value.specs.Escape.{is_escaped, hex_digit_of, escape_of, spelled_byte, escaped}
+use Rattle.slee_value.specs.Escape.{is_escaped, hex_digit_of, escaped}
 use Rattle.signal_script.specs.WordText.{unescaped, is_escape, byte_of_digits, digit_value}
 
 -- these bytes, and then those

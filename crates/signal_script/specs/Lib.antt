@@ -1,3 +1,5 @@
 pub mod Lines
-pub mod Signals
 pub mod WordText
+pub mod Signals
+pub mod Answers
+pub mod Words

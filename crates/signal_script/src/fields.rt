@@ -1,4 +1,5 @@
 ghost use Rattle.std.specs.Prelude.{◌≡◌, ◌++◌, ◌∷◌, [], IfOk, OnOk, OnErr};
+ghost use Rattle.signal_script.specs.Signals.{has_field};
 
 use slee_value::{Name, NoMemory, Text};
 use std::alloc::Global;
@@ -41,6 +42,13 @@ impl Fields {
     {
         self.fields.push((name, value))?;
         Ok(())
+    }
+
+    /// Whether one of them has this name.
+    pub fn has(&self, name: &str) -> bool
+        ensures { result ≡ has_field self.now name.now }
+    {
+        self.fields.iter().any(|(key, _)| key.as_str() == name)
     }
 
     pub fn copy(&self, alloc: Global) -> Result<Self, NoMemory>

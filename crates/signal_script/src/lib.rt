@@ -3,18 +3,24 @@
 
 mod fault;
 mod fields;
+mod forms;
 mod laws;
 mod line;
+mod number;
+mod parts;
 mod printing;
 mod reading;
 mod signal;
 mod signals;
 mod unescaping;
+mod verb;
 
-pub use fault::SignalFault;
+pub use fault::{LineFault, SignalBad, SignalFault};
 pub use fields::Fields;
 pub use laws::{length_alone_decides, printed_is_read, read_is_spelled};
 pub use line::LINE_LIMIT;
+pub use number::number_of;
+pub use parts::CLOCK_LIMIT;
 pub use printing::print_signal;
 pub use reading::{read_line, read_signals, read_unbounded};
 pub use signal::Signal;

@@ -1,8 +1,7 @@
-ghost use Rattle.std.specs.Prelude.{◌≡◌, ◌∷◌, ◌<◌, [], true, false, not, length, MatchOption};
-ghost use Rattle.std.specs.List.{list_all};
-ghost use Rattle.signal_script.specs.Lines.{lines_of, words_of, is_plain, is_line, is_control};
-
-use std::str;
+//! Lines and their words, as they are cut.
+ghost use Rattle.std.specs.Prelude.{◌≡◌, ◌∷◌, ◌<◌, ◌+◌, [], not, length, MatchOption, IfSome, Some, None, option_copied};
+ghost use Rattle.std.specs.List.{list_any};
+ghost use Rattle.signal_script.specs.Lines.{lines_of, words_of, words_behind, is_control};
 
 /// The most bytes that a line has, without its newline.
 pub const LINE_LIMIT: usize = 4096;
@@ -22,34 +21,11 @@ pub fn first_line(bytes: &[u8]) -> (&[u8], &[u8])
     (bytes, &bytes[bytes.len()..])
 }
 
-/// The line as a text, if it is short enough, has no control and is UTF-8.
-pub fn line_text(line: &[u8]) -> Option<&str>
-    ensures { MatchOption result (is_line line.now ≡ false) (λ text. (is_line line.now ≡ true) × (text.now ≡ line.now)) }
+/// Whether the line has a byte that no line has.
+pub fn has_control(line: &[u8]) -> bool
+    ensures { result ≡ list_any is_control line.now }
 {
-    if line.len() > LINE_LIMIT {
-        return None;
-    }
-    plain_text(line)
-}
-
-/// The line as a text, if it has no control and is UTF-8.
-#[tactic(auto, using(crate::proofs::LineLemmas::utf8_test, crate::proofs::LineLemmas::utf8_refused))]
-pub fn plain_text(line: &[u8]) -> Option<&str>
-    ensures { MatchOption result (is_plain line.now ≡ false) (λ text. (is_plain line.now ≡ true) × (text.now ≡ line.now)) }
-{
-    if !has_no_control(line) {
-        return None;
-    }
-    match str::from_utf8(line) {
-        Ok(text) => Some(text),
-        Err(_) => None,
-    }
-}
-
-fn has_no_control(line: &[u8]) -> bool
-    ensures { result ≡ list_all (λ b. not (is_control b)) line.now }
-{
-    line.iter().all(|b| !is_control(*b))
+    line.iter().any(|b| is_control(*b))
 }
 
 fn is_control(b: u8) -> bool
@@ -59,9 +35,20 @@ fn is_control(b: u8) -> bool
 }
 
 /// The first word, and what stands behind the space after it; none where the text is one word.
-#[tactic(auto, using(crate::proofs::WordLemmas::first_word_cut))]
-pub fn split_word(text: &str) -> Option<(&str, &str)>
-    ensures { MatchOption result (words_of text.now ≡ text.now ∷ []) (λ parts. words_of text.now ≡ parts.0.now ∷ words_of parts.1.now) }
+fn split_word(text: &str) -> Option<(&str, &str)>
+    ensures words { MatchOption result (words_of text.now ≡ text.now ∷ []) (λ parts. words_of text.now ≡ parts.0.now ∷ words_of parts.1.now) }
+    ensures shorter { IfSome result (λ parts. length parts.1.now < length text.now) }
 {
     text.split_once(' ')
+}
+
+/// The first word, and what stands behind the space after it, if there is one.
+pub fn first_word(text: &str) -> (&str, Option<&str>)
+    ensures words { words_of text.now ≡ result.0.now ∷ words_behind (option_copied result.1) }
+    ensures shorter { IfSome result.1 (λ behind. length behind.now < length text.now) }
+{
+    match split_word(text) {
+        Some((word, behind)) => (word, Some(behind)),
+        None => (text, None),
+    }
 }

@@ -1,140 +1,92 @@
-ghost use Rattle.std.specs.Prelude.{◌≡◌, ◌∷◌, IfOk, IsErrOf, IfSome, IsNone, Some, None};
+//! Reading the lines of a text.
+ghost use Rattle.std.specs.Prelude.{◌≡◌, MatchResult, Ok};
+ghost use Rattle.signal_script.specs.Answers.{Answers, IsFaultOfText};
 ghost use Rattle.signal_script.specs.Lines.{words_of};
-ghost use Rattle.signal_script.specs.Signals.{signal_of, signal_unbounded, signals_of, signal_of_words, signal_of_two, signal_of_four, address_of, invite_of};
+ghost use Rattle.signal_script.specs.Signals.{signal_of, signal_unbounded, signals_of, signal_of_words, signal_of_bytes};
 
-use crate::line::{first_line, line_text, plain_text, split_word};
-use crate::unescaping::unescape;
-use crate::{Fields, Signal, SignalFault, Signals};
-use slee_value::{Name, NoMemory, Text};
+use crate::forms::read_behind;
+use crate::line::{LINE_LIMIT, first_line, first_word, has_control};
+use crate::verb::Verb;
+use crate::{LineFault, Signal, SignalBad, SignalFault, Signals};
 use std::alloc::Global;
+use std::str;
 
-/// The signals that the bytes spell, a line each. The last line may lack its newline.
-#[tactic(auto, using(crate::proofs::LawLemmas::read_valid))]
+/// The signals that the bytes spell, a line each, or the first line that is bad. The last line may lack its newline.
+#[tactic(auto, using(crate::proofs::LawLemmas::read_valid, crate::proofs::LineLemmas::line_more, crate::proofs::LineLemmas::line_fault))]
 pub fn read_signals(alloc: Global, bytes: &[u8]) -> Result<Signals, SignalFault>
-    ensures ok { IfOk result (λ list. signals_of bytes.now ≡ Some list) }
-    ensures not_built { IsErrOf result SignalFault.NotBuilt → signals_of bytes.now ≡ None }
+    ensures { MatchResult result (λ list. signals_of bytes.now ≡ Ok list) (λ fault. IsFaultOfText bytes.now fault) }
 {
     let mut list = Signals::new(alloc);
     let mut rest = bytes;
-    while !rest.is_empty() {
+    'lines: while !rest.is_empty() {
         let (line, after) = first_line(rest);
-        let signal = read_line(alloc, line)?;
-        list.push(signal)?;
+        match read_line(alloc, line) {
+            Ok(signal) => {
+                let Ok(()) = list.push(signal) else {
+                    return Err(SignalFault::NoMemory);
+                };
+            }
+            Err(LineFault::Bad { kind }) => {
+                let line = list.len() + 1;
+                return Err(SignalFault::At { line, kind });
+            }
+            Err(LineFault::NoMemory) => return Err(SignalFault::NoMemory),
+        }
         rest = after;
     }
     Ok(list)
 }
 
 /// The signal that one line spells, without its newline.
-pub fn read_line(alloc: Global, line: &[u8]) -> Result<Signal, SignalFault>
-    ensures ok { IfOk result (λ signal. signal_of line.now ≡ Some signal) }
-    ensures not_built { IsErrOf result SignalFault.NotBuilt → signal_of line.now ≡ None }
+pub fn read_line(alloc: Global, line: &[u8]) -> Result<Signal, LineFault>
+    ensures { Answers result (signal_of line.now) }
 {
-    match line_text(line) {
-        None => Err(SignalFault::NotBuilt),
-        Some(text) => read_words(alloc, text),
+    if line.len() > LINE_LIMIT {
+        return Err(LineFault::Bad {
+            kind: SignalBad::Long,
+        });
     }
+    read_unbounded(alloc, line)
 }
 
-/// The signal that one line spells, without its newline, even if the line is too long.
-pub fn read_unbounded(alloc: Global, line: &[u8]) -> Result<Signal, SignalFault>
-    ensures ok { IfOk result (λ signal. signal_unbounded line.now ≡ Some signal) }
-    ensures not_built { IsErrOf result SignalFault.NotBuilt → signal_unbounded line.now ≡ None }
+/// The signal that one line spells, without its newline, whatever its length.
+#[tactic(auto, using(crate::proofs::LineLemmas::utf8_test, crate::proofs::LineLemmas::utf8_refused))]
+pub fn read_unbounded(alloc: Global, line: &[u8]) -> Result<Signal, LineFault>
+    ensures { Answers result (signal_unbounded line.now) }
 {
-    match plain_text(line) {
-        None => Err(SignalFault::NotBuilt),
-        Some(text) => read_words(alloc, text),
+    if has_control(line) {
+        return Err(LineFault::Bad {
+            kind: SignalBad::Control,
+        });
     }
-}
-
-#[tactic(auto, using(crate::proofs::WordLemmas::one_word, crate::proofs::WordLemmas::two_words, crate::proofs::WordLemmas::later_words))]
-fn read_words(alloc: Global, text: &str) -> Result<Signal, SignalFault>
-    ensures ok { IfOk result (λ signal. signal_of_words (words_of text.now) ≡ Some signal) }
-    ensures not_built { IsErrOf result SignalFault.NotBuilt → signal_of_words (words_of text.now) ≡ None }
-{
-    let Some((verb, rest)) = split_word(text) else {
-        return Err(SignalFault::NotBuilt);
+    let Ok(text) = str::from_utf8(line) else {
+        return Err(LineFault::Bad {
+            kind: SignalBad::Utf8,
+        });
     };
-    match split_word(rest) {
-        None => read_two(alloc, verb, rest),
-        Some((name, rest)) => read_event(alloc, verb, name, rest),
-    }
+    read_text(alloc, text)
 }
 
-/// `start NAME` and `end NAME`.
-fn read_two(alloc: Global, verb: &str, name: &str) -> Result<Signal, SignalFault>
-    ensures ok { IfOk result (λ signal. signal_of_two verb.now name.now ≡ Some signal) }
-    ensures not_built { IsErrOf result SignalFault.NotBuilt → signal_of_two verb.now name.now ≡ None }
+/// The signal of a line whose bytes are those of a text.
+fn read_text(alloc: Global, text: &str) -> Result<Signal, LineFault>
+    ensures { Answers result (signal_of_bytes text.now) }
 {
-    if !Name::is_name(name.as_bytes()) {
-        return Err(SignalFault::NotBuilt);
+    if text.is_empty() {
+        return Err(LineFault::Bad {
+            kind: SignalBad::Empty,
+        });
     }
-    if verb == "start" {
-        let name = Name::from_slice(alloc, name.as_bytes())?;
-        return Ok(Signal::Start { name });
-    }
-    if verb == "end" {
-        let name = Name::from_slice(alloc, name.as_bytes())?;
-        return Ok(Signal::End { name });
-    }
-    Err(SignalFault::NotBuilt)
+    read_words(alloc, text)
 }
 
-/// `fire NAME invite addr=VALUE`, where more than two words stand.
-#[tactic(auto, using(crate::proofs::WordLemmas::three_words, crate::proofs::WordLemmas::four_words, crate::proofs::WordLemmas::more_words))]
-fn read_event(alloc: Global, verb: &str, name: &str, rest: &str) -> Result<Signal, SignalFault>
-    ensures ok { IfOk result (λ signal. signal_of_words (verb.now ∷ name.now ∷ words_of rest.now) ≡ Some signal) }
-    ensures not_built { IsErrOf result SignalFault.NotBuilt → signal_of_words (verb.now ∷ name.now ∷ words_of rest.now) ≡ None }
+fn read_words(alloc: Global, text: &str) -> Result<Signal, LineFault>
+    ensures { Answers result (signal_of_words (words_of text.now)) }
 {
-    let Some((event, field)) = split_word(rest) else {
-        return Err(SignalFault::NotBuilt);
-    };
-    match split_word(field) {
-        Some(_) => Err(SignalFault::NotBuilt),
-        None => read_four(alloc, verb, name, event, field),
+    let (word, behind) = first_word(text);
+    match Verb::of(word) {
+        Some(verb) => read_behind(alloc, verb, behind),
+        None => Err(LineFault::Bad {
+            kind: SignalBad::Verb,
+        }),
     }
-}
-
-fn read_four(
-    alloc: Global,
-    verb: &str,
-    name: &str,
-    event: &str,
-    field: &str,
-) -> Result<Signal, SignalFault>
-    ensures ok { IfOk result (λ signal. signal_of_four verb.now name.now event.now field.now ≡ Some signal) }
-    ensures not_built { IsErrOf result SignalFault.NotBuilt → signal_of_four verb.now name.now event.now field.now ≡ None }
-{
-    if verb != "fire" || !Name::is_name(name.as_bytes()) || event != "invite" {
-        return Err(SignalFault::NotBuilt);
-    }
-    let Some(address) = read_address(alloc, field)? else {
-        return Err(SignalFault::NotBuilt);
-    };
-    let name = Name::from_slice(alloc, name.as_bytes())?;
-    Ok(invite(alloc, name, address)?)
-}
-
-/// The value of the field word `addr=VALUE`.
-fn read_address(alloc: Global, field: &str) -> Result<Option<Text>, NoMemory>
-    ensures { IfOk result (λ read. read ≡ address_of field.now) }
-{
-    match field.strip_prefix("addr=") {
-        None => Ok(None),
-        Some(value) => unescape(alloc, value, true),
-    }
-}
-
-fn invite(alloc: Global, name: Name, address: Text) -> Result<Signal, NoMemory>
-    ensures { IfOk result (λ signal. signal ≡ invite_of name address) }
-{
-    let mut fields = Fields::new(alloc);
-    let key = Name::from_slice(alloc, b"addr")?;
-    fields.push(key, address)?;
-    Ok(Signal::Fire {
-        name,
-        event: Text::from_str(alloc, "invite")?,
-        service: None,
-        fields,
-    })
 }

@@ -1,4 +1,4 @@
-ghost use Rattle.std.specs.Prelude.{◌≡◌, ◌++◌, ◌∷◌, [], IsTrue, OnOk, OnErr};
+ghost use Rattle.std.specs.Prelude.{◌≡◌, ◌++◌, ◌∷◌, [], IsTrue, OnOk, OnErr, length};
 ghost use Rattle.std.specs.List.{list_all};
 ghost use Rattle.signal_script.specs.Signals.{is_signal};
 
@@ -34,6 +34,13 @@ impl Signals {
         Signals {
             signals: Vec::new(alloc),
         }
+    }
+
+    /// How many there are.
+    pub fn len(&self) -> u64
+        ensures { result ≡ length self.now }
+    {
+        self.signals.len() as u64
     }
 
     pub fn as_slice(&self) -> &[Signal]

@@ -30,13 +30,16 @@ address of each invite, and that the call is over.
 The journal is two files of the folder where it runs, journal.a and journal.b.
 They are made where they are missing. Each entry is kept there, and synced,
 before it counts; a later run goes on from the state that they have. No other
-file is read or written. Statuses 2, 3, 13 and 14 leave them alone, and 8 and 9
+file is read or written. Statuses 2, 3, 5, 13 and 14 leave them alone, and 8 and 9
 leave them as they are.
 
 Statuses, printed last but by --help and --version, and the exit status:
   0 ok             all lines were taken, and no choice is left
   2 bad-words      the words are of no form, or a number is out of range
   3 read-fault     standard input failed
+  5 bad-signals LINE KIND
+                   this line, from 1, is the first that is of no form: long,
+                   control, utf8, empty, verb, count, name, number, field, escape
   6 (none)         standard output failed; a front of the text is out
   7 disk-fault     a file of the journal failed; what it has, show tells
   8 bad-journal SIDE AT KIND
@@ -52,7 +55,7 @@ Statuses, printed last but by --help and --version, and the exit status:
   12 no-memory     memory ran out
   13 too-large signals
                    standard input gave more than 16777216 bytes
-  14 not-built     the words ask what isn't built yet, or a line is of no form
+  14 not-built     the words ask what isn't built yet, or a line does
 
 example:
   printf 'start c1\\nfire c1 invite addr=tel:5551\\nend c1\\n' | slee play 1 100

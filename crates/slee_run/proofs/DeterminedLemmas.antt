@@ -1,7 +1,9 @@
 -- Words and bytes determine a run.
-use Rattle.std.proofs.Common.{◌≡◌, ◌≢◌, ◌⊎◌, inl, inr, ℕ, ◌+◌, ◌<◌, ◌≤◌, ◌==◌, Bool, true, false, List, [], ◌∷◌, ◌++◌, length, length-append, refl, sym, ◌∙◌, ap, subst, arith, append-nil, Option, Some, None, MatchOption, is_some}
+use Rattle.std.proofs.Common.{◌≡◌, ◌≢◌, ◌⊎◌, inl, inr, ℕ, ◌+◌, ◌<◌, ◌≤◌, ◌==◌, Bool, true, false, List, [], ◌∷◌, ◌++◌, length, length-append, refl, sym, ◌∙◌, ap, subst, arith, append-nil, Option, Ok, Err, Some, None, MatchOption, is_some}
 use Rattle.std.proofs.lemmas.Bool.{cases_eq}
 use Rattle.signal_script.specs.Signals.{signals_of}
+use Rattle.signal_script.specs.declared.fault.SignalBad.{SignalBad}
+use Rattle.signal_script.specs.declared.fault.SignalFault.TheVariants as line_faults
 use Rattle.signal_script.specs.declared.signal.Signal.{Signal}
 use Rattle.trace_history.specs.Histories.{inputs_of}
 use Rattle.trace_history.specs.declared.entry.Entry.{Entry}
@@ -9,7 +11,7 @@ use Rattle.router_model.specs.State.{Parts, is_used_up}
 use Rattle.router_rules.specs.History.{replay, due}
 use Rattle.slee_run.specs.Words.{command_of}
 use Rattle.slee_run.specs.Text.{output_text, shown_text}
-use Rattle.slee_run.specs.Headline.{signals_limit, lines_given, Plays, Shows, AsksLater, IsDoneOn, IsSpentOn, EndsOn, IsRefused, IsShownAt, IsHistory, IsRun, IsByFault}
+use Rattle.slee_run.specs.Headline.{HasUntakenLine, signals_limit, lines_given, Plays, Shows, AsksLater, IsDoneOn, IsSpentOn, EndsOn, IsRefused, IsShownAt, IsHistory, IsRun, IsByFault}
 use Rattle.slee_run.specs.declared.command.Command.{Command}
 use Rattle.slee_run.specs.declared.command.Command.TheVariants as commands
 use Rattle.slee_run.specs.declared.status.Given.TheVariants as givens
@@ -58,6 +60,7 @@ led base steps lines history (statuses.OtherDeployment kept_len place) ends fine
 led base steps lines history (statuses.Full size adding) ends fine = absurd (fine tt)
 led base steps lines history (statuses.StepsSpent entries) ends fine = Spent entries refl ends.0 ends.1
 led base steps lines history statuses.NoMemory ends fine = absurd (fine tt)
+led base steps lines history (statuses.BadSignals line kind) ends fine = absurd ends
 led base steps lines history (statuses.TooLarge what) ends fine = absurd ends
 led base steps lines history statuses.NotBuilt ends fine = absurd ends
 
@@ -72,7 +75,8 @@ on_lines base steps lines h k s t (Spent m is count a) (Spent n also other b) =
 -- a status that bytes without lines lead to
 data Barred (bytes : List ℕ) (status : Status) : Type 0 where
   Long : status ≡ statuses.TooLarge givens.Signals → signals_limit < length bytes → Barred bytes status
-  Other : status ≡ statuses.NotBuilt → length bytes ≤ signals_limit → Barred bytes status
+  Bad : (line : ℕ) (kind : SignalBad) → status ≡ statuses.BadSignals line kind → length bytes ≤ signals_limit → signals_of bytes ≡ Err (line_faults.At line kind) → Barred bytes status
+  Other : status ≡ statuses.NotBuilt → length bytes ≤ signals_limit → HasUntakenLine bytes → Barred bytes status
 
 barred : (bytes : List ℕ) (status : Status) → IsRefused bytes status → (IsByFault status → ⊥) → Barred bytes status
 barred bytes statuses.Ok refused fine = absurd refused
@@ -85,14 +89,26 @@ barred bytes (statuses.OtherDeployment kept_len place) refused fine = absurd ref
 barred bytes (statuses.Full size adding) refused fine = absurd refused
 barred bytes (statuses.StepsSpent entries) refused fine = absurd refused
 barred bytes statuses.NoMemory refused fine = absurd (fine tt)
+barred bytes (statuses.BadSignals line kind) refused fine = Bad line kind refl refused.0 refused.1
 barred bytes (statuses.TooLarge what) refused fine = Long (ap statuses.TooLarge refused.0) refused.1
-barred bytes statuses.NotBuilt refused fine = Other refl refused.0
+barred bytes statuses.NotBuilt refused fine = Other refl refused.0 refused.1
 
 one_refusal : (bytes : List ℕ) (s t : Status) → Barred bytes s → Barred bytes t → s ≡ t
 one_refusal bytes s t (Long is more) (Long also much) = is ∙ sym also
-one_refusal bytes s t (Long is more) (Other also few) = absurd (omega (arith, more, few))
-one_refusal bytes s t (Other is few) (Long also more) = absurd (omega (arith, more, few))
-one_refusal bytes s t (Other is few) (Other also less) = is ∙ sym also
+one_refusal bytes s t (Long is more) (Bad line kind also few bad) = absurd (omega (arith, more, few))
+one_refusal bytes s t (Long is more) (Other also few good) = absurd (omega (arith, more, few))
+one_refusal bytes s t (Bad line kind is few bad) (Long also more) = absurd (omega (arith, more, few))
+one_refusal bytes s t (Bad line kind is few bad) (Bad other that also less worse) =
+    let same : line_faults.At line kind ≡ line_faults.At other that = cc in
+    let lines : line ≡ other = cc in
+    let kinds : kind ≡ that = cc in
+    is ∙ ap (λ (n : ℕ). statuses.BadSignals n kind) lines ∙ ap (λ (k : SignalBad). statuses.BadSignals other k) kinds ∙ sym also
+one_refusal bytes s t (Bad line kind is few bad) (Other also less good) =
+    let never : Err (line_faults.At line kind) ≡ Ok good.lines = sym bad ∙ good.read in cc
+one_refusal bytes s t (Other is few good) (Long also more) = absurd (omega (arith, more, few))
+one_refusal bytes s t (Other is few good) (Bad line kind also less bad) =
+    let never : Err (line_faults.At line kind) ≡ Ok good.lines = sym bad ∙ good.read in cc
+one_refusal bytes s t (Other is few good) (Other also less fine) = is ∙ sym also
 
 on_given : (base : Parts) (steps : ℕ) (bytes : List ℕ) (given : Option (List Signal)) (h k : List Entry) (s t : Status)
     → MatchOption given ((h ≡ []) × IsRefused bytes s) (λ lines. EndsOn base steps lines h s) → MatchOption given ((k ≡ []) × IsRefused bytes t) (λ lines. EndsOn base steps lines k t)
@@ -111,6 +127,7 @@ shown (statuses.OtherDeployment kept_len place) at fine = absurd (fine tt)
 shown (statuses.Full size adding) at fine = absurd at
 shown (statuses.StepsSpent entries) at fine = absurd at
 shown statuses.NoMemory at fine = absurd (fine tt)
+shown (statuses.BadSignals line kind) at fine = absurd at
 shown (statuses.TooLarge what) at fine = absurd at
 shown statuses.NotBuilt at fine = absurd at
 

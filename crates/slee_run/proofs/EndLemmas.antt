@@ -1,9 +1,13 @@
 -- How playing ends, as a status of a run.
 use Rattle.std.proofs.Common.{◌≡◌, ◌≢◌, ◌⊎◌, inl, inr, ℕ, zero, suc, ◌+◌, ◌-◌, ◌<◌, ◌≤◌, nat_le, Bool, true, false, if◌then◌else◌, List, [], ◌∷◌, ◌++◌, length, refl, sym, ◌∙◌, ap, subst, append-nil, Option, Some, None, Result, Ok, Err, IsErr, IfSome, MatchOption, is_some, OnOk, OnErr, arith}
-use Rattle.std.proofs.lemmas.Bool.{cases_Bool}
+use Rattle.std.proofs.lemmas.Bool.{cases_Bool, le-leb}
 use Rattle.std.proofs.lemmas.Bool.Decides.{nat_tests}
 use Rattle.std.specs.Io.KnownBytes.{Appends}
 use Rattle.signal_script.specs.Signals.{signals_of}
+use Rattle.signal_script.specs.declared.fault.SignalBad.{SignalBad}
+use Rattle.signal_script.specs.declared.fault.SignalFault.TheVariants as line_faults
+use Rattle.router_rules.specs.Taking.{is_routed}
+use Rattle.std.specs.List.{list_all}
 use Rattle.signal_script.specs.declared.signal.Signal.{Signal}
 use Rattle.slee_disk.specs.Writes.{AppendsFront, Writes}
 use Rattle.trace_history.specs.Histories.{inputs_of}
@@ -72,3 +76,24 @@ written contents faults old new text (Err e) stood status w fine bad = record {
   whole = λ up. absurd (up bad);
   front = λ is. w.err;
 }
+
+-- ---- bytes
+
+-- bytes within the limit give the lines that are read of them, where the router takes each
+pub taken_given : (bytes : List ℕ) (lines : List Signal) → length bytes ≤ signals_limit → signals_of bytes ≡ Ok lines → list_all is_routed lines ≡ true
+    → lines_given bytes ≡ Some lines
+taken_given bytes lines short read taken = rw (le-leb (length bytes) signals_limit short, read, taken)
+
+-- where it doesn't, the status is that
+pub untaken_given : (base : Parts) (steps : ℕ) (bytes : List ℕ) (lines : List Signal) → length bytes ≤ signals_limit → signals_of bytes ≡ Ok lines → list_all is_routed lines ≡ false
+    → ComesOn base steps bytes [] statuses.NotBuilt
+untaken_given base steps bytes lines short read not_taken =
+    let none : lines_given bytes ≡ None = rw (le-leb (length bytes) signals_limit short, read, not_taken) in
+    rw none (refl, (short, record { lines = lines; read = read; some = not_taken }))
+
+-- and where a line is bad, it is told
+pub bad_given : (base : Parts) (steps : ℕ) (bytes : List ℕ) (line : ℕ) (kind : SignalBad) → length bytes ≤ signals_limit → signals_of bytes ≡ Err (line_faults.At line kind)
+    → ComesOn base steps bytes [] (statuses.BadSignals line kind)
+bad_given base steps bytes line kind short bad =
+    let none : lines_given bytes ≡ None = rw (le-leb (length bytes) signals_limit short, bad) in
+    rw none (refl, (short, bad))

@@ -82,6 +82,7 @@ early_answer bytes (statuses.OtherDeployment kept_len place) early = absurd earl
 early_answer bytes (statuses.Full size adding) early = absurd early
 early_answer bytes (statuses.StepsSpent entries) early = absurd early
 early_answer bytes statuses.NoMemory early = tt
+early_answer bytes (statuses.BadSignals line kind) early = tt
 early_answer bytes (statuses.TooLarge what) early = tt
 early_answer bytes statuses.NotBuilt early = tt
 
@@ -96,6 +97,7 @@ early_untouched d (statuses.OtherDeployment kept_len place) early = absurd early
 early_untouched d (statuses.Full size adding) early = absurd early
 early_untouched d (statuses.StepsSpent entries) early = absurd early
 early_untouched d statuses.NoMemory early = tt
+early_untouched d (statuses.BadSignals line kind) early = still d
 early_untouched d (statuses.TooLarge what) early = still d
 early_untouched d statuses.NotBuilt early = still d
 

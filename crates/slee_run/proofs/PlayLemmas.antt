@@ -4,7 +4,7 @@ use Rattle.std.proofs.lemmas.Bool.{and_parts, and_from, not_from_false}
 use Rattle.std.proofs.lemmas.List.{drop_all, take_rest}
 use Rattle.std.specs.List.{list_all}
 use Rattle.std.specs.Option.{option_map_or}
-use Rattle.signal_script.specs.Signals.{is_signal}
+use Rattle.router_rules.specs.Taking.{is_input}
 use Rattle.signal_script.specs.declared.signal.Signal.{Signal}
 use Rattle.trace_history.specs.Histories.{choices_of, input_of}
 use Rattle.trace_history.specs.declared.choice.Choice.{Choice}
@@ -63,15 +63,15 @@ own_due s lines c own = record {
   next = own.next;
 }
 
-line_due : (s : Parts) (lines more : List Signal) (c : Choice) → list_all is_signal lines ≡ true → line_choice lines ≡ Some (c, more) → IsDue s lines c
+line_due : (s : Parts) (lines more : List Signal) (c : Choice) → list_all is_input lines ≡ true → line_choice lines ≡ Some (c, more) → IsDue s lines c
 line_due s [] more c valid is = cc
 line_due s (line ∷ lines) more c valid is =
     let pair : (Input line, lines) ≡ (c, more) = cc in
     let same : Input line ≡ c = ap (λ (p : Choice × List Signal). p.0) pair in
     subst (λ (c : Choice). IsDue s (line ∷ lines) c) same
-    (record { takes = refl; most = omega arith; valid = (and_parts (is_signal line) (list_all is_signal lines) valid).0; next = refl })
+    (record { takes = refl; most = omega arith; valid = (and_parts (is_input line) (list_all is_input lines) valid).0; next = refl })
 
-due_is : (s : Parts) (lines more : List Signal) (o : Option Choice) (c : Choice) → least_choice s ≡ o → list_all is_signal lines ≡ true
+due_is : (s : Parts) (lines more : List Signal) (o : Option Choice) (c : Choice) → least_choice s ≡ o → list_all is_input lines ≡ true
     → due_next o lines ≡ Some (c, more) → IsDue s lines c
 due_is s lines more None c least valid is = line_due s lines more c valid is
 due_is s lines more (Some own) c least valid is =
@@ -79,10 +79,10 @@ due_is s lines more (Some own) c least valid is =
     let same : own ≡ c = ap (λ (p : Choice × List Signal). p.0) pair in
     own_due s lines c (subst (λ (c : Choice). IsOwn s c) same (least_own s (least_waiting s.events) own least))
 
-all_dropped : (n : ℕ) (lines : List Signal) → list_all is_signal lines ≡ true → list_all is_signal (drop n lines) ≡ true
-all_dropped n [] valid = ap (list_all is_signal) (drop_all n [] (omega arith))
+all_dropped : (n : ℕ) (lines : List Signal) → list_all is_input lines ≡ true → list_all is_input (drop n lines) ≡ true
+all_dropped n [] valid = ap (list_all is_input) (drop_all n [] (omega arith))
 all_dropped zero (line ∷ lines) valid = valid
-all_dropped (suc n) (line ∷ lines) valid = all_dropped n lines (and_parts (is_signal line) (list_all is_signal lines) valid).1
+all_dropped (suc n) (line ∷ lines) valid = all_dropped n lines (and_parts (is_input line) (list_all is_input lines) valid).1
 
 -- a step more: the run so far, and how many lines were taken
 pub record IsStepped (base : Parts) (steps : ℕ) (lines : List Signal) (history : List Entry) (s : Parts) (taken : ℕ) : Type 0 where
@@ -91,7 +91,7 @@ pub record IsStepped (base : Parts) (steps : ℕ) (lines : List Signal) (history
   pub within : taken ≤ length lines
 
 pub stepped : (base : Parts) (steps : ℕ) (lines : List Signal) (h new : List Entry) (s t : Parts) (taken : ℕ) (c : Choice)
-    → IsStepped base steps lines h s taken → list_all is_signal lines ≡ true → is_used_up s ≡ false → (length h ≡ steps → ⊥)
+    → IsStepped base steps lines h s taken → list_all is_input lines ≡ true → is_used_up s ≡ false → (length h ≡ steps → ⊥)
     → due_next (least_choice s) (drop taken lines) ≡ Some (c, drop (length (input_of c)) (drop taken lines))
     → t ≡ after s c → new ≡ h ++ step_entry s c ∷ []
     → IsStepped base steps lines new t (taken + length (input_of c))
@@ -146,7 +146,7 @@ grown_size o h e = omega (
 pub record IsUnderWay {D : Type 0} (first v : View D) : Type 0 where
   pub same : v.setup ≡ first.setup
   pub stepped : IsStepped (base_of v.setup.origin) v.setup.steps v.setup.lines v.history v.state v.taken
-  pub valid : list_all is_signal v.setup.lines ≡ true
+  pub valid : list_all is_input v.setup.lines ≡ true
   pub live : v.stop ≡ None
   pub free : v.claims ≡ []
   pub acked : v.acked ≡ length v.history
@@ -154,7 +154,7 @@ pub record IsUnderWay {D : Type 0} (first v : View D) : Type 0 where
 
 -- nothing was played
 pub begun : {D : Type 0} (v : View D) → v.history ≡ [] → v.state ≡ base_of v.setup.origin → v.taken ≡ 0 → v.acked ≡ 0 → v.claims ≡ [] → v.stop ≡ None
-    → list_all is_signal v.setup.lines ≡ true → IsUnderWay v v
+    → list_all is_input v.setup.lines ≡ true → IsUnderWay v v
 begun v none first untaken unacked free live valid = record {
   same = refl;
   stepped = subst (λ (n : ℕ). IsStepped (base_of v.setup.origin) v.setup.steps v.setup.lines v.history v.state n) (sym untaken)
@@ -190,7 +190,7 @@ module _ {D : Type 0} (first v w : View D) (way : IsUnderWay first v) (same : w.
   goes_on a = record {
     same = same ∙ way.same;
     stepped = subst (λ (u : Setup). IsStepped (base_of u.origin) u.steps u.lines w.history w.state w.taken) (sym same) (on a.0 a.1 a.2);
-    valid = subst (λ (u : Setup). list_all is_signal u.lines ≡ true) (sym same) way.valid;
+    valid = subst (λ (u : Setup). list_all is_input u.lines ≡ true) (sym same) way.valid;
     live = a.4;
     free = a.5;
     acked = a.3;

@@ -147,6 +147,7 @@ good base steps lines history bytes (statuses.OtherDeployment kept_len place) co
 good base steps lines history bytes (statuses.Full size adding) comes ok answer reads keeps = tt
 good base steps lines history bytes (statuses.StepsSpent entries) comes ok answer reads keeps = tt
 good base steps lines history bytes statuses.NoMemory comes ok answer reads keeps = tt
+good base steps lines history bytes (statuses.BadSignals line kind) comes ok answer reads keeps = absurd comes
 good base steps lines history bytes (statuses.TooLarge what) comes ok answer reads keeps = absurd comes
 good base steps lines history bytes statuses.NotBuilt comes ok answer reads keeps = absurd comes
 
@@ -178,6 +179,7 @@ shown_or bytes (statuses.OtherDeployment kept_len place) comes ok answer keeps =
 shown_or bytes (statuses.Full size adding) comes ok answer keeps = absurd comes
 shown_or bytes (statuses.StepsSpent entries) comes ok answer keeps = absurd comes
 shown_or bytes statuses.NoMemory comes ok answer keeps = inr refl
+shown_or bytes (statuses.BadSignals line kind) comes ok answer keeps = absurd comes
 shown_or bytes (statuses.TooLarge what) comes ok answer keeps = absurd comes
 shown_or bytes statuses.NotBuilt comes ok answer keeps = absurd comes
 

@@ -56,6 +56,7 @@ IsEarly (statuses.OtherDeployment kept_len place) = ⊥
 IsEarly (statuses.Full size adding) = ⊥
 IsEarly (statuses.StepsSpent entries) = ⊥
 IsEarly statuses.NoMemory = Unit {0}
+IsEarly (statuses.BadSignals line kind) = Unit {0}
 IsEarly (statuses.TooLarge what) = Unit {0}
 IsEarly statuses.NotBuilt = Unit {0}
 

@@ -1,9 +1,13 @@
 -- What a run is: a legal history of the signal lines, its text, and a status with its cause.
-use Rattle.std.specs.Prelude.{◌≡◌, ◌≢◌, ◌⊎◌, ℕ, ◌+◌, ◌<◌, ◌≤◌, nat_le, Bool, true, false, IsTrue, IsOk, if◌then◌else◌, is_some, List, [], ◌++◌, length, Some, None, IfSome, MatchOption}
+use Rattle.std.specs.Prelude.{◌≡◌, ◌≢◌, ◌⊎◌, ℕ, ◌+◌, ◌<◌, ◌≤◌, nat_le, Bool, true, false, IsTrue, IsOk, if◌then◌else◌, is_some, List, [], ◌++◌, length, Ok, Err, Some, None, IfSome, MatchOption}
 use mathlib.Core.List.{IsPrefix}
 use Rattle.std.specs.Io.KnownBytes.{Appends}
+use Rattle.std.specs.List.{list_all}
 use Rattle.std.specs.declared.option.Option.{Option}
+use Rattle.std.specs.declared.result.Result.{Result}
 use Rattle.signal_script.specs.Signals.{signals_of}
+use Rattle.signal_script.specs.declared.fault.SignalFault.{SignalFault}
+use Rattle.signal_script.specs.declared.fault.SignalFault.TheVariants as line_faults
 use Rattle.signal_script.specs.declared.signal.Signal.{Signal}
 use Rattle.slee_disk.specs.Disk.{DiskState}
 use Rattle.slee_disk.specs.Writes.{AppendsFront}
@@ -13,6 +17,7 @@ use Rattle.trace_history.specs.declared.entry.Entry.{Entry}
 use Rattle.router_model.specs.State.{Parts, is_used_up}
 use Rattle.router_rules.specs.History.{Legal, replay, due, solo}
 use Rattle.router_rules.specs.Payload.{payload}
+use Rattle.router_rules.specs.Taking.{is_routed}
 use Rattle.slee_run.specs.Words.{command_of}
 use Rattle.slee_run.specs.Status.{status_line}
 use Rattle.slee_run.specs.Text.{output_text, shown_text}
@@ -43,9 +48,14 @@ pub record AsksLater (words : List (List ℕ)) : Type 0 where
   pub no_play : (steps : ℕ) → command ≢ commands.Play 1 steps
   pub no_show : command ≢ commands.Show
 
--- the signals that bytes give, if they are within the limit and lines of the grammar
+-- the signals of lines, if the router takes each
+abbrev pub inputs_of_lines : Result (List Signal) SignalFault → Option (List Signal)
+inputs_of_lines (Ok lines) = if list_all is_routed lines then Some lines else None
+inputs_of_lines (Err fault) = None
+
+-- the signals that bytes give, if they are within the limit and lines that the router takes
 abbrev pub lines_given : List ℕ → Option (List Signal)
-lines_given bytes = if nat_le (length bytes) signals_limit then signals_of bytes else None
+lines_given bytes = if nat_le (length bytes) signals_limit then inputs_of_lines (signals_of bytes) else None
 
 -- the run of one worker on these lines, or a front of it
 pub record IsFrontOn (base : Parts) (steps : ℕ) (lines : List Signal) (history : List Entry) : Type 0 where
@@ -97,8 +107,15 @@ EndsOn base steps lines history (statuses.OtherDeployment kept_len place) = hist
 EndsOn base steps lines history (statuses.Full size adding) = IsFullOn base steps lines history size adding
 EndsOn base steps lines history (statuses.StepsSpent entries) = (entries ≡ length history) × IsSpentOn base steps lines history
 EndsOn base steps lines history statuses.NoMemory = IsFrontOn base steps lines history
+EndsOn base steps lines history (statuses.BadSignals line kind) = ⊥
 EndsOn base steps lines history (statuses.TooLarge what) = ⊥
 EndsOn base steps lines history statuses.NotBuilt = ⊥
+
+-- the bytes are lines of the grammar, and the router doesn't take each of them yet
+pub record HasUntakenLine (bytes : List ℕ) : Type 0 where
+  pub lines : List Signal
+  pub read : signals_of bytes ≡ Ok lines
+  pub some : list_all is_routed lines ≡ false
 
 -- when bytes that give no lines come to a status
 abbrev pub IsRefused : List ℕ → Status → Type 0
@@ -112,8 +129,9 @@ IsRefused bytes (statuses.OtherDeployment kept_len place) = ⊥
 IsRefused bytes (statuses.Full size adding) = ⊥
 IsRefused bytes (statuses.StepsSpent entries) = ⊥
 IsRefused bytes statuses.NoMemory = Unit {0}
+IsRefused bytes (statuses.BadSignals line kind) = (length bytes ≤ signals_limit) × (signals_of bytes ≡ Err (line_faults.At line kind))
 IsRefused bytes (statuses.TooLarge what) = (what ≡ givens.Signals) × (signals_limit < length bytes)
-IsRefused bytes statuses.NotBuilt = (length bytes ≤ signals_limit) × (signals_of bytes ≡ None)
+IsRefused bytes statuses.NotBuilt = (length bytes ≤ signals_limit) × HasUntakenLine bytes
 
 -- When a run on these bytes, in so many entries at most, comes to a status, and what its history is then.
 abbrev pub ComesOn : Parts → ℕ → List ℕ → List Entry → Status → Type 0
@@ -132,6 +150,7 @@ IsShownAt (statuses.OtherDeployment kept_len place) = Unit {0}
 IsShownAt (statuses.Full size adding) = ⊥
 IsShownAt (statuses.StepsSpent entries) = ⊥
 IsShownAt statuses.NoMemory = Unit {0}
+IsShownAt (statuses.BadSignals line kind) = ⊥
 IsShownAt (statuses.TooLarge what) = ⊥
 IsShownAt statuses.NotBuilt = ⊥
 
@@ -198,6 +217,7 @@ IsGood (statuses.OtherDeployment kept_len place) = ⊥
 IsGood (statuses.Full size adding) = Unit {0}
 IsGood (statuses.StepsSpent entries) = Unit {0}
 IsGood statuses.NoMemory = Unit {0}
+IsGood (statuses.BadSignals line kind) = ⊥
 IsGood (statuses.TooLarge what) = ⊥
 IsGood statuses.NotBuilt = ⊥
 
@@ -225,5 +245,6 @@ IsByFault (statuses.OtherDeployment kept_len place) = Unit {0}
 IsByFault (statuses.Full size adding) = Unit {0}
 IsByFault (statuses.StepsSpent entries) = ⊥
 IsByFault statuses.NoMemory = Unit {0}
+IsByFault (statuses.BadSignals line kind) = ⊥
 IsByFault (statuses.TooLarge what) = ⊥
 IsByFault statuses.NotBuilt = ⊥

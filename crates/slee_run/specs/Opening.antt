@@ -33,6 +33,7 @@ IsAnswerTo bytes (statuses.OtherDeployment kept_len place) = bytes ≡ Err (Othe
 IsAnswerTo bytes (statuses.Full size adding) = IsOk bytes
 IsAnswerTo bytes (statuses.StepsSpent entries) = IsOk bytes
 IsAnswerTo bytes statuses.NoMemory = Unit {0}
+IsAnswerTo bytes (statuses.BadSignals line kind) = Unit {0}
 IsAnswerTo bytes (statuses.TooLarge what) = Unit {0}
 IsAnswerTo bytes statuses.NotBuilt = Unit {0}
 
@@ -54,6 +55,7 @@ IsUntouchedAt (statuses.OtherDeployment kept_len place) old new = IsUntouched ol
 IsUntouchedAt (statuses.Full size adding) old new = Unit {0}
 IsUntouchedAt (statuses.StepsSpent entries) old new = Unit {0}
 IsUntouchedAt statuses.NoMemory old new = Unit {0}
+IsUntouchedAt (statuses.BadSignals line kind) old new = IsUntouched old new
 IsUntouchedAt (statuses.TooLarge what) old new = IsUntouched old new
 IsUntouchedAt statuses.NotBuilt old new = IsUntouched old new
 
@@ -69,5 +71,6 @@ IsBeforeOpening (statuses.OtherDeployment kept_len place) = ⊥
 IsBeforeOpening (statuses.Full size adding) = ⊥
 IsBeforeOpening (statuses.StepsSpent entries) = ⊥
 IsBeforeOpening statuses.NoMemory = ⊥
+IsBeforeOpening (statuses.BadSignals line kind) = Unit {0}
 IsBeforeOpening (statuses.TooLarge what) = Unit {0}
 IsBeforeOpening statuses.NotBuilt = Unit {0}

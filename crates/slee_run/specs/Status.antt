@@ -4,6 +4,7 @@ use Rattle.slee_disk.specs.declared.side.Side.{Side}
 use Rattle.slee_disk.specs.Sides.{side_word}
 use Rattle.commit_journal.specs.declared.fault.JournalBad.{JournalBad}
 use Rattle.commit_journal.specs.Words.{kind_word}
+use Rattle.signal_script.specs.Words.{bad_word}
 use Rattle.slee_run.specs.declared.status.Given.{Given}
 use Rattle.slee_run.specs.declared.status.Given.TheVariants as givens
 use Rattle.slee_run.specs.declared.status.Status.{Status}
@@ -21,6 +22,7 @@ code_of (statuses.OtherDeployment kept_len place) = 9
 code_of (statuses.Full size adding) = 10
 code_of (statuses.StepsSpent entries) = 11
 code_of statuses.NoMemory = 12
+code_of (statuses.BadSignals line kind) = 5
 code_of (statuses.TooLarge what) = 13
 code_of statuses.NotBuilt = 14
 
@@ -49,5 +51,6 @@ status_line (statuses.OtherDeployment kept_len place) = codes "status 9 other-de
 status_line (statuses.Full size adding) = codes "status 10 full " ++ pair_text size adding
 status_line (statuses.StepsSpent entries) = codes "status 11 steps-spent " ++ (decimal entries ++ codes "\n")
 status_line statuses.NoMemory = codes "status 12 no-memory\n"
+status_line (statuses.BadSignals line kind) = codes "status 5 bad-signals " ++ (decimal line ++ (codes " " ++ (bad_word kind ++ codes "\n")))
 status_line (statuses.TooLarge what) = codes "status 13 too-large " ++ (given_word what ++ codes "\n")
 status_line statuses.NotBuilt = codes "status 14 not-built\n"

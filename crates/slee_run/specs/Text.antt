@@ -24,5 +24,6 @@ shown_text state (statuses.OtherDeployment kept_len place) = status_line (status
 shown_text state (statuses.Full size adding) = status_line (statuses.Full size adding)
 shown_text state (statuses.StepsSpent entries) = status_line (statuses.StepsSpent entries)
 shown_text state statuses.NoMemory = status_line statuses.NoMemory
+shown_text state (statuses.BadSignals line kind) = status_line (statuses.BadSignals line kind)
 shown_text state (statuses.TooLarge what) = status_line (statuses.TooLarge what)
 shown_text state statuses.NotBuilt = status_line statuses.NotBuilt

@@ -1,7 +1,7 @@
 //! Playing what a container has to do, a step at a time.
 ghost use Rattle.std.specs.Prelude.{◌≡◌, ◌≤◌, ◌+◌, [], None, Some, IsTrue, length};
 ghost use Rattle.std.specs.List.{list_all};
-ghost use Rattle.signal_script.specs.Signals.{is_signal};
+ghost use Rattle.router_rules.specs.Taking.{is_input};
 ghost use Rattle.router_rules.specs.Selection.{next};
 ghost use Rattle.router_rules.specs.Step.{choice_on};
 ghost use Rattle.slee_container.specs.Facts.{base_of};
@@ -37,7 +37,7 @@ pub fn play<'d, D: Disk>(container: &mut Container<'d, D>) -> End
     requires acked { container.old.acked ≡ 0 }
     requires claims { container.old.claims ≡ [] }
     requires live { container.old.stop ≡ None }
-    requires valid { IsTrue (list_all is_signal container.old.setup.lines) }
+    requires valid { IsTrue (list_all is_input container.old.setup.lines) }
     ensures setup { container.new.setup ≡ container.old.setup }
     ensures played { IsPlayed container.old.setup.journal (base_of container.old.setup.origin) container.old.setup.steps container.old.setup.lines container.new.history result }
     ensures stop { container.new.stop ≡ stop_of result }

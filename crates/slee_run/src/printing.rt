@@ -4,12 +4,14 @@ ghost use Rattle.slee_disk.specs.Writes.{Writes};
 ghost use Rattle.trace_history.specs.Trace.{trace_text, trace_from, entry_text, line_text, line_texts};
 ghost use Rattle.slee_disk.specs.Sides.{side_word};
 ghost use Rattle.commit_journal.specs.Words.{kind_word};
+ghost use Rattle.signal_script.specs.Words.{bad_word};
 ghost use Rattle.slee_run.specs.Status.{status_line, given_word, pair_text, place_text};
 ghost use Rattle.slee_run.specs.Text.{output_text};
 
 use crate::{Given, Status};
 use commit_journal::JournalBad;
 use itoa::Buffer;
+use signal_script::SignalBad;
 use slee_disk::{Failed, Side, Sink, write_whole};
 use slee_value::{NoMemory, Text};
 use std::alloc::Global;
@@ -125,6 +127,7 @@ pub fn write_status<K: Sink>(out: &mut K, status: Status) -> Result<(), Failed>
         Status::Ok => write_whole(out, b"status 0 ok\n"),
         Status::BadWords => write_whole(out, b"status 2 bad-words\n"),
         Status::ReadFault => write_whole(out, b"status 3 read-fault\n"),
+        Status::BadSignals { line, kind } => write_bad_signals(out, line, kind),
         Status::WriteFault => write_whole(out, b""),
         Status::DiskFault => write_whole(out, b"status 7 disk-fault\n"),
         Status::BadJournal { side, at, kind } => write_bad_journal(out, side, at, kind),
@@ -143,6 +146,22 @@ pub fn write_status<K: Sink>(out: &mut K, status: Status) -> Result<(), Failed>
         } => { write_whole(out, b"status 13 too-large signals\n") }
         Status::NotBuilt => write_whole(out, b"status 14 not-built\n"),
     }
+}
+
+fn write_bad_signals<K: Sink>(out: &mut K, line: u64, kind: SignalBad) -> Result<(), Failed>
+    ensures { Writes K.contents K.faults out.old out.new (status_line (Status.BadSignals line kind)) result }
+{
+    write_whole(out, b"status 5 bad-signals ")?;
+    write_number(out, line)?;
+    write_whole(out, b" ")?;
+    write_bad(out, kind)?;
+    write_whole(out, b"\n")
+}
+
+fn write_bad<K: Sink>(out: &mut K, kind: SignalBad) -> Result<(), Failed>
+    ensures { Writes K.contents K.faults out.old out.new (bad_word kind) result }
+{
+    write_whole(out, kind.word().as_bytes())
 }
 
 fn write_bad_journal<K: Sink>(

@@ -1,5 +1,6 @@
 //! Reading the signal lines of a run.
-ghost use Rattle.std.specs.Prelude.{◌≡◌, ◌≢◌, ◌≤◌, ◌+◌, ℕ, [], Some, None, IfOk, IfErr, IfSome, OnOk, length};
+ghost use Rattle.std.specs.Prelude.{◌≡◌, ◌≢◌, ◌≤◌, ◌+◌, ℕ, [], Some, None, IfOk, IfErr, IfSome, OnOk, Ok, length};
+ghost use Rattle.signal_script.specs.Signals.{signals_of};
 ghost use Rattle.std.specs.Io.KnownBytes.{IsAtEnd};
 ghost use Rattle.slee_disk.specs.Causes.{Rose};
 ghost use Rattle.slee_disk.specs.Taken.{ConsumesSome};
@@ -8,6 +9,7 @@ ghost use Rattle.slee_run.specs.Headline.{ComesOn, lines_given, signals_limit};
 ghost use Rattle.slee_run.specs.Answers.{IsEarly};
 
 use crate::{Given, Status};
+use router_core::Inputs;
 use signal_script::{SignalFault, Signals, read_signals};
 use slee_disk::{ReadFault, Source, read_whole};
 use std::alloc::Global;
@@ -16,7 +18,7 @@ use std::alloc::Global;
 const SIGNALS_LIMIT: usize = 16_777_216;
 
 /// Reads all lines of a source, or answers the status of the refusal.
-pub fn read_lines<T: Source>(alloc: Global, signals: &mut T) -> Result<Signals, Status>
+pub fn read_lines<T: Source>(alloc: Global, signals: &mut T) -> Result<Inputs, Status>
     ensures lines { IfOk result (λ lines. IfSome (T.left signals.old) (λ bytes. lines_given bytes ≡ Some lines)) }
     ensures refused { IfErr result (λ status. IfSome (T.left signals.old) (λ bytes. (base : Parts) → (steps : ℕ) → ComesOn base steps bytes [] status)) }
     ensures early { IfErr result (λ status. IsEarly status) }
@@ -36,7 +38,8 @@ pub fn read_lines<T: Source>(alloc: Global, signals: &mut T) -> Result<Signals, 
 }
 
 /// The lines that these bytes spell.
-fn lines_of(alloc: Global, bytes: &[u8]) -> Result<Signals, Status>
+#[tactic(auto, using(crate::proofs::EndLemmas::bad_given, crate::proofs::EndLemmas::taken_given))]
+fn lines_of(alloc: Global, bytes: &[u8]) -> Result<Inputs, Status>
     requires { length bytes.now ≤ signals_limit }
     ensures lines { IfOk result (λ lines. lines_given bytes.now ≡ Some lines) }
     ensures refused { IfErr result (λ status. (base : Parts) → (steps : ℕ) → ComesOn base steps bytes.now [] status) }
@@ -44,8 +47,23 @@ fn lines_of(alloc: Global, bytes: &[u8]) -> Result<Signals, Status>
     ensures quiet { IfErr result (λ status. (status ≢ Status.BadWords) × (status ≢ Status.ReadFault) × (status ≢ Status.TooLarge Given.Signals)) }
 {
     match read_signals(alloc, bytes) {
-        Ok(lines) => Ok(lines),
-        Err(SignalFault::NotBuilt) => Err(Status::NotBuilt),
+        Ok(lines) => inputs_of(lines, bytes),
+        Err(SignalFault::At { line, kind }) => Err(Status::BadSignals { line, kind }),
         Err(SignalFault::NoMemory) => Err(Status::NoMemory),
+    }
+}
+
+/// The lines that these bytes spell, if the router takes each.
+#[tactic(auto, using(crate::proofs::EndLemmas::taken_given, crate::proofs::EndLemmas::untaken_given))]
+fn inputs_of(lines: Signals, bytes: &[u8]) -> Result<Inputs, Status>
+    requires limit { length bytes.now ≤ signals_limit }
+    requires read { signals_of bytes.now ≡ Ok lines }
+    ensures lines { IfOk result (λ lines. lines_given bytes.now ≡ Some lines) }
+    ensures refused { IfErr result (λ status. (base : Parts) → (steps : ℕ) → ComesOn base steps bytes.now [] status) }
+    ensures untaken { IfErr result (λ status. status ≡ Status.NotBuilt) }
+{
+    match Inputs::of(lines) {
+        Some(inputs) => Ok(inputs),
+        None => Err(Status::NotBuilt),
     }
 }

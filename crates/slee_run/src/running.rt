@@ -12,7 +12,7 @@ use crate::finishing::{finish, refuse};
 use crate::playing::{End, play};
 use crate::reading::read_lines;
 use crate::{Given, Status};
-use signal_script::Signals;
+use router_core::Inputs;
 use slee_container::{Container, Limits, Mode, OpenFault};
 use slee_disk::{Disk, Sink, Source};
 use std::alloc::Global;
@@ -49,7 +49,7 @@ pub fn play_source<T: Source, K: Sink, D: Disk>(
 /// Plays lines on what the disk keeps.
 fn play_lines<K: Sink, D: Disk>(
     alloc: Global,
-    lines: &Signals,
+    lines: &Inputs,
     out: &mut K,
     disk: D,
     steps: u64,

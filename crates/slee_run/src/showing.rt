@@ -9,7 +9,7 @@ ghost use Rattle.slee_run.specs.Answers.{IsShownBy, IsShownAs};
 use crate::Status;
 use crate::finishing::refuse;
 use crate::running::{JOURNAL_LIMIT, KEPT_DEPLOYMENT, status_of};
-use signal_script::Signals;
+use router_core::Inputs;
 use slee_container::{Container, Limits, Mode, OutFault};
 use slee_disk::{Disk, Sink};
 use std::alloc::Global;
@@ -21,7 +21,7 @@ pub fn show<K: Sink, D: Disk>(alloc: Global, out: &mut K, disk: D) -> (Status, D
     ensures disk { result.0 ≡ Status.DiskFault → Rose (D.disk disk).faults (D.disk result.1).faults }
     ensures late { IsBeforeOpening result.0 → ⊥ }
 {
-    let lines = Signals::new(alloc);
+    let lines = Inputs::new(alloc);
     let limits = Limits {
         journal: JOURNAL_LIMIT,
         steps: 0,

@@ -1,4 +1,5 @@
 use commit_journal::JournalBad;
+use signal_script::SignalBad;
 use slee_disk::Side;
 
 /// Of which source something is said.
@@ -17,6 +18,11 @@ pub enum Status {
     BadWords,
     /// The signals couldn't be read (later the deployment too).
     ReadFault,
+    /// This signal line, lines being counted from 1, is the first that is none of the grammar.
+    BadSignals {
+        line: u64,
+        kind: SignalBad,
+    },
     /// The text couldn't be written whole.
     WriteFault,
     /// The disk failed. What it keeps is known once it is opened again.
@@ -47,7 +53,7 @@ pub enum Status {
     TooLarge {
         what: Given,
     },
-    /// The words or the lines ask what isn't built yet.
+    /// The words ask what isn't built yet, or a line of the grammar does.
     NotBuilt,
 }
 
@@ -63,6 +69,7 @@ impl Status {
             Status::Ok => 0,
             Status::BadWords => 2,
             Status::ReadFault => 3,
+            Status::BadSignals { .. } => 5,
             Status::WriteFault => 6,
             Status::DiskFault => 7,
             Status::BadJournal { .. } => 8,

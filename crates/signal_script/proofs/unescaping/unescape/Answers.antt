@@ -1,4 +1,4 @@
-use Rattle.std.proofs.Common.{◌∙◌, ◌≡◌, sym, ap, subst, List, ℕ, length, arith}
+use Rattle.std.proofs.Common.{◌∙◌, ◌≡◌, sym, ap, List, ℕ, length, arith}
 use Rattle.std.proofs.lemmas.Bool.Decides.{nat_tests}
 use Rattle.signal_script.specs.WordText.{unescaped}
 use Rattle.signal_script.proofs.WordTextLemmas.{with_bytes, one_byte_more, made_utf8}

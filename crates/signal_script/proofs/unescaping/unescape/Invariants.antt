@@ -1,4 +1,4 @@
-use Rattle.std.proofs.Common.{◌≡◌, ◌++◌, length, option_map}
+use Rattle.std.proofs.Common.{◌≡◌, length}
 use Rattle.signal_script.specs.WordText.{unescaped}
 use Rattle.signal_script.proofs.WordTextLemmas.{with_bytes}
 use Rattle.signal_script.proofs.unescaping.unescape.Given as goal
