@@ -71,3 +71,18 @@ IsBeforeOpening (statuses.StepsSpent entries) = ⊥
 IsBeforeOpening statuses.NoMemory = ⊥
 IsBeforeOpening (statuses.TooLarge what) = Unit {0}
 IsBeforeOpening statuses.NotBuilt = Unit {0}
+
+-- statuses with which a run on good lines and an honest journal ends
+abbrev pub IsGood : Status → Type 0
+IsGood statuses.Ok = Unit {0}
+IsGood statuses.BadWords = ⊥
+IsGood statuses.ReadFault = ⊥
+IsGood statuses.WriteFault = ⊥
+IsGood statuses.DiskFault = ⊥
+IsGood (statuses.BadJournal side at kind) = ⊥
+IsGood (statuses.OtherDeployment kept_len place) = ⊥
+IsGood (statuses.Full size adding) = Unit {0}
+IsGood (statuses.StepsSpent entries) = Unit {0}
+IsGood statuses.NoMemory = Unit {0}
+IsGood (statuses.TooLarge what) = ⊥
+IsGood statuses.NotBuilt = ⊥

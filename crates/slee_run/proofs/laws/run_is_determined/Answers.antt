@@ -1,5 +1,9 @@
 use Rattle.slee_run.proofs.DeterminedLemmas.{determined}
+use Rattle.slee_run.proofs.AnswerLemmas.{opened_played}
+use Rattle.slee_run.proofs.RunLemmas.{run_of_play}
+use Rattle.slee_run.proofs.PlayLemmas.{played_closed}
+use Rattle.slee_run.proofs.TwiceLemmas.{one_history}
 use Rattle.slee_run.proofs.laws.run_is_determined.Goals as goal
 
 pub returns : goal.returns
-returns c = determined
+returns g c = determined (g.D.Disk.disk c.args.found.now) (g.D.Disk.disk c.args.one.now) (g.D.Disk.disk c.args.other.now)

@@ -67,4 +67,4 @@ returns-in-Err-begin-clause-left_alone g c =
     let ok = c.in-Ok.ensures in
     let o : Opened g.D.Disk.disk (g.D.Disk.disk c.args.disk) c.args.deployment.now j = record { opened = ok.opened; records = ok.records; named = ok.named; seen = ok.seen; looks = ok.looks; leaves = ok.any_moment; rest = ok.rest; idle = ok.empty } in
     let both = plain_of j.kept.head.snapshot j.records c.in-Ok-replay.ensures.fits in
-    λ clean w is. absurd (no_fault g.D.Disk.disk (g.D.Disk.disk c.args.disk) c.args.deployment.now j o both.0 both.1 clean w is)
+    λ told w is. absurd (no_fault g.D.Disk.disk (g.D.Disk.disk c.args.disk) c.args.deployment.now j o both.0 both.1 told w is)
