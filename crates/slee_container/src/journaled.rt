@@ -196,6 +196,7 @@ impl<'d, D: Disk> Core<'d, D> {
         ensures ok { IsOk result }
         ensures whole { self.new.acked ≡ length self.new.history }
     {
+        let _history = &self.history;
         Ok(())
     }
 

@@ -1,9 +1,10 @@
 -- Words, bytes and a journal determine a run.
 use Rattle.std.proofs.Common.{◌≡◌, ◌≢◌, ◌⊎◌, inl, inr, ⊎_elim, ℕ, ◌+◌, ◌<◌, ◌≤◌, ◌==◌, nat_le, Bool, true, false, List, [], ◌∷◌, ◌++◌, length, length-append, refl, sym, ◌∙◌, ap, subst, arith, append-nil, append_assoc, Option, Some, None, Result, Ok, Err, MatchOption, IfSome, IsTrue}
 use Rattle.std.proofs.lemmas.Bool.{cases_Bool, cases_eq, leb-true, leb-false}
+use Rattle.signal_script.specs.Signals.{signals_of}
 use Rattle.signal_script.specs.declared.signal.Signal.{Signal}
 use Rattle.slee_disk.specs.Disk.{DiskState}
-use Rattle.commit_journal.specs.Reading.{Wrong, Bad, Other}
+use Rattle.commit_journal.specs.Reading.{Wrong, Bad as WrongAt, Other as OtherFrom}
 use Rattle.commit_journal.specs.Spelling.{records_size}
 use Rattle.commit_journal.proofs.Sizes.{records_size-more}
 use Rattle.trace_history.specs.Histories.{inputs_of, choices_of}
@@ -131,8 +132,8 @@ led old base steps lines history statuses.BadWords bytes s ends one sized ok ans
 led old base steps lines history statuses.ReadFault bytes s ends one sized ok answer fine = absurd (fine tt)
 led old base steps lines history statuses.WriteFault bytes s ends one sized ok answer fine = absurd ends
 led old base steps lines history statuses.DiskFault bytes s ends one sized ok answer fine = absurd (fine tt)
-led old base steps lines history (statuses.BadJournal side at kind) bytes s ends one sized ok answer fine = absurd (let never : Ok s ≡ Err (Bad side at kind) = sym ok ∙ answer in cc)
-led old base steps lines history (statuses.OtherDeployment kept_len place) bytes s ends one sized ok answer fine = absurd (let never : Ok s ≡ Err (Other kept_len place) = sym ok ∙ answer in cc)
+led old base steps lines history (statuses.BadJournal side at kind) bytes s ends one sized ok answer fine = absurd (let never : Ok s ≡ Err (WrongAt side at kind) = sym ok ∙ answer in cc)
+led old base steps lines history (statuses.OtherDeployment kept_len place) bytes s ends one sized ok answer fine = absurd (let never : Ok s ≡ Err (OtherFrom kept_len place) = sym ok ∙ answer in cc)
 led old base steps lines history (statuses.Full size adding) bytes s ends one sized ok answer fine = Full size adding refl (sized.full size adding refl) (one.full size adding refl) ends.above
 led old base steps lines history (statuses.StepsSpent entries) bytes s ends one sized ok answer fine = Spent entries refl ends.0 (one.spent entries refl) ends.1
 led old base steps lines history statuses.NoMemory bytes s ends one sized ok answer fine = absurd (fine tt)
@@ -198,7 +199,7 @@ module _ (old : DiskState) (base : Parts) (steps : ℕ) (lines : List Signal) wh
 -- a status that bytes without lines lead to
 data Barred (bytes : List ℕ) (status : Status) : Type 0 where
   Long : status ≡ statuses.TooLarge givens.Signals → signals_limit < length bytes → Barred bytes status
-  Unbuilt : status ≡ statuses.NotBuilt → length bytes ≤ signals_limit → Barred bytes status
+  Other : status ≡ statuses.NotBuilt → length bytes ≤ signals_limit → Barred bytes status
 
 barred : (bytes : List ℕ) (status : Status) → IsRefused bytes status → (IsByFault status → ⊥) → Barred bytes status
 barred bytes statuses.Ok refused fine = absurd refused
@@ -212,20 +213,20 @@ barred bytes (statuses.Full size adding) refused fine = absurd refused
 barred bytes (statuses.StepsSpent entries) refused fine = absurd refused
 barred bytes statuses.NoMemory refused fine = absurd (fine tt)
 barred bytes (statuses.TooLarge what) refused fine = Long (ap statuses.TooLarge refused.0) refused.1
-barred bytes statuses.NotBuilt refused fine = Unbuilt refl refused.0
+barred bytes statuses.NotBuilt refused fine = Other refl refused.0
 
 one_refusal : (bytes : List ℕ) (s t : Status) → Barred bytes s → Barred bytes t → s ≡ t
 one_refusal bytes s t (Long is more) (Long also much) = is ∙ sym also
-one_refusal bytes s t (Long is more) (Unbuilt also few) = absurd (omega (arith, more, few))
-one_refusal bytes s t (Unbuilt is few) (Long also more) = absurd (omega (arith, more, few))
-one_refusal bytes s t (Unbuilt is few) (Unbuilt also less) = is ∙ sym also
+one_refusal bytes s t (Long is more) (Other also few) = absurd (omega (arith, more, few))
+one_refusal bytes s t (Other is few) (Long also more) = absurd (omega (arith, more, few))
+one_refusal bytes s t (Other is few) (Other also less) = is ∙ sym also
 
 -- ---- bytes that stand for no state
 
 -- the status that tells what is wrong
 abbrev said : Wrong → Status
-said (Bad side at kind) = statuses.BadJournal side at kind
-said (Other kept_len place) = statuses.OtherDeployment kept_len place
+said (WrongAt side at kind) = statuses.BadJournal side at kind
+said (OtherFrom kept_len place) = statuses.OtherDeployment kept_len place
 
 wrong_is : (w x : Wrong) (r q : Result Parts Wrong) → r ≡ q → r ≡ Err w → q ≡ Err x → said w ≡ said x
 wrong_is w x r q same is also = let one : w ≡ x = cc in ap said one
@@ -236,8 +237,8 @@ told_wrong base steps lines history statuses.BadWords w ends answer fine = absur
 told_wrong base steps lines history statuses.ReadFault w ends answer fine = absurd (fine tt)
 told_wrong base steps lines history statuses.WriteFault w ends answer fine = absurd ends
 told_wrong base steps lines history statuses.DiskFault w ends answer fine = absurd (fine tt)
-told_wrong base steps lines history (statuses.BadJournal side at kind) w ends answer fine = sym (wrong_is w (Bad side at kind) (Err w) (Err (Bad side at kind)) answer refl refl)
-told_wrong base steps lines history (statuses.OtherDeployment kept_len place) w ends answer fine = sym (wrong_is w (Other kept_len place) (Err w) (Err (Other kept_len place)) answer refl refl)
+told_wrong base steps lines history (statuses.BadJournal side at kind) w ends answer fine = sym (wrong_is w (WrongAt side at kind) (Err w) (Err (WrongAt side at kind)) answer refl refl)
+told_wrong base steps lines history (statuses.OtherDeployment kept_len place) w ends answer fine = sym (wrong_is w (OtherFrom kept_len place) (Err w) (Err (OtherFrom kept_len place)) answer refl refl)
 told_wrong base steps lines history (statuses.Full size adding) w ends answer fine = absurd (cc)
 told_wrong base steps lines history (statuses.StepsSpent entries) w ends answer fine = absurd (cc)
 told_wrong base steps lines history statuses.NoMemory w ends answer fine = absurd (fine tt)
@@ -250,8 +251,8 @@ shown_wrong statuses.BadWords w at answer fine = absurd at
 shown_wrong statuses.ReadFault w at answer fine = absurd at
 shown_wrong statuses.WriteFault w at answer fine = absurd at
 shown_wrong statuses.DiskFault w at answer fine = absurd (fine tt)
-shown_wrong (statuses.BadJournal side place kind) w at answer fine = sym (wrong_is w (Bad side place kind) (Err w) (Err (Bad side place kind)) answer refl refl)
-shown_wrong (statuses.OtherDeployment kept_len place) w at answer fine = sym (wrong_is w (Other kept_len place) (Err w) (Err (Other kept_len place)) answer refl refl)
+shown_wrong (statuses.BadJournal side place kind) w at answer fine = sym (wrong_is w (WrongAt side place kind) (Err w) (Err (WrongAt side place kind)) answer refl refl)
+shown_wrong (statuses.OtherDeployment kept_len place) w at answer fine = sym (wrong_is w (OtherFrom kept_len place) (Err w) (Err (OtherFrom kept_len place)) answer refl refl)
 shown_wrong (statuses.Full size adding) w at answer fine = absurd at
 shown_wrong (statuses.StepsSpent entries) w at answer fine = absurd at
 shown_wrong statuses.NoMemory w at answer fine = absurd (fine tt)
@@ -273,8 +274,8 @@ shown_fine (statuses.TooLarge what) s at answer fine = absurd at
 shown_fine statuses.NotBuilt s at answer fine = absurd at
 
 said_text : (a b : Parts) (w : Wrong) → shown_text a (said w) ≡ shown_text b (said w)
-said_text a b (Bad side at kind) = refl
-said_text a b (Other kept_len place) = refl
+said_text a b (WrongAt side at kind) = refl
+said_text a b (OtherFrom kept_len place) = refl
 
 -- what the words ask
 data Asked (c : Command) : Type 0 where

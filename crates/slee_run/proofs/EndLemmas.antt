@@ -1,8 +1,10 @@
 -- How playing ends, as a status of a run.
 use Rattle.std.proofs.Common.{◌≡◌, ◌≢◌, ◌⊎◌, inl, inr, ℕ, zero, suc, ◌+◌, ◌-◌, ◌<◌, ◌≤◌, nat_le, Bool, true, false, if◌then◌else◌, List, [], ◌∷◌, ◌++◌, length, refl, sym, ◌∙◌, ap, subst, append-nil, Option, Some, None, Result, Ok, Err, IsErr, IfSome, MatchOption, is_some, option_map, not, OnOk, OnErr, arith}
-use Rattle.std.proofs.lemmas.Bool.{cases_Bool, and_parts}
+use Rattle.std.proofs.lemmas.Bool.{cases_Bool}
+use Rattle.std.proofs.lemmas.Bool.{and_parts}
 use Rattle.std.specs.Option.{option_map_or}
 use Rattle.std.specs.Io.KnownBytes.{Appends}
+use Rattle.signal_script.specs.Signals.{signals_of}
 use Rattle.signal_script.specs.declared.signal.Signal.{Signal}
 use Rattle.slee_disk.specs.Writes.{AppendsFront, Writes}
 use mathlib.Core.List.{IsPrefix}
@@ -20,7 +22,7 @@ use Rattle.router_rules.specs.History.{replay, due, due_next, least_choice, choi
 use Rattle.router_rules.specs.declared.kindred.Kindred.{Kindred}
 use Rattle.router_rules.specs.declared.kindred.Kindred.TheVariants as kindreds
 use Rattle.router_rules.proofs.HistoryLemmas.{solo-none, IsOffered, least_offered, offered_enabled}
-use Rattle.slee_run.specs.Headline.{MayFollow, EndsOn, IsByOne, AddsFirst, IsWritten}
+use Rattle.slee_run.specs.Headline.{signals_limit, lines_given, MayFollow, EndsOn, ComesOn, IsByOne, AddsFirst, IsWritten}
 use Rattle.slee_run.specs.Opening.{journal_limit}
 use Rattle.slee_run.specs.Playing.{IsSpent, EndsAs, IsPlayed, status_after}
 use Rattle.slee_run.proofs.AdvanceLemmas.{some_least}

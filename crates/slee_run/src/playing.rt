@@ -30,7 +30,7 @@ pub enum End {
 }
 
 /// Plays what is to be done, until nothing is or nothing may be.
-#[tactic(auto, using(crate::proofs::PlayLemmas::begun, crate::proofs::PlayLemmas::nearer, crate::proofs::PlayLemmas::roomy))]
+#[tactic(auto, using(crate::proofs::PlayLemmas::begun, crate::proofs::PlayLemmas::nearer, crate::proofs::PlayLemmas::stopped))]
 pub fn play<'d, D: Disk>(container: &mut Container<'d, D>) -> End
     requires history { container.old.history ≡ [] }
     requires state { container.old.state ≡ base_of container.old.setup.origin }

@@ -1,8 +1,4 @@
 use Rattle.slee_run.proofs.DeterminedLemmas.{determined}
-use Rattle.slee_run.proofs.AnswerLemmas.{opened_played}
-use Rattle.slee_run.proofs.RunLemmas.{run_of_play}
-use Rattle.slee_run.proofs.PlayLemmas.{played_closed}
-use Rattle.slee_run.proofs.TwiceLemmas.{one_history}
 use Rattle.slee_run.proofs.laws.run_is_determined.Goals as goal
 
 pub returns : goal.returns
