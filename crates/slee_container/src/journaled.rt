@@ -1,12 +1,12 @@
 //! Steps of the router that are kept in a journal, and what they leave on the disk.
 ghost use Rattle.slee_container.specs.Opening.{fault_of, begin_fault_of};
-ghost use Rattle.std.specs.Prelude.{◌≡◌, ◌≤◌, ◌<◌, ◌+◌, [], true, false, length, IsTrue, Some, None, Ok, Err, IfOk, IfErr, OnOk, OnErr, IsErrOf};
+ghost use Rattle.std.specs.Prelude.{◌≡◌, ◌≤◌, ◌<◌, ◌+◌, [], true, false, length, IsTrue, Some, None, Ok, Err, IfOk, IfErr, OnOk, OnErr, IsErrOf, IsOk};
 
 use crate::replaying::replay;
 use crate::{OpenFault, StepFault, Stop};
 use commit_journal::{AppendFault, BeginFault, Journal, JournalFault};
 use router_core::{Plan, State};
-use slee_disk::Disk;
+use slee_disk::{Disk, Failed};
 use std::alloc::Global;
 use std::marker::Model;
 use std::snapshot::Snapshot;
@@ -53,16 +53,13 @@ impl<'d, D: Disk> Core<'d, D> {
     ghost use Rattle.slee_disk.specs.Sides.{Sides};
     ghost use Rattle.slee_disk.specs.Disk.{LeavesOnly, is_clean};
     ghost use Rattle.commit_journal.specs.Reading.{Wrong, recovered};
-    ghost use Rattle.commit_journal.specs.Journal.{payloads_on};
-    ghost use Rattle.commit_journal.specs.Spelling.{records_size};
     ghost use Rattle.router_model.specs.State.{Parts};
     ghost use Rattle.router_rules.specs.Step.{is_enabled, is_choice};
-    ghost use Rattle.router_rules.specs.History.{Legal, replay};
     ghost use Rattle.router_core.specs.Plans.{IsPlanOf};
     ghost use Rattle.slee_container.specs.Recovery.{restart, records, counting_side};
-    ghost use Rattle.slee_container.specs.Opening.{IsOpenCause, IsSmall, IsUntouchedFor, StandsFor};
-    ghost use Rattle.slee_container.specs.Facts.{RestartsIn, IsCrashSafe, HasRecords, base_of};
-    ghost use Rattle.slee_container.specs.Core.{Stepped, is_down, IsStopOf};
+    ghost use Rattle.slee_container.specs.Opening.{IsOpenCause, IsSmall, IsUntouchedFor, IsLeftAlone, StandsFor};
+    ghost use Rattle.slee_container.specs.Facts.{RestartsIn, IsCrashSafe};
+    ghost use Rattle.slee_container.specs.Core.{Stepped, Acknowledges, IsHeld, is_down};
 
     /// Opens what a disk keeps. It replays all records before it writes anything.
     #[tactic(auto, using(crate::proofs::Opens::small_of_journal, crate::proofs::Opens::small_of_replay, crate::proofs::Opens::small_of_begin, crate::proofs::Opens::plain_of))]
@@ -78,7 +75,7 @@ impl<'d, D: Disk> Core<'d, D> {
         ensures fits { IsTrue (D.disk disk).told → IfOk result (λ c. recovered deployment.now (D.disk disk).seen ≡ Ok None → 24 + length deployment.now ≤ limit) }
         ensures counting { IsTrue (D.disk disk).told → IfOk result (λ c. c.origin.counting ≡ counting_side deployment.now (D.disk c.disk).seen) }
         ensures new { IfOk result (λ c. (c.history ≡ []) × (c.acked ≡ 0) × (c.stop ≡ None) × (c.limit ≡ limit)) }
-        ensures origin { IfOk result (λ c. (c.origin.deployment ≡ deployment.now) × (c.origin.moment ≡ (D.disk disk).moment) × (c.origin.faults ≡ (D.disk disk).faults) × (c.origin.clean ≡ is_clean (D.disk disk))) }
+        ensures origin { IfOk result (λ c. (c.origin.deployment ≡ deployment.now) × (c.origin.moment ≡ (D.disk disk).moment) × (c.origin.faults ≡ (D.disk disk).faults) × (c.origin.told ≡ (D.disk disk).told) × (c.origin.clean ≡ is_clean (D.disk disk))) }
         ensures cause { IsTrue (D.disk disk).told → IfErr result (λ e. IsOpenCause limit deployment.now (D.disk disk).seen e.0) }
         ensures small { IfErr result (λ e. IsSmall limit deployment.now e.0) }
         ensures failed { IfErr result (λ e. e.0 ≡ OpenFault.DiskFault → Rose (D.disk disk).faults (D.disk e.1).faults) }
@@ -90,9 +87,10 @@ impl<'d, D: Disk> Core<'d, D> {
         ensures any_moment_err { IsTrue (is_clean (D.disk disk)) → (s : Parts) → restart deployment.now (D.disk disk).seen ≡ Ok s
             → IfErr result (λ e. LeavesOnly (D.disk disk) (D.disk e.1) (StandsFor deployment.now s (D.disk disk).seen)) }
 
-        // Bytes that can't be restarted are all that a crash at any moment leaves.
-        ensures left_alone { IsTrue (is_clean (D.disk disk)) → (w : Wrong) → restart deployment.now (D.disk disk).seen ≡ Err w
-            → IfErr result (λ e. LeavesOnly (D.disk disk) (D.disk e.1) (λ image. image ≡ (D.disk disk).seen)) }
+        // Bytes that stand for no state are left alone.
+        ensures left_alone { IsTrue (D.disk disk).told → (w : Wrong) → restart deployment.now (D.disk disk).seen ≡ Err w
+            → IfErr result (λ e. IsLeftAlone (D.disk disk) (D.disk e.1)) }
+        ensures held { IfOk result (λ c. IsHeld (D.disk c.disk) c) }
     {
         let opened = Snapshot::of(&disk);
         let mut journal = match Journal::open(alloc, disk, deployment, limit) {
@@ -131,12 +129,13 @@ impl<'d, D: Disk> Core<'d, D> {
         requires live { self.old.stop ≡ None }
         requires made { IsPlanOf self.old.state plan.choice plan }
         ensures step { Stepped self.old plan.choice result self.new }
+        ensures acked { Acknowledges self.old.acked result self.new.history self.new.acked }
         ensures origin { self.new.origin ≡ self.old.origin }
         ensures limit { self.new.limit ≡ self.old.limit }
         ensures failed { IsErrOf result StepFault.DiskFault → Rose (D.disk self.old.disk).faults (D.disk self.new.disk).faults }
 
         // A crash at any moment of the call leaves what was acknowledged before it.
-        ensures any_moment { IsTrue self.old.origin.clean → LeavesOnly (D.disk self.old.disk) (D.disk self.new.disk)
+        ensures any_moment { IsTrue self.old.origin.told → LeavesOnly (D.disk self.old.disk) (D.disk self.new.disk)
             (RestartsIn self.old.origin self.new.history self.old.acked) }
     {
         let known = self.state.well_formed();
@@ -177,16 +176,28 @@ impl<'d, D: Disk> Core<'d, D> {
         requires valid { IsTrue (is_choice choice) }
         requires enabled { IsTrue (is_enabled self.old.state choice) }
         ensures step { Stepped self.old choice result self.new }
+        ensures acked { Acknowledges self.old.acked result self.new.history self.new.acked }
         ensures origin { self.new.origin ≡ self.old.origin }
         ensures limit { self.new.limit ≡ self.old.limit }
         ensures failed { IsErrOf result StepFault.DiskFault → Rose (D.disk self.old.disk).faults (D.disk self.new.disk).faults }
-        ensures any_moment { IsTrue self.old.origin.clean → LeavesOnly (D.disk self.old.disk) (D.disk self.new.disk)
+        ensures any_moment { IsTrue self.old.origin.told → LeavesOnly (D.disk self.old.disk) (D.disk self.new.disk)
             (RestartsIn self.old.origin self.new.history self.old.acked) }
     {
         let Ok(plan) = self.state.plan(self.alloc, choice) else {
             return Err(StepFault::NoMemory);
         };
         self.step(plan)
+    }
+
+    /// Writes what isn't acknowledged yet. There is nothing: each step is flushed by itself.
+    pub fn flush(&mut self) -> Result<(), Failed>
+        requires live { is_down self.old.stop ≡ false }
+        ensures same { self.new ≡ self.old }
+        ensures ok { IsOk result }
+        ensures whole { self.new.acked ≡ length self.new.history }
+    {
+        let _history = &self.history;
+        Ok(())
     }
 
     pub fn state(&self) -> &State
@@ -196,13 +207,16 @@ impl<'d, D: Disk> Core<'d, D> {
     }
 
     pub fn history(&self) -> &History
-        ensures { result.now.entries ≡ self.now.history }
+        ensures entries { result.now.entries ≡ self.now.history }
+        ensures safe { IsCrashSafe self.now.origin self.now.history self.now.acked (D.disk self.now.disk) }
+        ensures whole { is_down self.now.stop ≡ false → self.now.acked ≡ length self.now.history }
     {
         &self.history
     }
 
     pub fn acked(&self) -> u64
-        ensures { result ≡ self.now.acked }
+        ensures acked { result ≡ self.now.acked }
+        ensures within { result ≤ length self.now.history }
     {
         self.acked
     }
@@ -216,7 +230,7 @@ impl<'d, D: Disk> Core<'d, D> {
     /// The disk, whatever has come of the container.
     pub fn into_disk(self) -> D
         ensures disk { result ≡ self.entry.disk }
-        ensures safe { IsCrashSafe self.entry.origin self.entry.history self.entry.acked (D.disk result) }
+        ensures held { IsHeld (D.disk result) self.entry }
     {
         let Core {
             alloc: _,
@@ -230,24 +244,6 @@ impl<'d, D: Disk> Core<'d, D> {
             begun: _,
         } = self;
         journal.into_disk()
-    }
-
-    /// What is true of each core.
-    #[tactic(auto, using(crate::proofs::Steps::sized_now))]
-    pub fn kept(&self)
-        ensures safe { IsCrashSafe self.now.origin self.now.history self.now.acked (D.disk self.now.disk) }
-        ensures legal { Legal (base_of self.now.origin) self.now.history }
-        ensures state { self.now.state ≡ replay (base_of self.now.origin) self.now.history }
-        ensures acked { self.now.acked ≤ length self.now.history }
-        ensures cause { IsStopOf self.now.origin self.now.limit self.now.history (D.disk self.now.disk) self.now.stop }
-        ensures rest { IsTrue self.now.origin.clean → is_down self.now.stop ≡ false → IsTrue (is_clean (D.disk self.now.disk)) }
-        ensures whole { is_down self.now.stop ≡ false → self.now.acked ≡ length self.now.history }
-        ensures counted { IsTrue self.now.origin.clean → payloads_on self.now.origin.counting ≡ self.now.origin.found }
-        ensures sized { IsTrue self.now.origin.clean → length self.now.origin.counting ≡ 24 + length self.now.origin.deployment + records_size self.now.origin.found }
-        ensures records { IsTrue self.now.origin.clean → is_down self.now.stop ≡ false → HasRecords self.now.origin self.now.history self.now.acked (D.disk self.now.disk).seen }
-        ensures again { IsTrue self.now.origin.clean → is_down self.now.stop ≡ false → RestartsIn self.now.origin self.now.history self.now.acked (D.disk self.now.disk).seen }
-    {
-        let _history = &self.history;
     }
 }
 

@@ -77,7 +77,7 @@ next_is s a None is some = absurd (cc)
 next_is s a (Some v) is some = ap (λ (o : Option Event). is_some (option_map_or (λ v. Some (next_for s a v)) o None)) is
 
 -- where an event waits, a choice may be made
-some_least : (s : Parts) (found : Option ℕ) → least_waiting s.events ≡ found → is_some found ≡ true → is_some (least_choice s) ≡ true
+pub some_least : (s : Parts) (found : Option ℕ) → least_waiting s.events ≡ found → is_some found ≡ true → is_some (least_choice s) ≡ true
 some_least s None is some = absurd (cc)
 some_least s (Some a) is some =
     ap (λ (o : Option ℕ). is_some (option_map_or (choice_at s) o None)) is ∙ by (next s a) (next_is s a (front s.events a) refl (waiting s.events a is))
@@ -201,7 +201,7 @@ module _ {D : Type 0} (v : View D) (live : v.stop ≡ None) (free : v.claims ≡
       let not_yet = not_over works.Done is (λ e. cc) in
       elim (left_is works.Done (is ∙ left_over not_yet)) [
         | inl lines ↦ (
-          record { history = refl; taken = refl; acked = refl },
+          record { history = refl; taken = refl },
           live,
           drop_of_length-le v.setup.lines (lines_done works.Done lines.1 refl),
           rw (fresh not_yet, lines.0) refl,
@@ -237,7 +237,7 @@ module _ {D : Type 0} (v : View D) (live : v.stop ≡ None) (free : v.claims ≡
 
   pub spent_is : works.Spent ≡ next_work v → Advances v (Some ends.Spent) v
   spent_is is = (
-    record { history = refl; taken = refl; acked = refl },
+    record { history = refl; taken = refl },
     live,
     λ most. elim (cases_Bool over) [
       | inl now ↦ spent_now now most
@@ -294,18 +294,18 @@ module _ {D : Type 0} (v : View D) (live : v.stop ≡ None) (free : v.claims ≡
   ]
 
   advanced : (c : Choice) (r : Result ℕ StepFault) (w : View D) → IsDueIn v c → Moves v c r w → Advances v (end_of r) w
-  advanced c (Ok number) w is m = (c, is, m.0, m.1, m.2, m.3)
-  advanced c (Err faults.DiskFault) w is m = (c, is, m.0, m.1, m.2)
+  advanced c (Ok number) w is m = (c, is, m.0, m.1, m.2)
+  advanced c (Err faults.DiskFault) w is m = (c, is, m.0, m.1)
   advanced c (Err (faults.Full size adding)) w is m = (m.0, m.1, c, is, m.2, m.3)
   advanced c (Err faults.NoMemory) w is m = (m.0, m.1 ∙ live)
   advanced c (Err faults.Spent) w is m = absurd (not_done c is m.2)
 
   moved : (c : Choice) (r : Result ℕ StepFault) (w : View D) → w.claims ≡ [] → Makes v c r w → Moves v c r w
-  moved c (Ok number) w none m = (record { history = m.0; state = m.5; taken = m.4; room = m.6 }, m.2, m.3, none)
-  moved c (Err faults.DiskFault) w none m = (record { history = m.0; state = m.4; taken = m.3; room = m.5 }, m.1, m.2)
-  moved c (Err (faults.Full size adding)) w none m = (record { history = ap (λ u. u.history) m.0; taken = ap (λ u. u.taken) m.0; acked = ap (λ u. u.acked) m.0 }, ap (λ u. u.stop) m.0, m.1.adds, m.1.above)
-  moved c (Err faults.NoMemory) w none m = (record { history = ap (λ u. u.history) m; taken = ap (λ u. u.taken) m; acked = ap (λ u. u.acked) m }, ap (λ u. u.stop) m)
-  moved c (Err faults.Spent) w none m = (record { history = ap (λ u. u.history) m.0; taken = ap (λ u. u.taken) m.0; acked = ap (λ u. u.acked) m.0 }, ap (λ u. u.stop) m.0, m.1)
+  moved c (Ok number) w none m = (record { history = m.0; state = m.4; taken = m.3; room = m.5 }, m.2, none)
+  moved c (Err faults.DiskFault) w none m = (record { history = m.0; state = m.3; taken = m.2; room = m.4 }, m.1)
+  moved c (Err (faults.Full size adding)) w none m = (record { history = ap (λ u. u.history) m.0; taken = ap (λ u. u.taken) m.0 }, ap (λ u. u.stop) m.0, m.1.adds, m.1.above)
+  moved c (Err faults.NoMemory) w none m = (record { history = ap (λ u. u.history) m; taken = ap (λ u. u.taken) m }, ap (λ u. u.stop) m)
+  moved c (Err faults.Spent) w none m = (record { history = ap (λ u. u.history) m.0; taken = ap (λ u. u.taken) m.0 }, ap (λ u. u.stop) m.0, m.1)
 
   pub line_advances : (r : Result ℕ StepFault) (w : View D) → works.Line ≡ next_work v → v.taken < length v.setup.lines → w.claims ≡ v.claims
       → ((signal : Signal) → slice_get v.setup.lines v.taken ≡ Some signal → Makes v (Input signal) r w) → Advances v (end_of r) w

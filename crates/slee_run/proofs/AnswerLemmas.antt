@@ -13,23 +13,23 @@ use Rattle.slee_container.specs.declared.fault.OpenFault.{OpenFault}
 use Rattle.slee_container.specs.declared.fault.OpenFault.TheVariants as faults
 use Rattle.commit_journal.specs.Reading.{Wrong}
 use Rattle.slee_container.specs.Recovery.{restart, records}
-use Rattle.slee_container.specs.Opening.{IsOpenCause, IsSmall, IsUntouchedFor, StandsFor}
+use Rattle.slee_container.specs.Opening.{IsOpenCause, IsSmall, IsUntouchedFor, IsLeftAlone, StandsFor}
 use Rattle.slee_container.specs.Facts.{base_of}
 use Rattle.slee_container.specs.Core.{is_down}
 use Rattle.slee_container.specs.Container.{View, Setup, IsKept}
 use Rattle.slee_run.specs.Status.{status_line}
 use Rattle.slee_run.specs.Text.{output_text, shown_text}
-use Rattle.slee_run.specs.Headline.{lines_given, EndsOn, ComesOn, IsShownAt, IsWritten}
+use Rattle.slee_run.specs.Headline.{lines_given, EndsOn, ComesOn, IsByOne, IsByOneFrom, IsShownAt, IsWritten}
 use Rattle.slee_run.specs.Opening.{kept_deployment, journal_limit, found, IsAnswerTo, IsUntouchedAt}
 use Rattle.slee_run.specs.Stops.{KeepsJournal}
 use Rattle.slee_run.specs.Playing.{IsPlayed, HadRoom, stop_of, status_after}
-use Rattle.slee_run.specs.Answers.{IsPlayedBy, IsShownBy, IsShownAs, IsEarly, status_of}
+use Rattle.slee_run.specs.Answers.{IsPlayedBy, IsPlayOn, IsPlayFrom, IsShownBy, IsShownAs, IsEarly, status_of}
 use Rattle.slee_run.specs.declared.playing.End.{End}
 use Rattle.slee_run.specs.declared.playing.End.TheVariants as ends
 use Rattle.slee_run.specs.declared.status.Status.{Status}
 use Rattle.slee_run.specs.declared.status.Status.TheVariants as statuses
-use Rattle.slee_run.proofs.JournalLemmas.{or_initial, no_history, untouched, refused, keeps, history_kept, base_is, end_answer, end_late, end_down, end_full}
-use Rattle.slee_run.proofs.EndLemmas.{ends_on, nothing_on}
+use Rattle.slee_run.proofs.JournalLemmas.{or_initial, no_history, untouched, refused, refused_fits, keeps, history_kept, base_is, end_answer, end_late, end_down, end_full}
+use Rattle.slee_run.proofs.EndLemmas.{ends_on, alone_on, alone_at_start}
 
 -- ---- text
 
@@ -55,11 +55,25 @@ written_as before after text same stood status is w = subst (λ (l : List ℕ). 
 -- ---- opening was refused
 
 refused_ends : (base : Parts) (steps : ℕ) (lines : List Signal) (fault : OpenFault) → IsSmall journal_limit kept_deployment fault → EndsOn base steps lines [] (status_of fault)
-refused_ends base steps lines faults.DiskFault small = nothing_on base steps lines
+refused_ends base steps lines faults.DiskFault small = (lines, refl)
 refused_ends base steps lines (faults.BadJournal side at kind) small = refl
 refused_ends base steps lines (faults.OtherDeployment kept_len place) small = refl
 refused_ends base steps lines (faults.Full size adding) small = absurd (omega (arith, small))
-refused_ends base steps lines faults.NoMemory small = nothing_on base steps lines
+refused_ends base steps lines faults.NoMemory small = (lines, refl)
+
+refused_done : (fault : OpenFault) → status_of fault ≢ statuses.Ok
+refused_done faults.DiskFault is = cc
+refused_done (faults.BadJournal side at kind) is = cc
+refused_done (faults.OtherDeployment kept_len place) is = cc
+refused_done (faults.Full size adding) is = cc
+refused_done faults.NoMemory is = cc
+
+refused_spent : (fault : OpenFault) (n : ℕ) → status_of fault ≢ statuses.StepsSpent n
+refused_spent faults.DiskFault n is = cc
+refused_spent (faults.BadJournal side at kind) n is = cc
+refused_spent (faults.OtherDeployment kept_len place) n is = cc
+refused_spent (faults.Full size adding) n is = cc
+refused_spent faults.NoMemory n is = cc
 
 refused_words : (fault : OpenFault) → status_of fault ≢ statuses.BadWords
 refused_words faults.DiskFault is = cc
@@ -92,21 +106,26 @@ refused_text base faults.NoMemory = refl
 module _ (before after : Option (List ℕ)) (old new : DiskState) (fault : OpenFault) (stood status : Status) (is : stood ≡ status_of fault)
     (small : IsSmall journal_limit kept_deployment fault) (cause : IsTrue old.told → IsOpenCause journal_limit kept_deployment old.seen fault) (for : IsUntouchedFor fault old new)
     (leaves : IsTrue (is_clean old) → (s : Parts) → restart kept_deployment old.seen ≡ Ok s → LeavesOnly old new (StandsFor kept_deployment s old.seen))
+    (alone : IsTrue old.told → (w : Wrong) → restart kept_deployment old.seen ≡ Err w → IsLeftAlone old new)
     (out : IsWritten before after (status_line stood) stood status) where
   told_out : IsWritten before after (status_line (status_of fault)) (status_of fault) status
   told_out = subst (λ (s : Status). IsWritten before after (status_line s) s status) is out
 
-  pub refused_played : (steps : ℕ) (lines : List Signal) → IsPlayedBy (λ base history s. EndsOn base steps lines history s) before after old new status
+  pub refused_played : (steps : ℕ) (lines : List Signal) → IsPlayedBy (λ base history s. IsPlayOn base steps lines history s) before after old new status
   refused_played steps lines = record {
     base = or_initial (found old);
     history = [];
     acked = [];
     stood = status_of fault;
     legal = no_history (or_initial (found old)) (status_of fault);
-    comes = refused_ends (or_initial (found old)) steps lines fault small;
+    comes = record {
+      few = omega arith;
+      ends = refused_ends (or_initial (found old)) steps lines fault small;
+      alone = alone_at_start (or_initial (found old)) steps lines (status_of fault) (refused_done fault) (refused_spent fault) (refused_fits fault small);
+    };
     words = refused_words fault;
     unwritten = refused_unwritten fault;
-    journal = refused old new fault small cause for leaves;
+    journal = refused old new fault small cause for leaves alone;
     output = told_out;
   }
 
@@ -115,7 +134,7 @@ module _ (before after : Option (List ℕ)) (old new : DiskState) (fault : OpenF
     base = or_initial (found old);
     stood = status_of fault;
     comes = refused_shown_at fault small;
-    journal = refused old new fault small cause for leaves;
+    journal = refused old new fault small cause for leaves alone;
     output = written_as before after (status_line (status_of fault)) (shown_text (or_initial (found old)) (status_of fault)) (status_of fault) status (refused_text (or_initial (found old)) fault) told_out;
   }
 
@@ -137,28 +156,37 @@ end_unwritten entries ends.NoMemory is = cc
 
 module _ {D : Type 0} (disk_of : D → DiskState) (old : DiskState) (first : View D)
     (state : IsTrue old.told → restart kept_deployment old.seen ≡ Ok first.state) (stood : IsTrue old.told → records kept_deployment old.seen ≡ first.setup.origin.found)
-    (none : first.history ≡ []) (named : first.setup.origin.deployment ≡ kept_deployment) (moment : first.setup.origin.moment ≡ old.moment) (clean : first.setup.origin.clean ≡ is_clean old)
+    (none : first.history ≡ []) (named : first.setup.origin.deployment ≡ kept_deployment) (moment : first.setup.origin.moment ≡ old.moment)
+    (tells : first.setup.origin.told ≡ old.told) (clean : first.setup.origin.clean ≡ is_clean old)
     (kept_first : IsKept (disk_of first.disk) first) where
   pub opened_played : (last : View D) (handed : D) (e : End) (entries steps : ℕ) (lines : List Signal) (before after : Option (List ℕ)) (at status : Status)
-      → IsKept (disk_of last.disk) last → last.setup ≡ first.setup → first.setup.lines ≡ lines → first.setup.journal ≡ journal_limit → first.setup.steps ≡ steps
-      → IsPlayed first.setup.journal (base_of first.setup.origin) first.setup.steps first.setup.lines last.history e → last.stop ≡ stop_of e → length last.history ≤ last.acked + 1
+      → IsKept (disk_of handed) last → handed ≡ last.disk → last.setup ≡ first.setup → first.setup.lines ≡ lines → first.setup.journal ≡ journal_limit → first.setup.steps ≡ steps
+      → IsPlayed first.setup.journal (base_of first.setup.origin) first.setup.steps first.setup.lines last.history e → last.stop ≡ stop_of e
+      → (is_down last.stop ≡ false → last.acked ≡ length last.history)
       → HadRoom first.setup.origin first.setup.journal last.history
-      → entries ≡ length last.history → at ≡ status_after entries e → IsWritten before after (output_text (take last.acked last.history) at) at status → handed ≡ last.disk
-      → IsPlayedBy (λ base history s. EndsOn base steps lines history s) before after old (disk_of handed) status
-  opened_played last handed e entries steps lines before after at status kept same is_lines is_limit is_steps played stopped most roomy count is_at out back = record {
+      → entries ≡ length last.history → at ≡ status_after entries e → IsWritten before after (output_text (take last.acked last.history) at) at status
+      → IsPlayedBy (λ base history s. IsPlayOn base steps lines history s) before after old (disk_of handed) status
+  opened_played last handed e entries steps lines before after at status kept_there back same is_lines is_limit is_steps played stopped whole roomy count_is at_is out = record {
     base = base_of last.setup.origin;
     history = last.history;
     acked = take last.acked last.history;
     stood = status_after entries e;
-    legal = history_kept disk_of old first last (status_after entries e) state stood none named moment clean kept_first kept same down full answer late room most;
-    comes = ends_on (base_of last.setup.origin) steps lines last.history e entries count plays;
+    legal = history_kept disk_of old first last (status_after entries e) state stood none named moment tells clean kept_first kept same down whole full answer late room;
+    comes = record {
+      few = plays.so_far.count;
+      ends = ends_on (base_of last.setup.origin) steps lines last.history e entries count_is plays;
+      alone = alone_on (base_of last.setup.origin) steps lines last.history e entries plays;
+    };
     words = end_words entries e;
     unwritten = end_unwritten entries e;
     journal = subst (λ (d : D). KeepsJournal (base_of last.setup.origin) last.history (take last.acked last.history) old (disk_of d) (status_after entries e)) (sym back)
-        (keeps disk_of old first last (status_after entries e) state stood none named moment clean kept_first kept same down full answer late room);
-    output = subst (λ (s : Status). IsWritten before after (output_text (take last.acked last.history) s) s status) is_at out;
+        (keeps disk_of old first last (status_after entries e) state stood none named moment tells clean kept_first kept same down whole full answer late room);
+    output = subst (λ (s : Status). IsWritten before after (output_text (take last.acked last.history) s) s status) at_is out;
   }
     where
+      kept : IsKept (disk_of last.disk) last
+      kept = subst (λ (d : D). IsKept (disk_of d) last) back kept_there
+
       down : is_down last.stop ≡ true → status_after entries e ≡ statuses.DiskFault
       down fell = end_down entries e (ap is_down (sym stopped) ∙ fell)
 
@@ -210,33 +238,44 @@ module _ {D : Type 0} (disk_of : D → DiskState) (old : DiskState) (first : Vie
     output = shown.output;
   }
     where
-      based : base_of first.setup.origin ≡ first.state
-      based = base_is disk_of old first first shown.stood state stood none named moment clean kept_first kept_first refl
-          (λ fell. let never : true ≡ false = sym fell ∙ ap is_down live in absurd (cc))
-          (λ size adding is. absurd (shown_full shown.stood shown.which size adding is))
-          (shown_answer (found old) shown.stood shown.which) (shown_late (disk_of first.disk) shown.stood shown.which) (λ clean. inl none)
-
       nothing : take first.acked first.history ≡ []
       nothing = ap (λ (n : ℕ). take n first.history) unacked
 
+      falls : is_down first.stop ≡ true → shown.stood ≡ statuses.DiskFault
+      falls fell = let never : true ≡ false = sym fell ∙ ap is_down live in absurd (cc)
+
+      whole : is_down first.stop ≡ false → first.acked ≡ length first.history
+      whole up = unacked ∙ sym (ap length none)
+
+      full : (size adding : ℕ) → shown.stood ≡ statuses.Full size adding → first.stop ≡ Some (stops.Full size adding)
+      full size adding is = absurd (shown_full shown.stood shown.which size adding is)
+
+      based : base_of first.setup.origin ≡ first.state
+      based = base_is disk_of old first first shown.stood state stood none named moment tells clean kept_first kept_first refl falls whole full
+          (shown_answer (found old) shown.stood shown.which) (shown_late (disk_of first.disk) shown.stood shown.which) (λ told. inl none)
+
       kept : KeepsJournal (base_of first.setup.origin) first.history (take first.acked first.history) old (disk_of first.disk) shown.stood
-      kept = keeps disk_of old first first shown.stood state stood none named moment clean kept_first kept_first refl
-          (λ fell. let never : true ≡ false = sym fell ∙ ap is_down live in absurd (cc))
-          (λ size adding is. absurd (shown_full shown.stood shown.which size adding is))
-          (shown_answer (found old) shown.stood shown.which) (shown_late (disk_of first.disk) shown.stood shown.which) (λ clean. inl none)
+      kept = keeps disk_of old first first shown.stood state stood none named moment tells clean kept_first kept_first refl falls whole full
+          (shown_answer (found old) shown.stood shown.which) (shown_late (disk_of first.disk) shown.stood shown.which) (λ told. inl none)
 
 -- ---- lines were refused, or read
 
+early_done : (status : Status) → IsEarly status → status ≢ statuses.Ok
+early_done status early is = subst IsEarly is early
+
+early_spent : (status : Status) (n : ℕ) → IsEarly status → status ≢ statuses.StepsSpent n
+early_spent status n early is = subst IsEarly is early
+
 pub early_played : (steps : ℕ) (told before after : Option (List ℕ)) (d : DiskState) (stood status : Status) → IsEarly stood → stood ≢ statuses.BadWords
     → IfSome told (λ bytes. (base : Parts) (steps : ℕ) → ComesOn base steps bytes [] stood) → IsWritten before after (status_line stood) stood status
-    → IsPlayedBy (λ base history s. IfSome told (λ bytes. ComesOn base steps bytes history s)) before after d d status
+    → IsPlayedBy (λ base history s. IsPlayFrom base steps told history s) before after d d status
 early_played steps told before after d stood status early words refuses out = record {
   base = or_initial (found d);
   history = [];
   acked = [];
   stood = stood;
   legal = no_history (or_initial (found d)) stood;
-  comes = by told refuses;
+  comes = record { few = omega arith; comes = by told refuses; alone = by_one told };
   words = words;
   unwritten = λ is. subst IsEarly is early;
   journal = untouched d stood early;
@@ -247,16 +286,24 @@ early_played steps told before after d stood status early words refuses out = re
     by None refuses = tt
     by (Some bytes) refuses = refuses (or_initial (found d)) steps
 
+    on_lines : (given : Option (List Signal)) → IfSome given (λ lines. IsByOne (or_initial (found d)) steps lines [] stood)
+    on_lines None = tt
+    on_lines (Some lines) = alone_at_start (or_initial (found d)) steps lines stood (early_done stood early) (λ n. early_spent stood n early) (λ size adding is. subst IsEarly is early)
+
+    by_one : (told : Option (List ℕ)) → IsByOneFrom (or_initial (found d)) steps told [] stood
+    by_one None = tt
+    by_one (Some bytes) = on_lines (lines_given bytes)
+
 pub lines_played : (steps : ℕ) (lines : List Signal) (told before after : Option (List ℕ)) (old new : DiskState) (status : Status)
-    → IfSome told (λ bytes. lines_given bytes ≡ Some lines) → IsPlayedBy (λ base history s. EndsOn base steps lines history s) before after old new status
-    → IsPlayedBy (λ base history s. IfSome told (λ bytes. ComesOn base steps bytes history s)) before after old new status
+    → IfSome told (λ bytes. lines_given bytes ≡ Some lines) → IsPlayedBy (λ base history s. IsPlayOn base steps lines history s) before after old new status
+    → IsPlayedBy (λ base history s. IsPlayFrom base steps told history s) before after old new status
 lines_played steps lines told before after old new status given p = record {
   base = p.base;
   history = p.history;
   acked = p.acked;
   stood = p.stood;
   legal = p.legal;
-  comes = by told given;
+  comes = record { few = p.comes.few; comes = by told given; alone = by_one told given };
   words = p.words;
   unwritten = p.unwritten;
   journal = p.journal;
@@ -265,4 +312,8 @@ lines_played steps lines told before after old new status given p = record {
   where
     by : (told : Option (List ℕ)) → IfSome told (λ bytes. lines_given bytes ≡ Some lines) → IfSome told (λ bytes. ComesOn p.base steps bytes p.history p.stood)
     by None given = tt
-    by (Some bytes) given = rw given p.comes
+    by (Some bytes) given = rw given p.comes.ends
+
+    by_one : (told : Option (List ℕ)) → IfSome told (λ bytes. lines_given bytes ≡ Some lines) → IsByOneFrom p.base steps told p.history p.stood
+    by_one None given = tt
+    by_one (Some bytes) given = rw given p.comes.alone

@@ -7,3 +7,4 @@ pub mod EndLemmas
 pub mod AnswerLemmas
 pub mod RunLemmas
 pub mod DeterminedLemmas
+pub mod TwiceLemmas

@@ -23,7 +23,7 @@ use Rattle.commit_journal.specs.Spelling.{records_size}
 use Rattle.commit_journal.proofs.Sizes.{records_size-more}
 use Rattle.slee_container.specs.Facts.{Origin, base_of, records_since, size_after, size_added}
 use Rattle.slee_container.specs.Container.{View, Setup}
-use Rattle.slee_run.specs.Playing.{left, IsDueIn, IsStepOn, IsStill, IsSpent, Advances, EndsAs, IsPlayed, HadRoom, stop_of}
+use Rattle.slee_run.specs.Playing.{left, IsDueIn, IsStepOn, IsStill, IsSpent, Advances, EndsAs, IsPlayed, IsEndOf, HadRoom, stop_of}
 use Rattle.slee_run.specs.declared.playing.End.{End}
 use Rattle.slee_run.specs.declared.playing.End.TheVariants as ends
 
@@ -149,13 +149,12 @@ pub record IsUnderWay {D : Type 0} (first v : View D) : Type 0 where
   pub valid : list_all is_input v.setup.lines ≡ true
   pub live : v.stop ≡ None
   pub free : v.claims ≡ []
-  pub acked : v.acked ≡ length v.history
   pub room : HadRoom v.setup.origin v.setup.journal v.history
 
 -- nothing was played
-pub begun : {D : Type 0} (v : View D) → v.history ≡ [] → v.state ≡ base_of v.setup.origin → v.taken ≡ 0 → v.acked ≡ 0 → v.claims ≡ [] → v.stop ≡ None
+pub begun : {D : Type 0} (v : View D) → v.history ≡ [] → v.state ≡ base_of v.setup.origin → v.taken ≡ 0 → v.claims ≡ [] → v.stop ≡ None
     → list_all is_input v.setup.lines ≡ true → IsUnderWay v v
-begun v none first untaken unacked free live valid = record {
+begun v none first untaken free live valid = record {
   same = refl;
   stepped = subst (λ (n : ℕ). IsStepped (base_of v.setup.origin) v.setup.steps v.setup.lines v.history v.state n) (sym untaken)
       (subst (λ (h : List Entry). IsStepped (base_of v.setup.origin) v.setup.steps v.setup.lines h v.state 0) (sym none)
@@ -163,8 +162,7 @@ begun v none first untaken unacked free live valid = record {
   valid = valid;
   live = live;
   free = free;
-  acked = unacked ∙ sym (ap length none);
-  room = λ clean. inl none;
+  room = λ told. inl none;
 }
 
 module _ {D : Type 0} (first v w : View D) (way : IsUnderWay first v) (same : w.setup ≡ v.setup) where
@@ -191,9 +189,8 @@ module _ {D : Type 0} (first v w : View D) (way : IsUnderWay first v) (same : w.
     same = same ∙ way.same;
     stepped = subst (λ (u : Setup). IsStepped (base_of u.origin) u.steps u.lines w.history w.state w.taken) (sym same) (on a.0 a.1 a.2);
     valid = subst (λ (u : Setup). list_all is_input u.lines ≡ true) (sym same) way.valid;
-    live = a.4;
-    free = a.5;
-    acked = a.3;
+    live = a.3;
+    free = a.4;
     room = subst (λ (u : Setup). HadRoom u.origin u.journal w.history) (sym same) (fits a.0 a.2);
   }
 
@@ -227,25 +224,15 @@ module _ {D : Type 0} (first v w : View D) (way : IsUnderWay first v) (same : w.
   played ends.DiskFault a = record { rest = drop w.taken v.setup.lines; so_far = (on a.0 a.1 a.2).so_far; ends = tt }
   played ends.NoMemory a = still ends.NoMemory a.0.history tt
 
-  pub ended : (e : End) → Advances v (Some e) w → IsPlayed first.setup.journal (base_of first.setup.origin) first.setup.steps first.setup.lines w.history e
+  ended : (e : End) → Advances v (Some e) w → IsPlayed first.setup.journal (base_of first.setup.origin) first.setup.steps first.setup.lines w.history e
   ended e a = subst (λ (u : Setup). IsPlayed u.journal (base_of u.origin) u.steps u.lines w.history e) way.same (played e a)
 
   pub stopped : (e : End) → Advances v (Some e) w → w.stop ≡ stop_of e
   stopped ends.Done a = a.1
   stopped ends.Spent a = a.1
   stopped (ends.Full size adding) a = a.1
-  stopped ends.DiskFault a = a.4
+  stopped ends.DiskFault a = a.3
   stopped ends.NoMemory a = a.1
-
-  unmoved : IsStill v w → length w.history ≤ w.acked + 1
-  unmoved s = omega (arith, way.acked, ap length s.history, s.acked)
-
-  pub most : (e : End) → Advances v (Some e) w → length w.history ≤ w.acked + 1
-  most ends.Done a = unmoved a.0
-  most ends.Spent a = unmoved a.0
-  most (ends.Full size adding) a = unmoved a.0
-  most ends.DiskFault a = omega (arith, way.acked, a.3, ap length a.2.history, length-append v.history (step_entry v.state a.0 ∷ []))
-  most ends.NoMemory a = unmoved a.0
 
   kept_room : IsStill v w → HadRoom v.setup.origin v.setup.journal w.history
   kept_room s = subst (λ (h : List Entry). HadRoom v.setup.origin v.setup.journal h) (sym s.history) way.room
@@ -257,5 +244,24 @@ module _ {D : Type 0} (first v w : View D) (way : IsUnderWay first v) (same : w.
   room_at ends.DiskFault a = fits a.0 a.2
   room_at ends.NoMemory a = kept_room a.0
 
-  pub roomy : (e : End) → Advances v (Some e) w → HadRoom first.setup.origin first.setup.journal w.history
-  roomy e a = subst (λ (u : Setup). HadRoom u.origin u.journal w.history) way.same (room_at e a)
+  roomy_at : (e : End) → Advances v (Some e) w → HadRoom first.setup.origin first.setup.journal w.history
+  roomy_at e a = subst (λ (u : Setup). HadRoom u.origin u.journal w.history) way.same (room_at e a)
+
+  -- what is left of a container that was closed
+  pub room_closed : (x : View D) (e : End) → Advances v (Some e) w → x ≡ record w { acked = x.acked; stop = x.stop; disk = x.disk } → HadRoom first.setup.origin first.setup.journal x.history
+  room_closed x e a closes = subst (λ (h : List Entry). HadRoom first.setup.origin first.setup.journal h) (sym (ap (λ u. u.history) closes)) (roomy_at e a)
+
+  pub setup_closed : (x : View D) → x ≡ record w { acked = x.acked; stop = x.stop; disk = x.disk } → x.setup ≡ first.setup
+  setup_closed x closes = ap (λ u. u.setup) closes ∙ same ∙ way.same
+
+  ended_as : (e f : End) → IsEndOf e f → IsPlayed first.setup.journal (base_of first.setup.origin) first.setup.steps first.setup.lines w.history e
+      → IsPlayed first.setup.journal (base_of first.setup.origin) first.setup.steps first.setup.lines w.history f
+  ended_as e f (inl is) p = subst (λ (x : End). IsPlayed first.setup.journal (base_of first.setup.origin) first.setup.steps first.setup.lines w.history x) (sym is) p
+  ended_as e f (inr down) p = subst (λ (x : End). IsPlayed first.setup.journal (base_of first.setup.origin) first.setup.steps first.setup.lines w.history x) (sym down)
+      (record { rest = p.rest; so_far = p.so_far; ends = tt })
+
+  pub played_closed : (x : View D) (e f : End) → Advances v (Some e) w → x ≡ record w { acked = x.acked; stop = x.stop; disk = x.disk } → IsEndOf e f
+      → IsPlayed first.setup.journal (base_of first.setup.origin) first.setup.steps first.setup.lines x.history f
+  played_closed x e f a closes is =
+      subst (λ (h : List Entry). IsPlayed first.setup.journal (base_of first.setup.origin) first.setup.steps first.setup.lines h f) (sym (ap (λ u. u.history) closes))
+      (ended_as e f is (ended e a))

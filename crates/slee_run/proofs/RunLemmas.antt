@@ -8,9 +8,9 @@ use Rattle.trace_history.specs.declared.entry.Entry.{Entry}
 use Rattle.slee_run.specs.Words.{command_of}
 use Rattle.slee_run.specs.Status.{status_line}
 use Rattle.slee_run.specs.Text.{output_text, shown_text}
-use Rattle.slee_run.specs.Headline.{Plays, Shows, AsksLater, lines_given, EndsOn, ComesOn, IsShownAt, IsWritten, IsLegalRun, IsGood, IsComplete, IsShown}
-use Rattle.slee_run.specs.Opening.{found, IsAnswerTo}
-use Rattle.slee_run.specs.Answers.{IsPlayedBy, IsShownBy, IsFormOf}
+use Rattle.slee_run.specs.Headline.{Plays, Shows, AsksLater, lines_given, EndsOn, ComesOn, IsShownAt, IsWritten, IsLegalRun, IsComplete, IsShown}
+use Rattle.slee_run.specs.Opening.{found, IsAnswerTo, IsGood}
+use Rattle.slee_run.specs.Answers.{IsPlayedBy, IsPlayFrom, IsShownBy, IsFormOf}
 use Rattle.slee_run.specs.declared.command.Command.{Command}
 use Rattle.slee_run.specs.declared.command.Command.TheVariants as commands
 use Rattle.slee_run.specs.declared.top.Form.TheVariants as forms
@@ -42,6 +42,7 @@ run_of_bad words told before after d status none out = record {
     later = λ asks. absurd (no_command (command_of words) asks.command none asks.asks);
     plays = λ steps is. absurd (no_command (command_of words) (commands.Play 1 steps) none is);
     shows = λ is. absurd (no_command (command_of words) commands.Show none is);
+    alone = λ steps is. absurd (no_command (command_of words) (commands.Play 1 steps) none is);
     unwritten = λ is. cc;
   };
   journal = untouched d statuses.BadWords tt;
@@ -63,6 +64,7 @@ run_of_later words told before after d status c asks later out = record {
     later = λ e. record { same = refl; none = refl; alone = refl };
     plays = λ steps is. absurd (later.0 steps (one_command (command_of words) c (commands.Play 1 steps) asks is));
     shows = λ is. absurd (later.1 (one_command (command_of words) c commands.Show asks is));
+    alone = λ steps is. absurd (later.0 steps (one_command (command_of words) c (commands.Play 1 steps) asks is));
     unwritten = λ is. cc;
   };
   journal = untouched d statuses.NotBuilt tt;
@@ -74,7 +76,7 @@ same_steps : (m n : ℕ) → commands.Play 1 m ≡ commands.Play 1 n → m ≡ n
 same_steps m n is = cc
 
 pub run_of_play : (words : List (List ℕ)) (told before after : Option (List ℕ)) (old new : DiskState) (status : Status) (c : Command) (steps : ℕ) → command_of words ≡ Some c → c ≡ commands.Play 1 steps
-    → IsPlayedBy (λ base history s. IfSome told (λ bytes. ComesOn base steps bytes history s)) before after old new status → IsLegalRun words told before after old new status
+    → IsPlayedBy (λ base history s. IsPlayFrom base steps told history s) before after old new status → IsLegalRun words told before after old new status
 run_of_play words told before after old new status c steps asks plays p = record {
   base = p.base;
   history = p.history;
@@ -85,12 +87,9 @@ run_of_play words told before after old new status c steps asks plays p = record
     legal = p.legal;
     bad = λ none. absurd (no_command (command_of words) c none asks);
     later = λ asked. absurd (asked.no_play steps (one_command (command_of words) asked.command (commands.Play 1 steps) asked.asks asked_play));
-    plays = λ n is. record {
-      comes = subst (λ k. IfSome told (λ bytes. ComesOn p.base k bytes p.history p.stood)) (same_steps steps n (one_command (command_of words) (commands.Play 1 steps) (commands.Play 1 n) asked_play is)) p.comes;
-      words = p.words;
-      prints = refl;
-    };
+    plays = λ n is. record { few = (from n is).few; comes = (from n is).comes; words = p.words; prints = refl };
     shows = λ is. absurd (no_play (one_command (command_of words) commands.Show (commands.Play 1 steps) is asked_play));
+    alone = λ n is. (from n is).alone;
     unwritten = p.unwritten;
   };
   journal = p.journal;
@@ -102,6 +101,9 @@ run_of_play words told before after old new status c steps asks plays p = record
 
     no_play : commands.Show ≡ commands.Play 1 steps → ⊥
     no_play is = cc
+
+    from : (n : ℕ) → command_of words ≡ Some (commands.Play 1 n) → IsPlayFrom p.base n told p.history p.stood
+    from n is = subst (λ k. IsPlayFrom p.base k told p.history p.stood) (same_steps steps n (one_command (command_of words) (commands.Play 1 steps) (commands.Play 1 n) asked_play is)) p.comes
 
 -- they ask to show
 pub run_of_show : (words : List (List ℕ)) (told before after : Option (List ℕ)) (old new : DiskState) (status : Status) (c : Command) → command_of words ≡ Some c → c ≡ commands.Show
@@ -118,6 +120,7 @@ run_of_show words told before after old new status c asks shows p = record {
     later = λ asked. absurd (asked.no_show (one_command (command_of words) asked.command commands.Show asked.asks asked_show));
     plays = λ n is. absurd (no_play n (one_command (command_of words) commands.Show (commands.Play 1 n) asked_show is));
     shows = λ is. record { comes = p.comes; none = refl; prints = refl };
+    alone = λ n is. absurd (no_play n (one_command (command_of words) commands.Show (commands.Play 1 n) asked_show is));
     unwritten = λ is. subst IsShownAt is p.comes;
   };
   journal = p.journal;

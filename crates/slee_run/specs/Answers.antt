@@ -1,12 +1,13 @@
 -- What the parts of a run answer: what is said of the whole in Headline, but for the words.
-use Rattle.std.specs.Prelude.{◌≡◌, ◌≢◌, ◌⊎◌, ℕ, List, [], Option}
+use Rattle.std.specs.Prelude.{◌≡◌, ◌≢◌, ◌⊎◌, ◌≤◌, ℕ, List, [], length, Option, IfSome}
+use Rattle.signal_script.specs.declared.signal.Signal.{Signal}
 use Rattle.slee_disk.specs.Disk.{DiskState}
 use Rattle.trace_history.specs.declared.entry.Entry.{Entry}
 use Rattle.router_model.specs.State.{Parts}
 use Rattle.slee_container.specs.declared.fault.OpenFault.{OpenFault}
 use Rattle.slee_container.specs.declared.fault.OpenFault.TheVariants as faults
 use Rattle.slee_run.specs.Text.{output_text, shown_text}
-use Rattle.slee_run.specs.Headline.{IsHistory, IsShownAt, IsWritten}
+use Rattle.slee_run.specs.Headline.{IsHistory, EndsOn, ComesOn, IsByOne, IsByOneFrom, IsShownAt, IsWritten}
 use Rattle.slee_run.specs.Stops.{KeepsJournal}
 use Rattle.slee_run.specs.declared.command.Command.{Command}
 use Rattle.slee_run.specs.declared.command.Command.TheVariants as commands
@@ -27,6 +28,18 @@ pub record IsPlayedBy (Comes : Parts → List Entry → Status → Type 0) (befo
   pub unwritten : stood ≢ statuses.WriteFault
   pub journal : KeepsJournal base history acked old new stood
   pub output : IsWritten before after (output_text acked stood) stood status
+
+-- a history on lines, in so many entries at most, and the status that it came to
+pub record IsPlayOn (base : Parts) (steps : ℕ) (lines : List Signal) (history : List Entry) (status : Status) : Type 0 where
+  pub few : length history ≤ steps
+  pub ends : EndsOn base steps lines history status
+  pub alone : IsByOne base steps lines history status
+
+-- the same on the bytes that a source told, if it did
+pub record IsPlayFrom (base : Parts) (steps : ℕ) (told : Option (List ℕ)) (history : List Entry) (status : Status) : Type 0 where
+  pub few : length history ≤ steps
+  pub comes : IfSome told (λ bytes. ComesOn base steps bytes history status)
+  pub alone : IsByOneFrom base steps told history status
 
 -- a state that was shown
 pub record IsShownBy (before after : Option (List ℕ)) (old new : DiskState) (status : Status) : Type 0 where

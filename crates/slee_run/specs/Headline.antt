@@ -1,5 +1,5 @@
 -- What a run is: a legal history of the signal lines, its text, and a status with its cause.
-use Rattle.std.specs.Prelude.{◌≡◌, ◌≢◌, ◌⊎◌, ℕ, ◌+◌, ◌<◌, ◌≤◌, nat_le, Bool, true, false, IsTrue, IsOk, if◌then◌else◌, is_some, List, [], ◌++◌, length, Ok, Err, Some, None, IfSome, MatchOption}
+use Rattle.std.specs.Prelude.{◌≡◌, ◌≢◌, ◌⊎◌, ℕ, ◌+◌, ◌<◌, ◌≤◌, nat_le, Bool, true, false, IsTrue, IsOk, if◌then◌else◌, is_some, List, [], ◌∷◌, ◌++◌, length, Ok, Err, Some, None, IfSome, MatchOption}
 use mathlib.Core.List.{IsPrefix}
 use Rattle.std.specs.Io.KnownBytes.{Appends}
 use Rattle.std.specs.List.{list_all}
@@ -11,17 +11,18 @@ use Rattle.signal_script.specs.declared.fault.SignalFault.TheVariants as line_fa
 use Rattle.signal_script.specs.declared.signal.Signal.{Signal}
 use Rattle.slee_disk.specs.Disk.{DiskState}
 use Rattle.slee_disk.specs.Writes.{AppendsFront}
-use Rattle.trace_history.specs.Histories.{inputs_of}
+use Rattle.trace_history.specs.Histories.{inputs_of, input_of}
 use Rattle.trace_history.specs.declared.choice.Choice.{Choice}
 use Rattle.trace_history.specs.declared.entry.Entry.{Entry}
 use Rattle.router_model.specs.State.{Parts, is_used_up}
-use Rattle.router_rules.specs.History.{Legal, replay, due, solo}
+use Rattle.router_rules.specs.Step.{is_enabled}
+use Rattle.router_rules.specs.History.{Legal, replay, solo}
 use Rattle.router_rules.specs.Payload.{payload}
 use Rattle.router_rules.specs.Taking.{is_routed}
 use Rattle.slee_run.specs.Words.{command_of}
 use Rattle.slee_run.specs.Status.{status_line}
 use Rattle.slee_run.specs.Text.{output_text, shown_text}
-use Rattle.slee_run.specs.Opening.{journal_limit, found}
+use Rattle.slee_run.specs.Opening.{journal_limit, found, IsGood}
 use Rattle.slee_run.specs.Stops.{KeepsJournal}
 use Rattle.slee_run.specs.declared.command.Command.{Command}
 use Rattle.slee_run.specs.declared.command.Command.TheVariants as commands
@@ -57,56 +58,43 @@ inputs_of_lines (Err fault) = None
 abbrev pub lines_given : List ℕ → Option (List Signal)
 lines_given bytes = if nat_le (length bytes) signals_limit then inputs_of_lines (signals_of bytes) else None
 
--- the run of one worker on these lines, or a front of it
-pub record IsFrontOn (base : Parts) (steps : ℕ) (lines : List Signal) (history : List Entry) : Type 0 where
-  pub left : List Signal
-  pub taken : inputs_of history ++ left ≡ lines
-  pub rest : List Entry
-  pub front : history ++ rest ≡ solo steps base lines
+-- A choice may follow where these lines are left: it is enabled, and if it takes a line, it takes the next.
+pub record MayFollow (s : Parts) (left : List Signal) (c : Choice) : Type 0 where
+  pub enabled : IsTrue (is_enabled s c)
+  pub next : IsPrefix (input_of c) left
 
--- the run of one worker, which took all lines and left no choice enabled in a state that isn't used up
-pub record IsDoneOn (base : Parts) (steps : ℕ) (lines : List Signal) (history : List Entry) : Type 0 where
-  pub whole : history ≡ solo steps base lines
+-- all lines were taken, and no choice is left in a state that isn't used up
+pub record IsDoneOn (base : Parts) (lines : List Signal) (history : List Entry) : Type 0 where
   pub taken : inputs_of history ≡ lines
-  pub idle : due (replay base history) [] ≡ None
+  pub idle : (c : Choice) → MayFollow (replay base history) [] c → ⊥
   pub fresh : is_used_up (replay base history) ≡ false
 
--- The run of one worker, which may go no further: the state is used up, or there are as many entries as the words allow,
--- and a choice is enabled or a line is left.
+-- The history may go no further: the state is used up, or there are as many entries as the words allow, and a choice may follow.
 pub record IsSpentOn (base : Parts) (steps : ℕ) (lines : List Signal) (history : List Entry) : Type 0 where
-  pub whole : history ≡ solo steps base lines
-  pub left : List Signal
-  pub taken : inputs_of history ++ left ≡ lines
-  pub spent : (is_used_up (replay base history) ≡ true) ⊎ ((length history ≡ steps) × (is_some (due (replay base history) left) ≡ true))
+  pub taken : IsPrefix (inputs_of history) lines
+  pub spent : (is_used_up (replay base history) ≡ true) ⊎ ((length history ≡ steps) × ((c : Choice) × MayFollow (replay base history) taken.0 c))
 
--- One worker would go on, with a choice whose record has this many bytes; with it a side of this size would be longer
--- than the limit.
-pub record HasNoRoom (limit : ℕ) (base : Parts) (steps : ℕ) (history : List Entry) (left : List Signal) (size adding : ℕ) : Type 0 where
+-- A choice may follow whose record has this many bytes; with it a side of this size would be longer than the limit.
+pub record IsFullOn (limit : ℕ) (base : Parts) (steps : ℕ) (lines : List Signal) (history : List Entry) (size adding : ℕ) : Type 0 where
+  pub taken : IsPrefix (inputs_of history) lines
   pub fewer : length history < steps
   pub choice : Choice
-  pub more : List Signal
-  pub next : due (replay base history) left ≡ Some (choice, more)
+  pub may : MayFollow (replay base history) taken.0 choice
   pub adds : adding ≡ 5 + length (payload (replay base history) choice)
   pub above : limit < size + adding
 
--- a front of the run of one worker, behind which the next record has no room in the journal
-pub record IsFullOn (base : Parts) (steps : ℕ) (lines : List Signal) (history : List Entry) (size adding : ℕ) : Type 0 where
-  pub front : IsFrontOn base steps lines history
-  pub full : HasNoRoom journal_limit base steps history front.left size adding
-
--- When a run on these lines, in so many entries at most, comes to a status, and what its history is then. The lines and the
--- state leave one status, but for faults of the outside, what the journal has or has room for, and want of memory.
+-- When a run on these lines, in so many entries at most, comes to a status, and what its history is then.
 abbrev pub EndsOn : Parts → ℕ → List Signal → List Entry → Status → Type 0
-EndsOn base steps lines history statuses.Ok = IsDoneOn base steps lines history
+EndsOn base steps lines history statuses.Ok = IsDoneOn base lines history
 EndsOn base steps lines history statuses.BadWords = ⊥
 EndsOn base steps lines history statuses.ReadFault = history ≡ []
 EndsOn base steps lines history statuses.WriteFault = ⊥
-EndsOn base steps lines history statuses.DiskFault = IsFrontOn base steps lines history
+EndsOn base steps lines history statuses.DiskFault = IsPrefix (inputs_of history) lines
 EndsOn base steps lines history (statuses.BadJournal side at kind) = history ≡ []
 EndsOn base steps lines history (statuses.OtherDeployment kept_len place) = history ≡ []
-EndsOn base steps lines history (statuses.Full size adding) = IsFullOn base steps lines history size adding
+EndsOn base steps lines history (statuses.Full size adding) = IsFullOn journal_limit base steps lines history size adding
 EndsOn base steps lines history (statuses.StepsSpent entries) = (entries ≡ length history) × IsSpentOn base steps lines history
-EndsOn base steps lines history statuses.NoMemory = IsFrontOn base steps lines history
+EndsOn base steps lines history statuses.NoMemory = IsPrefix (inputs_of history) lines
 EndsOn base steps lines history (statuses.BadSignals line kind) = ⊥
 EndsOn base steps lines history (statuses.TooLarge what) = ⊥
 EndsOn base steps lines history statuses.NotBuilt = ⊥
@@ -154,12 +142,29 @@ IsShownAt (statuses.BadSignals line kind) = ⊥
 IsShownAt (statuses.TooLarge what) = ⊥
 IsShownAt statuses.NotBuilt = ⊥
 
--- A history is legal, and a front of it was acknowledged: all of it, but perhaps for one entry where the disk failed.
+-- the record of the first of these entries adds so many bytes
+abbrev pub AddsFirst : Parts → ℕ → List Entry → Type 0
+AddsFirst s adding [] = ⊥
+AddsFirst s adding (e ∷ more) = adding ≡ 5 + length (payload s e.choice)
+
+-- With one worker a history is a front of that worker's run. It is all of it where the run is done or spent, and a record that
+-- has no room is that of the next entry.
+pub record IsByOne (base : Parts) (steps : ℕ) (lines : List Signal) (history : List Entry) (status : Status) : Type 0 where
+  pub rest : List Entry
+  pub front : history ++ rest ≡ solo steps base lines
+  pub done : status ≡ statuses.Ok → rest ≡ []
+  pub spent : (entries : ℕ) → status ≡ statuses.StepsSpent entries → rest ≡ []
+  pub full : (size adding : ℕ) → status ≡ statuses.Full size adding → AddsFirst (replay base history) adding rest
+
+-- the same of the lines that a source told, if it did and they are lines
+abbrev pub IsByOneFrom : Parts → ℕ → Option (List ℕ) → List Entry → Status → Type 0
+IsByOneFrom base steps told history status = IfSome told (λ bytes. IfSome (lines_given bytes) (λ lines. IsByOne base steps lines history status))
+
+-- A history is legal, and a front of it was acknowledged: all of it, unless the disk failed.
 pub record IsHistory (base : Parts) (history acked : List Entry) (status : Status) : Type 0 where
   pub legal : Legal base history
   pub front : IsPrefix acked history
   pub whole : status ≢ statuses.DiskFault → acked ≡ history
-  pub most : length history ≤ length acked + 1
 
 -- nothing is done but this refusal
 pub record IsRefusal (history : List Entry) (text : List ℕ) (refusal status : Status) : Type 0 where
@@ -169,6 +174,7 @@ pub record IsRefusal (history : List Entry) (text : List ℕ) (refusal status : 
 
 -- what is played, from a source that told that these bytes were left
 pub record IsPlay (base : Parts) (steps : ℕ) (told : Option (List ℕ)) (history acked : List Entry) (text : List ℕ) (status : Status) : Type 0 where
+  pub few : length history ≤ steps
   pub comes : IfSome told (λ bytes. ComesOn base steps bytes history status)
   pub words : status ≢ statuses.BadWords
   pub prints : text ≡ output_text acked status
@@ -186,6 +192,8 @@ pub record IsRun (base : Parts) (words : List (List ℕ)) (told : Option (List �
   pub later : AsksLater words → IsRefusal history text statuses.NotBuilt status
   pub plays : (steps : ℕ) → Plays words steps → IsPlay base steps told history acked text status
   pub shows : Shows words → IsShow base history text status
+  -- of one worker besides
+  pub alone : (steps : ℕ) → Plays words steps → IsByOneFrom base steps told history status
   pub unwritten : status ≢ statuses.WriteFault
 
 -- The text is out and the status is the one that stood, or a front of the text is out.
@@ -205,22 +213,6 @@ pub record IsLegalRun (words : List (List ℕ)) (told before after : Option (Lis
   pub journal : KeepsJournal base history acked old new stood
   pub output : IsWritten before after text stood status
 
--- statuses with which a run on good lines and an honest journal ends
-abbrev pub IsGood : Status → Type 0
-IsGood statuses.Ok = Unit {0}
-IsGood statuses.BadWords = ⊥
-IsGood statuses.ReadFault = ⊥
-IsGood statuses.WriteFault = ⊥
-IsGood statuses.DiskFault = ⊥
-IsGood (statuses.BadJournal side at kind) = ⊥
-IsGood (statuses.OtherDeployment kept_len place) = ⊥
-IsGood (statuses.Full size adding) = Unit {0}
-IsGood (statuses.StepsSpent entries) = Unit {0}
-IsGood statuses.NoMemory = Unit {0}
-IsGood (statuses.BadSignals line kind) = ⊥
-IsGood (statuses.TooLarge what) = ⊥
-IsGood statuses.NotBuilt = ⊥
-
 -- With words that play, lines of the grammar within the limit, and bytes on the disk that stand for a state, a run without
 -- a fault comes to no other status.
 abbrev pub IsComplete : List (List ℕ) → Option (List ℕ) → DiskState → Type 0 → Status → Type 0
@@ -233,16 +225,16 @@ abbrev pub IsShown : List (List ℕ) → DiskState → Type 0 → Status → Typ
 IsShown words disk Faulted status =
     Shows words → IsTrue disk.told → IsOk (found disk) → (Faulted → ⊥) → (status ≡ statuses.Ok) ⊎ (status ≡ statuses.NoMemory)
 
--- a status that doesn't follow from the words and the lines
+-- a status that doesn't follow from the words, the lines and the journal
 abbrev pub IsByFault : Status → Type 0
 IsByFault statuses.Ok = ⊥
 IsByFault statuses.BadWords = ⊥
 IsByFault statuses.ReadFault = Unit {0}
 IsByFault statuses.WriteFault = ⊥
 IsByFault statuses.DiskFault = Unit {0}
-IsByFault (statuses.BadJournal side at kind) = Unit {0}
-IsByFault (statuses.OtherDeployment kept_len place) = Unit {0}
-IsByFault (statuses.Full size adding) = Unit {0}
+IsByFault (statuses.BadJournal side at kind) = ⊥
+IsByFault (statuses.OtherDeployment kept_len place) = ⊥
+IsByFault (statuses.Full size adding) = ⊥
 IsByFault (statuses.StepsSpent entries) = ⊥
 IsByFault statuses.NoMemory = Unit {0}
 IsByFault (statuses.BadSignals line kind) = ⊥

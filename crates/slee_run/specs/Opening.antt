@@ -74,3 +74,19 @@ IsBeforeOpening statuses.NoMemory = ⊥
 IsBeforeOpening (statuses.BadSignals line kind) = Unit {0}
 IsBeforeOpening (statuses.TooLarge what) = Unit {0}
 IsBeforeOpening statuses.NotBuilt = Unit {0}
+
+-- statuses with which a run on good lines and an honest journal ends
+abbrev pub IsGood : Status → Type 0
+IsGood statuses.Ok = Unit {0}
+IsGood statuses.BadWords = ⊥
+IsGood statuses.ReadFault = ⊥
+IsGood statuses.WriteFault = ⊥
+IsGood statuses.DiskFault = ⊥
+IsGood (statuses.BadJournal side at kind) = ⊥
+IsGood (statuses.OtherDeployment kept_len place) = ⊥
+IsGood (statuses.Full size adding) = Unit {0}
+IsGood (statuses.StepsSpent entries) = Unit {0}
+IsGood statuses.NoMemory = Unit {0}
+IsGood (statuses.BadSignals line kind) = ⊥
+IsGood (statuses.TooLarge what) = ⊥
+IsGood statuses.NotBuilt = ⊥

@@ -6,6 +6,7 @@ use Rattle.trace_history.specs.declared.choice.Choice.{Choice}
 use Rattle.trace_history.specs.declared.entry.Entry.{Entry}
 use Rattle.router_model.specs.State.{Parts, is_used_up}
 use Rattle.router_rules.specs.Step.{after, step_entry}
+use Rattle.router_rules.specs.Payload.{payload}
 use Rattle.router_rules.specs.History.{replay, due, due_next, least_choice, IsSoFar}
 use Rattle.slee_container.specs.declared.fault.StepFault.{StepFault}
 use Rattle.slee_container.specs.declared.fault.StepFault.TheVariants as faults
@@ -13,7 +14,6 @@ use Rattle.slee_container.specs.declared.fault.Stop.{Stop}
 use Rattle.slee_container.specs.declared.fault.Stop.TheVariants as stops
 use Rattle.slee_container.specs.Facts.{Origin, size_after, size_added, HasRoom}
 use Rattle.slee_container.specs.Container.{View, is_spent}
-use Rattle.slee_run.specs.Headline.{HasNoRoom}
 use Rattle.slee_run.specs.declared.playing.End.{End}
 use Rattle.slee_run.specs.declared.playing.End.TheVariants as ends
 use Rattle.slee_run.specs.declared.status.Status.{Status}
@@ -40,12 +40,11 @@ pub record IsStepOn {D : Type 0} (old : View D) (c : Choice) (new : View D) : Ty
 pub record IsStill {D : Type 0} (old new : View D) : Type 0 where
   pub history : new.history ≡ old.history
   pub taken : new.taken ≡ old.taken
-  pub acked : new.acked ≡ old.acked
 
 -- what a step does to a container without claims
 abbrev pub Moves : {D : Type 0} → View D → Choice → Result ℕ StepFault → View D → Type 0
-Moves old c (Ok number) new = IsStepOn old c new × (new.acked ≡ length new.history) × (new.stop ≡ None) × (new.claims ≡ [])
-Moves old c (Err faults.DiskFault) new = IsStepOn old c new × (new.acked ≡ old.acked) × (new.stop ≡ Some stops.DiskFault)
+Moves old c (Ok number) new = IsStepOn old c new × (new.stop ≡ None) × (new.claims ≡ [])
+Moves old c (Err faults.DiskFault) new = IsStepOn old c new × (new.stop ≡ Some stops.DiskFault)
 Moves old c (Err (faults.Full size adding)) new = IsStill old new × (new.stop ≡ Some (stops.Full size adding)) × (adding ≡ size_added old.setup.origin old.history c) × (old.setup.journal < size + adding)
 Moves old c (Err faults.NoMemory) new = IsStill old new × (new.stop ≡ old.stop)
 Moves old c (Err faults.Spent) new = IsStill old new × (new.stop ≡ old.stop) × IsTrue (is_spent old.setup.steps old.history old.state)
@@ -64,19 +63,29 @@ IsSpent s steps history lines = (is_used_up s ≡ true) ⊎ ((length history ≡
 
 -- what one step of playing does: it goes on, or this is the end
 abbrev pub Advances : {D : Type 0} → View D → Option End → View D → Type 0
-Advances old None new = (c : Choice) × IsDueIn old c × IsStepOn old c new × (new.acked ≡ length new.history) × (new.stop ≡ None) × (new.claims ≡ [])
-Advances old (Some ends.DiskFault) new = (c : Choice) × IsDueIn old c × IsStepOn old c new × (new.acked ≡ old.acked) × (new.stop ≡ Some stops.DiskFault)
+Advances old None new = (c : Choice) × IsDueIn old c × IsStepOn old c new × (new.stop ≡ None) × (new.claims ≡ [])
+Advances old (Some ends.DiskFault) new = (c : Choice) × IsDueIn old c × IsStepOn old c new × (new.stop ≡ Some stops.DiskFault)
 Advances old (Some (ends.Full size adding)) new = IsStill old new × (new.stop ≡ Some (stops.Full size adding)) × (c : Choice) × IsDueIn old c × (adding ≡ size_added old.setup.origin old.history c) × (old.setup.journal < size + adding)
 Advances old (Some ends.NoMemory) new = IsStill old new × (new.stop ≡ None)
 Advances old (Some ends.Spent) new = IsStill old new × (new.stop ≡ None) × ((length old.history ≤ old.setup.steps) → IsSpent old.state old.setup.steps old.history (left old))
 Advances old (Some ends.Done) new = IsStill old new × (new.stop ≡ None) × (left old ≡ []) × (due old.state [] ≡ None) × (is_used_up old.state ≡ false)
+
+-- One worker would go on, with a choice whose record has this many bytes; with it a side of this size would be longer than the
+-- limit.
+pub record NextHasNoRoom (limit : ℕ) (base : Parts) (steps : ℕ) (history : List Entry) (left : List Signal) (size adding : ℕ) : Type 0 where
+  pub fewer : length history < steps
+  pub choice : Choice
+  pub more : List Signal
+  pub next : due (replay base history) left ≡ Some (choice, more)
+  pub adds : adding ≡ 5 + length (payload (replay base history) choice)
+  pub above : limit < size + adding
 
 -- how playing ends: done, where no line is left and no choice is enabled; spent, where the run may go no further; full, where
 -- the next record has no room
 abbrev pub EndsAs : ℕ → Parts → ℕ → List Entry → List Signal → End → Type 0
 EndsAs limit base steps history rest ends.Done = (rest ≡ []) × (due (replay base history) rest ≡ None) × (is_used_up (replay base history) ≡ false)
 EndsAs limit base steps history rest ends.Spent = IsSpent (replay base history) steps history rest
-EndsAs limit base steps history rest (ends.Full size adding) = HasNoRoom limit base steps history rest size adding
+EndsAs limit base steps history rest (ends.Full size adding) = NextHasNoRoom limit base steps history rest size adding
 EndsAs limit base steps history rest ends.DiskFault = Unit {0}
 EndsAs limit base steps history rest ends.NoMemory = Unit {0}
 
@@ -88,7 +97,7 @@ pub record IsPlayed (limit : ℕ) (base : Parts) (steps : ℕ) (lines : List Sig
 
 -- each entry that was made had room
 abbrev pub HadRoom : Origin → ℕ → List Entry → Type 0
-HadRoom o limit history = IsTrue o.clean → (history ≡ []) ⊎ (size_after o history ≤ limit)
+HadRoom o limit history = IsTrue o.told → (history ≡ []) ⊎ (size_after o history ≤ limit)
 
 -- how an end has stopped a container
 abbrev pub stop_of : End → Option Stop
@@ -97,6 +106,10 @@ stop_of ends.Spent = None
 stop_of (ends.Full size adding) = Some (stops.Full size adding)
 stop_of ends.DiskFault = Some stops.DiskFault
 stop_of ends.NoMemory = None
+
+-- the end of a run is as it was, unless the disk failed when what was left was written
+abbrev pub IsEndOf : End → End → Type 0
+IsEndOf end closed = (closed ≡ end) ⊎ (closed ≡ ends.DiskFault)
 
 -- the status of an end, after so many entries
 abbrev pub status_after : ℕ → End → Status

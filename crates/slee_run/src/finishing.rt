@@ -30,7 +30,6 @@ pub fn finish<'d, K: Sink, D: Disk>(
     container: &Container<'d, D>,
     stood: Status,
 ) -> Status
-    requires { container.now.acked ≤ length container.now.history }
     ensures output { IsWritten (K.contents out.old) (K.contents out.new) (output_text (take container.now.acked container.now.history) stood) stood result }
     ensures write { stood ≢ Status.WriteFault → result ≡ Status.WriteFault → Rose (K.faults out.old) (K.faults out.new) }
 {

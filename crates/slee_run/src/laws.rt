@@ -1,11 +1,11 @@
 //! Words and commands, and what words and lines determine.
-ghost use Rattle.std.specs.Prelude.{◌≡◌, ℕ, List, true, Some};
+ghost use Rattle.std.specs.Prelude.{◌≡◌, ℕ, List, true, Some, IsTrue};
 ghost use Rattle.slee_run.specs.declared.command.Command.{Command};
-ghost use Rattle.trace_history.specs.declared.entry.Entry.{Entry};
-ghost use Rattle.router_model.specs.State.{Parts};
-ghost use Rattle.slee_run.specs.declared.status.Status.{Status};
-ghost use Rattle.slee_run.specs.Headline.{IsRun, IsByFault};
+ghost use Rattle.slee_run.specs.Headline.{IsByFault};
+ghost use Rattle.slee_run.specs.Determined.{Outcome, IsRunOver};
 ghost use Rattle.slee_run.specs.Words.{command_of, spelled, is_in_range};
+
+use slee_disk::Disk;
 
 /// Words that ask a command are its spelling, and its numbers are in range.
 #[tactic(auto, using(crate::proofs::WordLemmas::command_spelled, crate::proofs::WordLemmas::command_in_range))]
@@ -20,8 +20,10 @@ pub fn spelled_is_command()
     ensures { (command : Command) → is_in_range command ≡ true → command_of (spelled command) ≡ Some command }
 {}
 
-/// The state that a run goes on from, the words and the bytes of the source determine the status, the history and the text,
-/// but for faults of the outside, what the journal has no room for, and want of memory.
-pub fn run_is_determined()
-    ensures { (base : Parts) (words : List (List ℕ)) (bytes : List ℕ) (h k a b : List Entry) (x y : List ℕ) (s t : Status) → IsRun base words (Some bytes) h a x s → IsRun base words (Some bytes) k b y t → (IsByFault s → ⊥) → (IsByFault t → ⊥) → (s ≡ t) × (h ≡ k) × (x ≡ y) }
+/// The words, the bytes of the source and the journal determine the status, the history and the text, but for faults of the
+/// outside and want of memory. Two runs found the one disk, and left the others.
+pub fn run_is_determined<D: Disk>(found: &D, one: &D, other: &D)
+    ensures { (words : List (List ℕ)) (bytes : List ℕ) (p q : Outcome) → IsTrue (D.disk found.now).told
+        → IsRunOver words bytes (D.disk found.now) (D.disk one.now) p → IsRunOver words bytes (D.disk found.now) (D.disk other.now) q
+        → (IsByFault p.status → ⊥) → (IsByFault q.status → ⊥) → (p.status ≡ q.status) × (p.history ≡ q.history) × (p.text ≡ q.text) }
 {}

@@ -11,10 +11,12 @@ mod running;
 mod showing;
 mod status;
 mod top;
+mod twice;
 mod words;
 
 pub use command::Command;
 pub use laws::{command_is_spelled, run_is_determined, spelled_is_command};
 pub use status::{Given, Status};
 pub use top::run_one;
+pub use twice::{Twice, play_twice};
 pub use words::command_of;

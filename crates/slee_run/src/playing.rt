@@ -1,11 +1,12 @@
 //! Playing what a container has to do, a step at a time.
-ghost use Rattle.std.specs.Prelude.{◌≡◌, ◌≤◌, ◌+◌, [], None, Some, IsTrue, length};
+ghost use Rattle.std.specs.Prelude.{◌≡◌, [], None, Some, IsTrue, length, false};
 ghost use Rattle.std.specs.List.{list_all};
 ghost use Rattle.router_rules.specs.Taking.{is_input};
 ghost use Rattle.router_rules.specs.Selection.{next};
 ghost use Rattle.router_rules.specs.Step.{choice_on};
 ghost use Rattle.slee_container.specs.Facts.{base_of};
-ghost use Rattle.slee_run.specs.Playing.{Moves, Advances, IsPlayed, HadRoom, end_of, stop_of};
+ghost use Rattle.slee_run.specs.Playing.{Moves, Advances, IsPlayed, IsEndOf, HadRoom, end_of, stop_of};
+ghost use Rattle.slee_container.specs.Core.{is_down};
 
 use router_rules::Kindred;
 use slee_container::{Container, Redone, StepFault, Work};
@@ -29,7 +30,7 @@ pub enum End {
 }
 
 /// Plays what is to be done, until nothing is or nothing may be.
-#[tactic(auto, using(crate::proofs::PlayLemmas::begun, crate::proofs::PlayLemmas::nearer, crate::proofs::PlayLemmas::stopped, crate::proofs::PlayLemmas::most, crate::proofs::PlayLemmas::roomy))]
+#[tactic(auto, using(crate::proofs::PlayLemmas::begun, crate::proofs::PlayLemmas::nearer, crate::proofs::PlayLemmas::stopped))]
 pub fn play<'d, D: Disk>(container: &mut Container<'d, D>) -> End
     requires history { container.old.history ≡ [] }
     requires state { container.old.state ≡ base_of container.old.setup.origin }
@@ -41,15 +42,32 @@ pub fn play<'d, D: Disk>(container: &mut Container<'d, D>) -> End
     ensures setup { container.new.setup ≡ container.old.setup }
     ensures played { IsPlayed container.old.setup.journal (base_of container.old.setup.origin) container.old.setup.steps container.old.setup.lines container.new.history result }
     ensures stop { container.new.stop ≡ stop_of result }
-    ensures most { length container.new.history ≤ container.new.acked + 1 }
+    ensures whole { is_down container.new.stop ≡ false → container.new.acked ≡ length container.new.history }
     ensures room { HadRoom container.old.setup.origin container.old.setup.journal container.new.history }
 {
     'entries: loop {
         match advance(container) {
-            Some(end) => return end,
+            Some(end) => return close(container, end),
             None => {}
         }
     }
+}
+
+/// Makes sure of what isn't acknowledged yet, unless the disk has failed.
+fn close<'d, D: Disk>(container: &mut Container<'d, D>, end: End) -> End
+    requires stop { container.old.stop ≡ stop_of end }
+    ensures closes { container.new ≡ record container.old { acked = container.new.acked; stop = container.new.stop; disk = container.new.disk } }
+    ensures end { IsEndOf end result }
+    ensures stop { container.new.stop ≡ stop_of result }
+    ensures whole { is_down container.new.stop ≡ false → container.new.acked ≡ length container.new.history }
+{
+    let End::DiskFault = end else {
+        return match container.flush() {
+            Ok(()) => end,
+            Err(_) => End::DiskFault,
+        };
+    };
+    end
 }
 
 /// Does what is to be done next.

@@ -1,12 +1,12 @@
 //! Playing lines over a journal, from a disk to a disk.
-ghost use Rattle.std.specs.Prelude.{◌≡◌, ◌≢◌, ◌≤◌, ◌+◌, IfSome, IfOk, IfErr, OnOk, take, length};
+ghost use Rattle.std.specs.Prelude.{◌≡◌, ◌+◌};
 ghost use Rattle.std.specs.Io.KnownBytes.{IsAtEnd};
 ghost use Rattle.slee_disk.specs.Causes.{Rose};
 ghost use Rattle.slee_disk.specs.Taken.{ConsumesSome};
-ghost use Rattle.slee_run.specs.Headline.{ComesOn, EndsOn, signals_limit};
+ghost use Rattle.slee_run.specs.Headline.{signals_limit};
 ghost use Rattle.slee_run.specs.Opening.{IsBeforeOpening};
 ghost use Rattle.slee_run.specs.Playing.{status_after};
-ghost use Rattle.slee_run.specs.Answers.{IsPlayedBy, status_of};
+ghost use Rattle.slee_run.specs.Answers.{IsPlayedBy, IsPlayOn, IsPlayFrom, status_of};
 
 use crate::finishing::{finish, refuse};
 use crate::playing::{End, play};
@@ -31,7 +31,7 @@ pub fn play_source<T: Source, K: Sink, D: Disk>(
     disk: D,
     steps: u64,
 ) -> (Status, D)
-    ensures played { IsPlayedBy (λ base history stood. IfSome (T.left signals.old) (λ bytes. ComesOn base steps bytes history stood))
+    ensures played { IsPlayedBy (λ base history stood. IsPlayFrom base steps (T.left signals.old) history stood)
         (K.contents out.old) (K.contents out.new) (D.disk disk) (D.disk result.1) result.0 }
     ensures read { result.0 ≡ Status.ReadFault → Rose (T.faults signals.old) (T.faults signals.new) }
     ensures write { result.0 ≡ Status.WriteFault → Rose (K.faults out.old) (K.faults out.new) }
@@ -54,7 +54,7 @@ fn play_lines<K: Sink, D: Disk>(
     disk: D,
     steps: u64,
 ) -> (Status, D)
-    ensures played { IsPlayedBy (λ base history stood. EndsOn base steps lines.now history stood)
+    ensures played { IsPlayedBy (λ base history stood. IsPlayOn base steps lines.now history stood)
         (K.contents out.old) (K.contents out.new) (D.disk disk) (D.disk result.1) result.0 }
     ensures write { result.0 ≡ Status.WriteFault → Rose (K.faults out.old) (K.faults out.new) }
     ensures disk { result.0 ≡ Status.DiskFault → Rose (D.disk disk).faults (D.disk result.1).faults }
@@ -77,9 +77,7 @@ fn play_lines<K: Sink, D: Disk>(
     };
     let valid = lines.as_slice();
     let _ = valid;
-    container.kept();
     let end = play(&mut container);
-    container.kept();
     let stood = status_after(container.history().len(), end);
     let status = finish(alloc, out, &container, stood);
     (status, container.into_disk())

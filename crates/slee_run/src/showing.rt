@@ -37,7 +37,6 @@ pub fn show<K: Sink, D: Disk>(alloc: Global, out: &mut K, disk: D) -> (Status, D
         Ok(container) => container,
         Err((fault, disk)) => return (refuse(out, status_of(fault)), disk),
     };
-    container.kept();
     let status = show_state(out, &container);
     (status, container.into_disk())
 }

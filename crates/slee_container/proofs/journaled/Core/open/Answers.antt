@@ -5,6 +5,7 @@ use Rattle.slee_container.proofs.Opens.{Opened, Begins, IsBegun, plain_of, opene
 use Rattle.slee_container.specs.Facts.{told_on}
 use Rattle.slee_container.specs.Opening.{StandsFor}
 use Rattle.slee_disk.specs.Disk.{LeavesOnly}
+use Rattle.slee_container.proofs.Steps.{is_held}
 use Rattle.slee_container.proofs.journaled.Core.open.Goals as goal
 
 pub invariant_of-result : goal.invariant_of-result
@@ -21,6 +22,9 @@ invariant_of-result g c =
     (same_origin g.D.Disk.disk c.args.deployment.now j.records _ _ _ _ c.of-begun.ensures b.still.records c.of-opened.ensures)
     c.new.ensures c.in-Ok-replay.ensures.state
     (opened_sound g.D.Disk.disk (g.D.Disk.disk c.args.disk) c.args.deployment.now j o both.0 both.1 c.begin.new.self begins begun)
+
+pub returns-clause-held : goal.returns-clause-held
+returns-clause-held g c = is_held c.begin.new.self (g.D.Disk.disk c.begin.new.self.disk) _ _ _ _ _ (invariant_of-result g c)
 
 pub returns-clause-state : goal.returns-clause-state
 returns-clause-state g c =
@@ -67,4 +71,4 @@ returns-in-Err-begin-clause-left_alone g c =
     let ok = c.in-Ok.ensures in
     let o : Opened g.D.Disk.disk (g.D.Disk.disk c.args.disk) c.args.deployment.now j = record { opened = ok.opened; records = ok.records; named = ok.named; seen = ok.seen; looks = ok.looks; leaves = ok.any_moment; rest = ok.rest; idle = ok.empty } in
     let both = plain_of j.kept.head.snapshot j.records c.in-Ok-replay.ensures.fits in
-    λ clean w is. absurd (no_fault g.D.Disk.disk (g.D.Disk.disk c.args.disk) c.args.deployment.now j o both.0 both.1 clean w is)
+    λ told w is. absurd (no_fault g.D.Disk.disk (g.D.Disk.disk c.args.disk) c.args.deployment.now j o both.0 both.1 told w is)

@@ -109,7 +109,7 @@ returns-in-Ok-flushed-clause-step g c =
     let f = c.flush-flushed.ensures in
     let flushed : Flushed g.D.Disk.disk c.append.new.self c.flush-flushed.new.self = record { head = f.still.head; told = f.told; rising = f.rising; leaves = f.any_moment } in
     let room = whole_room g.D.Disk.disk c.self.inside.journal c.append.new.self c.flush-flushed.new.self _ _ _ parts _ _ c.self.invariant live c.in-Ok-append.ensures.ok choice made.valid made.enabled paid flushed c.push.new.self.entries entries c.in-Ok-append.ensures.fits in
-    rw (← c.self.view_is) (entries, c.len-number.ensures, c.len-number.ensures, live, state, room)
+    rw (← c.self.view_is) (entries, c.len-number.ensures, live, state, room)
 
 pub returns-in-Err-clause-step : goal.returns-in-Err-clause-step
 returns-in-Err-clause-step g c =
@@ -124,4 +124,4 @@ returns-in-Err-clause-step g c =
     let f = c.flush-flushed.ensures in
     let flushed : Flushed g.D.Disk.disk c.append.new.self c.flush-flushed.new.self = record { head = f.still.head; told = f.told; rising = f.rising; leaves = f.any_moment } in
     let room = whole_room g.D.Disk.disk c.self.inside.journal c.append.new.self c.flush-flushed.new.self _ _ _ parts _ _ c.self.invariant live c.in-Ok-append.ensures.ok choice made.valid made.enabled paid flushed c.push.new.self.entries entries c.in-Ok-append.ensures.fits in
-    rw (← c.self.view_is) (entries, refl, refl, state, room)
+    rw (← c.self.view_is) (entries, refl, state, room)

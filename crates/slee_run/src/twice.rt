@@ -1,0 +1,58 @@
+//! Two runs over one disk, one after the other: what the promises of the top call say of both.
+ghost use Rattle.std.specs.Prelude.{ℕ, Some, IfOk};
+ghost use Rattle.slee_disk.specs.MemoryDisk.{state_of};
+ghost use Rattle.slee_run.specs.Headline.{IsLegalRun, Plays};
+ghost use Rattle.slee_run.specs.Words.{texts};
+ghost use Rattle.slee_run.specs.Twice.{IsUnbroken, IsOneHistory};
+
+use crate::{Status, run_one};
+use slee_disk::{MemoryDisk, MemorySink, MemorySource};
+use slee_value::{Blob, NoMemory};
+use std::alloc::Global;
+
+/// How many bytes a read gives at most.
+const PIECE: u64 = 4096;
+
+/// What two runs came to.
+#[derive(Drop)]
+pub struct Twice {
+    pub first: Status,
+    pub second: Status,
+    pub disk: MemoryDisk,
+}
+
+/// Plays one list of lines on a new disk in memory, and then another on what the first has left there, with the same words.
+pub fn play_twice(
+    alloc: Global,
+    words: &[&str],
+    lines: Blob,
+    more: Blob,
+    out: &mut MemorySink,
+) -> Result<Twice, NoMemory>
+    ensures { IfOk result (λ twice. (steps : ℕ) → Plays (texts words.now) steps → IsUnbroken twice.first → IsUnbroken twice.second
+        → IsOneHistory steps lines more out.old.held out.new.held (state_of twice.disk) twice.first twice.second) }
+{
+    let disk = MemoryDisk::new(alloc, Blob::new(alloc), Blob::new(alloc), Blob::new(alloc))?;
+    let (first, disk) = play(alloc, words, lines, out, disk);
+    let (second, disk) = play(alloc, words, more, out, disk);
+    Ok(Twice {
+        first,
+        second,
+        disk,
+    })
+}
+
+/// Plays lines over a disk.
+fn play(
+    alloc: Global,
+    words: &[&str],
+    lines: Blob,
+    out: &mut MemorySink,
+    disk: MemoryDisk,
+) -> (Status, MemoryDisk)
+    ensures { IsLegalRun (texts words.now) (Some lines) (Some out.old.held) (Some out.new.held) (state_of disk) (state_of result.1) result.0 }
+{
+    let mut deploy = MemorySource::new(Blob::new(alloc), PIECE, Blob::new(alloc));
+    let mut signals = MemorySource::new(lines, PIECE, Blob::new(alloc));
+    run_one(alloc, words, &mut deploy, &mut signals, out, disk)
+}
