@@ -36,16 +36,16 @@ abbrev pub payloads : Parts → List Choice → List (List ℕ)
 payloads s [] = []
 payloads s (c ∷ cs) = payload s c ∷ payloads (after s c) cs
 
+-- the bytes are a count of four bytes, and so many bytes, with nothing behind them
+abbrev pub is_counted : List ℕ → Bool
+is_counted bytes = nat_le COUNT_LEN (length bytes) && (from_le_bytes w32 (take COUNT_LEN bytes) == length (drop COUNT_LEN bytes))
+
 -- what a line says, if it is of a form that is taken
 abbrev pub routed : Reading Signal → Option Signal
 routed (Ok signal) = if is_routed signal then Some signal else None
 routed (Err bad) = None
 
--- the bytes are a count of four bytes, and so many bytes, with nothing behind them
-abbrev pub is_counted : List ℕ → Bool
-is_counted bytes = nat_le COUNT_LEN (length bytes) && (from_le_bytes w32 (take COUNT_LEN bytes) == length (drop COUNT_LEN bytes))
-
--- the line that is counted so, if it is one but perhaps too long
+-- the line that is counted so, if it is of a form that is taken but perhaps too long
 abbrev pub input_in : List ℕ → Option Choice
 input_in bytes = if is_counted bytes then option_map choices.Input (routed (signal_unbounded (drop COUNT_LEN bytes))) else None
 
