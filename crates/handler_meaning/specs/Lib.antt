@@ -1,2 +1,14 @@
 pub mod Same
 pub mod Seeing
+pub mod Answers
+pub mod Overlay
+pub mod Running
+pub mod Values
+pub mod Observing
+pub mod Terms
+pub mod Doing
+pub mod Steps
+pub mod Calls
+pub mod Meaning
+pub mod Delivery
+pub mod Removal

@@ -1,5 +1,5 @@
 -- Keys and what is seen at them: whether two are the same.
-use Rattle.std.specs.Prelude.{ℕ, ◌==◌, Bool, true, false, ◌&&◌, List}
+use Rattle.std.specs.Prelude.{◌==◌, Bool, true, false, ◌&&◌}
 use Rattle.std.specs.Str.{bytes_eq}
 use Rattle.slee_value.specs.declared.ids.EntityId.{EntityId}
 use Rattle.slee_value.specs.declared.ids.EventId.{EventId}

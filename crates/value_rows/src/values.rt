@@ -1,6 +1,7 @@
+//! Values, names and texts: their bytes, the first byte that cannot go on, escaped texts, and copies.
 ghost use Rattle.slee_value.specs.Bytes.{IsShort};
 
-use crate::{
+use slee_value::{
     ActivityId, Blob, ComponentId, ConvName, Name, Names, NoMemory, Payload, Text, TimerId, Value,
     ValueBad, ValueFault, escape, read_value, write_value,
 };
@@ -43,7 +44,7 @@ fn expect(rt: &impl Abort, alloc: Global, value: &Value, bytes: &[u8]) -> Result
     assert_eq!(rt; written, bytes);
     out.push(7)?;
     let (_, rest) = out.split_at(1);
-    let (read, len) = read_value(alloc, rest).ok().ok_or("the bytes are a value")?;
+    let (read, len) = read_value(alloc, rest)?;
     assert_eq!(rt; len, bytes.len());
     assert!(rt; read.same(value));
     Ok(())

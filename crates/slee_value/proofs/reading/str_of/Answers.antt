@@ -1,7 +1,7 @@
 use Rattle.std.proofs.Common.{◌≡◌, sym, ap, ◌∙◌, take, length, Ok}
 use Rattle.slee_value.specs.Reading.{text_fault, unless_fault}
 use Rattle.slee_value.proofs.TextLemmas.{text_bad, text_short, text_whole}
-use Rattle.slee_value.proofs.reading.text_of.Goals as goal
+use Rattle.slee_value.proofs.reading.str_of.Goals as goal
 
 pub returns-in-Err-clause-text : goal.returns-in-Err-clause-text
 returns-in-Err-clause-text c = text_bad c.fault_at.result c.args.len c.good_len_of-good.result c.front_of-front.result.now c.args.bytes.now c.front_of-front.ensures c.in-Err.ensures.cases.0 c.good_len_of-good.ensures.value c.fault_at.ensures.fault
@@ -10,10 +10,6 @@ pub returns-then-bytes-len-clause-text : goal.returns-then-bytes-len-clause-text
 returns-then-bytes-len-clause-text c =
     rw (text_short c.args.len c.front_of-front.result.now c.args.bytes.now c.front_of-front.ensures c.in-Ok.ensures.cases.1 c.if-bytes-len.true)
 
-pub returns-in_ok-from_str-in-Ok-clause-text : goal.returns-in_ok-from_str-in-Ok-clause-text
-returns-in_ok-from_str-in-Ok-clause-text c =
-    rw (text_whole c.args.len c.front_of-front.result.now c.args.bytes.now c.front_of-front.ensures c.in-Ok.ensures.cases.1 c.if-bytes-len.false) (ap Ok (sym (c.in_ok-from_str-in-Ok.ensures.same ∙ c.in-Ok.ensures.cases.0 ∙ c.front_of-front.ensures)))
-
-pub returns-in_err-from_str-in-Ok-clause-memory : goal.returns-in_err-from_str-in-Ok-clause-memory
-returns-in_err-from_str-in-Ok-clause-memory c = λ e.
-    text_whole c.args.len c.front_of-front.result.now c.args.bytes.now c.front_of-front.ensures c.in-Ok.ensures.cases.1 c.if-bytes-len.false
+pub returns-else-bytes-len-clause-text : goal.returns-else-bytes-len-clause-text
+returns-else-bytes-len-clause-text c =
+    rw (text_whole c.args.len c.front_of-front.result.now c.args.bytes.now c.front_of-front.ensures c.in-Ok.ensures.cases.1 c.if-bytes-len.false) (ap Ok (sym (c.in-Ok.ensures.cases.0 ∙ c.front_of-front.ensures)))

@@ -1,7 +1,8 @@
+//! Effects: their bytes, the first byte that cannot go on, the numbers of what they create, and copies.
 ghost use Rattle.std.specs.Prelude.{◌≡◌, IfOk};
 ghost use Rattle.slee_effect.specs.Bytes.{IsShortEffect};
 
-use crate::{
+use slee_effect::{
     Effect, EffectFault, Effects, FiredFields, Ref, Val, read_effects, resolve, write_effects,
 };
 use slee_value::{Keep, NoMemory, Text, TimerId, Value};
@@ -90,9 +91,7 @@ fn expect(rt: &impl Abort, alloc: Global, effect: Effect, bytes: &[u8]) -> Resul
     wanted.extend_from_slice(bytes)?;
     assert_eq!(rt; out.as_slice(), wanted.as_slice());
     let (_, list) = out.split_at(1);
-    let read = read_effects(alloc, list)
-        .ok()
-        .ok_or("the bytes are a list")?;
+    let read = read_effects(alloc, list)?;
     assert_eq!(rt;
         format!(in alloc; "{:?}", read.as_slice())?.as_str(),
         shown.as_str()
@@ -286,6 +285,29 @@ fn timers_and_names_written_and_read(rt: HostRuntime) -> Result<(), Fail> {
             17, 1, 0, 0, 0, 0, 3, 0, 0, 0, 0x62, 0x2E, 0x75, 0xFE, 0xFF, 0xFF, 0xFF, 0xFF, 0xFF,
             0xFF, 0xFF,
         ],
+    )?;
+    Ok(())
+}
+
+#[test]
+fn suspensions_written_and_read(rt: HostRuntime) -> Result<(), Fail> {
+    let alloc = rt.alloc();
+    expect(
+        &rt,
+        alloc,
+        Effect::Suspend {
+            activity: Ref::Fresh(1),
+            until: 1000,
+        },
+        &[0x20, 1, 1, 0, 0, 0, 0xE8, 3, 0, 0, 0, 0, 0, 0],
+    )?;
+    expect(
+        &rt,
+        alloc,
+        Effect::Resume {
+            activity: Ref::Known(7),
+        },
+        &[0x21, 0, 7, 0, 0, 0, 0, 0, 0, 0],
     )?;
     Ok(())
 }
@@ -501,9 +523,7 @@ fn lists_are_copied(rt: HostRuntime) -> Result<(), Fail> {
         &FIRED,
     ];
     for bytes in lists {
-        let list = read_effects(alloc, bytes)
-            .ok()
-            .ok_or("the bytes are a list")?;
+        let list = read_effects(alloc, bytes)?;
         let copied = list.copy(alloc)?;
         assert_eq!(rt; copied.len(), list.len());
         assert_eq!(rt;

@@ -1,9 +1,10 @@
-use crate::{Choice, Entry, History, Lines};
+//! Histories: entries in the order in which they were added, and copies of their choices.
 use signal_script::read_signals;
 use slee_value::{ActivityId, NoMemory, Text};
 use std::alloc::Global;
 use std::process::Abort;
 use std::test::Fail;
+use trace_history::{Choice, Entry, History, Lines};
 
 fn entry(alloc: Global, choice: &Choice, heading: &str) -> Result<Entry, NoMemory> {
     let mut lines = Lines::new(alloc);
