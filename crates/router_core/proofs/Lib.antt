@@ -8,5 +8,4 @@ pub mod DraftingLemmas
 pub mod ClosingLemmas
 pub mod KeepingLemmas
 pub mod ShowLemmas
-pub mod ReadingLemmas
 pub mod InputLemmas

@@ -1,12 +1,14 @@
--- Which payloads have a line, and so are the only ones that take memory to read.
-use Rattle.std.specs.Prelude.{ℕ, Bool, false, ◌&&◌, ◌==◌, nat_le, List, [], ◌∷◌, length, take, drop}
-use Rattle.std.specs.Int.{w32, from_le_bytes}
+-- Which payloads take memory to read: those with a line, and those with effects.
+use Rattle.std.specs.Prelude.{ℕ, Bool, false, ◌&&◌, ◌||◌, ◌==◌, nat_le, List, [], ◌∷◌, length, drop}
+use Rattle.slee_effect.specs.Memory.{takes_memory}
+use Rattle.router_rules.specs.Payload.{is_counted}
 
--- the bytes are four that count the rest, and the rest
-abbrev pub is_counted : List ℕ → Bool
-is_counted bytes = nat_le 4 (length bytes) && (from_le_bytes w32 (take 4 bytes) == length (drop 4 bytes))
+-- an outcome, and effects that take memory
+abbrev pub outcome_takes_memory : List ℕ → Bool
+outcome_takes_memory [] = false
+outcome_takes_memory (outcome ∷ bytes) = nat_le outcome 17 && takes_memory bytes
 
--- the payload is 1, and then four bytes that count the rest, and the rest
-abbrev pub has_line : List ℕ → Bool
-has_line [] = false
-has_line (kind ∷ rest) = (kind == 1) && is_counted rest
+-- the payload is 1 and a line, or 3, an activity, and such an outcome
+abbrev pub payload_takes_memory : List ℕ → Bool
+payload_takes_memory [] = false
+payload_takes_memory (kind ∷ rest) = ((kind == 1) && is_counted rest) || ((kind == 3) && (nat_le 8 (length rest) && outcome_takes_memory (drop 8 rest)))

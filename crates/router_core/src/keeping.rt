@@ -15,7 +15,7 @@ use router_model::Event;
 use router_stores::Stores;
 use signal_script::{Signal, print_signal};
 use slee_effect::{Effect, Ref, write_effects};
-use slee_value::{ActivityId, EntityId, NoMemory, Text};
+use slee_value::{ActivityId, EntityId, NoMemory, Text, write_bytes, write_u64};
 use std::alloc::Global;
 use trace_history::Choice;
 
@@ -26,11 +26,9 @@ fn input(alloc: Global, signal: &Signal) -> Result<Vec<u8>, NoMemory>
 {
     let mut line = Vec::new(alloc);
     print_signal(signal, &mut line)?;
-    let length = line.len() as u32;
     let mut bytes = Vec::new(alloc);
     bytes.push(1)?;
-    bytes.extend_from_slice(&length.to_le_bytes())?;
-    bytes.extend_from_slice(&line)?;
+    write_bytes(&line, &mut bytes)?;
     Ok(bytes)
 }
 
@@ -39,7 +37,7 @@ fn numbered(alloc: Global, kind: u8, activity: ActivityId) -> Result<Vec<u8>, No
 {
     let mut bytes = Vec::new(alloc);
     bytes.push(kind)?;
-    bytes.extend_from_slice(&activity.0.to_le_bytes())?;
+    write_u64(activity.0, &mut bytes)?;
     Ok(bytes)
 }
 

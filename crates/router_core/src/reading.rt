@@ -1,13 +1,15 @@
 //! Reading back the choice of a payload.
-ghost use Rattle.std.specs.Prelude.{◌≡◌, ◌≤◌, IfOk, IsTrue, MatchResult, length, drop, option_map};
+ghost use Rattle.std.specs.Prelude.{◌≡◌, ◌≤◌, ◌&&◌, if◌then◌else◌, nat_le, IfOk, IsTrue, MatchResult, Some, None, length, drop, option_map};
 ghost use Rattle.signal_script.specs.Signals.{signal_unbounded};
 ghost use Rattle.trace_history.specs.declared.choice.Choice.TheVariants as choices;
-ghost use Rattle.router_rules.specs.Payload.{routed, choice_in, input_in, activity_in, behind, behind_reference, behind_utf8, behind_text, behind_effect, are_effects, is_effect_list, is_outcome};
-ghost use Rattle.router_core.specs.Reading.{is_counted, has_line};
+ghost use Rattle.router_rules.specs.Payload.{routed, choice_in, input_in, activity_in, is_counted, is_effect_list, is_outcome};
+ghost use Rattle.slee_effect.specs.Memory.{takes_memory};
+ghost use Rattle.router_core.specs.Reading.{outcome_takes_memory, payload_takes_memory};
 
 use crate::inputs::is_routed;
 use signal_script::{LineFault, read_unbounded};
-use slee_value::{ActivityId, NoMemory};
+use slee_effect::{EffectFault, read_effects};
+use slee_value::{ActivityId, NoMemory, read_u64};
 use std::alloc::Global;
 use trace_history::Choice;
 
@@ -38,108 +40,44 @@ fn activity_in(bytes: &[u8]) -> ActivityId
     requires { 8 ≤ length bytes.now }
     ensures { result ≡ activity_in bytes.now }
 {
-    let number = bytes.first_chunk::<8>().unwrap();
-    ActivityId(u64::from_le_bytes(*number))
-}
-
-/// What stands behind so many bytes.
-fn behind(count: usize, bytes: &[u8]) -> Option<&[u8]>
-    ensures { option_map (λ rest. rest.now) result ≡ behind count bytes.now }
-{
-    if bytes.len() < count {
-        return None;
-    }
-    Some(&bytes[count..])
-}
-
-fn behind_reference(bytes: &[u8]) -> Option<&[u8]>
-    ensures { option_map (λ rest. rest.now) result ≡ behind_reference bytes.now }
-{
-    let (kind, rest) = bytes.split_first()?;
-    if *kind == 0 {
-        return behind(8, rest);
-    }
-    if *kind == 1 {
-        return behind(4, rest);
-    }
-    None
-}
-
-/// What stands behind so many bytes, if they are UTF-8.
-#[tactic(auto, using(crate::proofs::ReadingLemmas::utf8_test, crate::proofs::ReadingLemmas::utf8_refused))]
-fn behind_utf8(count: usize, bytes: &[u8]) -> Option<&[u8]>
-    ensures { option_map (λ rest. rest.now) result ≡ behind_utf8 count bytes.now }
-{
-    if bytes.len() < count {
-        return None;
-    }
-    let (text, rest) = bytes.split_at(count);
-    match str::from_utf8(text) {
-        Ok(_) => Some(rest),
-        Err(_) => None,
+    match read_u64(bytes) {
+        Ok((number, _)) => ActivityId(number),
+        Err(_) => unreachable!(),
     }
 }
 
-fn behind_text(bytes: &[u8]) -> Option<&[u8]>
-    ensures { option_map (λ rest. rest.now) result ≡ behind_text bytes.now }
+fn is_effect_list(alloc: Global, bytes: &[u8]) -> Result<bool, NoMemory>
+    ensures { MatchResult result (λ is. is ≡ is_effect_list bytes.now) (λ _. IsTrue (takes_memory bytes.now)) }
 {
-    let (length, rest) = bytes.split_first_chunk::<4>()?;
-    behind_utf8(u32::from_le_bytes(*length) as usize, rest)
-}
-
-/// What stands behind an effect that emits a text, the only one that is read by now.
-fn behind_effect(bytes: &[u8]) -> Option<&[u8]>
-    ensures { option_map (λ rest. rest.now) result ≡ behind_effect bytes.now }
-{
-    let (tag, rest) = bytes.split_first()?;
-    if *tag != 16 {
-        return None;
-    }
-    match behind_reference(rest) {
-        Some(rest) => behind_text(rest),
-        None => None,
-    }
-}
-
-/// Whether the bytes are so many effects, and no more.
-#[tactic(auto, using(crate::proofs::ReadingLemmas::effects_on, crate::proofs::ReadingLemmas::effects_off, crate::proofs::ReadingLemmas::effects_end))]
-fn are_effects(count: u32, bytes: &[u8]) -> bool
-    ensures { result ≡ are_effects count bytes.now }
-{
-    let mut left = count;
-    let mut rest = bytes;
-    while left > 0 {
-        let Some(more) = behind_effect(rest) else {
-            return false;
-        };
-        rest = more;
-        left -= 1;
-    }
-    rest.is_empty()
-}
-
-fn is_effect_list(bytes: &[u8]) -> bool
-    ensures { result ≡ is_effect_list bytes.now }
-{
-    match bytes.split_first_chunk::<4>() {
-        Some((count, rest)) => are_effects(u32::from_le_bytes(*count), rest),
-        None => false,
+    match read_effects(alloc, bytes) {
+        Ok(_) => Ok(true),
+        Err(EffectFault::Bad { .. }) => Ok(false),
+        Err(EffectFault::NoMemory) => Err(NoMemory),
     }
 }
 
 /// Whether the bytes are an outcome and effects.
-fn is_outcome(bytes: &[u8]) -> bool
-    ensures { result ≡ is_outcome bytes.now }
+fn is_outcome(alloc: Global, bytes: &[u8]) -> Result<bool, NoMemory>
+    ensures { MatchResult result (λ is. is ≡ is_outcome bytes.now) (λ _. IsTrue (outcome_takes_memory bytes.now)) }
 {
     match bytes {
-        [] => false,
-        [outcome, effects @ ..] => *outcome <= 17 && is_effect_list(effects),
+        [outcome, effects @ ..] if *outcome <= 17 => is_effect_list(alloc, effects),
+        _ => Ok(false),
     }
+}
+
+fn delivery_in(alloc: Global, bytes: &[u8]) -> Result<Option<Choice>, NoMemory>
+    ensures { MatchResult result (λ found. found ≡ (if nat_le 8 (length bytes.now) && is_outcome (drop 8 bytes.now) then Some (choices.Deliver (activity_in bytes.now)) else None)) (λ _. IsTrue (nat_le 8 (length bytes.now) && outcome_takes_memory (drop 8 bytes.now))) }
+{
+    if bytes.len() < 8 || !is_outcome(alloc, &bytes[8..])? {
+        return Ok(None);
+    }
+    Ok(Some(Choice::Deliver(activity_in(bytes))))
 }
 
 /// The choice that a payload is of, if it is one of the grammar. A line that is too long gives one that can't be made.
 pub fn choice_in(alloc: Global, payload: &[u8]) -> Result<Option<Choice>, NoMemory>
-    ensures { MatchResult result (λ found. found ≡ choice_in payload.now) (λ _. IsTrue (has_line payload.now)) }
+    ensures { MatchResult result (λ found. found ≡ choice_in payload.now) (λ _. IsTrue (payload_takes_memory payload.now)) }
 {
     let Some((kind, rest)) = payload.split_first() else {
         return Ok(None);
@@ -150,8 +88,8 @@ pub fn choice_in(alloc: Global, payload: &[u8]) -> Result<Option<Choice>, NoMemo
     if *kind == 2 && rest.len() == 8 {
         return Ok(Some(Choice::Initial(activity_in(rest))));
     }
-    if *kind == 3 && rest.len() >= 8 && is_outcome(&rest[8..]) {
-        return Ok(Some(Choice::Deliver(activity_in(rest))));
+    if *kind == 3 {
+        return delivery_in(alloc, rest);
     }
     if *kind == 4 && rest.len() == 8 {
         return Ok(Some(Choice::Finish(activity_in(rest))));

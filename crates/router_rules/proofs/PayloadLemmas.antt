@@ -1,8 +1,10 @@
 -- Payloads are read back.
 use Rattle.std.proofs.Common.{◌≡◌, ℕ, ◌+◌, ◌^◌, ◌<◌, ◌≤◌, ◌==◌, nat_le, true, List, [], ◌∷◌, ◌++◌, length, take, drop, refl, ◌∙◌, ap, arith, Option, Ok, Some, if◌then◌else◌, None, inl, inr, codes, append-nil, length-append}
+use Rattle.std.specs.Prelude.{is_ok}
 use Rattle.std.specs.Int.{w32, from_le_bytes}
 use Rattle.std.proofs.lemmas.Bool.{cases_Bool, eq-eqb, le-leb, leb-true, and_parts}
-use Rattle.std.proofs.lemmas.List.{take_at, drop_at}
+use Rattle.std.proofs.lemmas.List.{drop_at}
+use Rattle.std.proofs.lemmas.Str.{IsUtf8-from_is_utf8}
 use Rattle.std.proofs.lemmas.Nat.{from_le_bytes-to_le_bytes_4, from_le_bytes-to_le_bytes_8}
 use Rattle.slee_value.specs.Bytes.{spelled_text, spelled_u32, spelled_u64}
 use Rattle.slee_value.specs.declared.ids.ActivityId.{ActivityId}
@@ -16,12 +18,13 @@ use Rattle.router_model.specs.State.{Parts}
 use Rattle.router_rules.specs.Step.{is_choice}
 use Rattle.router_rules.specs.Taking.{is_routed}
 use Rattle.router_rules.specs.Effects.{effects_of}
-use Rattle.router_rules.specs.Payload.{payload, choice_in, input_in, activity_in, effects_due, behind_utf8, behind_text, behind_effect, is_effect_list, HasNumber}
+use Rattle.router_rules.specs.Payload.{payload, choice_in, input_in, activity_in, effects_due, is_effect_list, HasNumber}
 use Rattle.std.specs.Option.{option_map_or}
 use Rattle.std.specs.Str.{bytes_eq, is_utf8}
 use Rattle.slee_value.specs.declared.value.Value.{Value}
 use Rattle.slee_value.specs.declared.value.Value.TheVariants as values
-use Rattle.slee_effect.specs.Bytes.{spelling_of_effects, spelled_effect}
+use Rattle.slee_effect.specs.Bytes.{spelling_of_effects}
+use Rattle.slee_effect.proofs.ListLemmas.{list_again}
 use Rattle.slee_effect.specs.declared.effect.Effect.{Effect}
 use Rattle.slee_effect.specs.declared.effect.Effect.TheVariants as effects
 use Rattle.slee_effect.specs.declared.reference.Ref.TheVariants as references
@@ -32,6 +35,7 @@ use Rattle.router_rules.specs.BuiltIn.{invite, addr, address_in, text_of}
 use Rattle.router_rules.specs.Selection.{first}
 use Rattle.router_rules.specs.Well.{IsSound, is_short_text, is_address, has_fields}
 use Rattle.router_rules.proofs.RowLemmas.{front_all}
+use Rattle.router_rules.proofs.FrontLemmas.{first_all}
 use Rattle.router_rules.proofs.TextLemmas.{over_utf8, call_utf8}
 
 -- a line that a signal is spelled by is short
@@ -50,30 +54,14 @@ input_read line signal short reads taken =
     let same : (from_le_bytes w32 (take 4 (spelled_text line)) == length line) ≡ true = eq-eqb _ (length line) number in
     rw (long, same, reads, taken)
 
--- a text, an effect and a list of one effect are read back
+-- a list of no effect and of one are read back
 
-behind_whole : (bytes rest : List ℕ) → is_utf8 bytes ≡ true → behind_utf8 (length bytes) (bytes ++ rest) ≡ Some rest
-behind_whole bytes rest utf8 =
-    let long : nat_le (length bytes) (length (bytes ++ rest)) ≡ true = le-leb (length bytes) (length (bytes ++ rest)) (omega (arith, length-append bytes rest)) in
-    let front : is_utf8 (take (length bytes) (bytes ++ rest)) ≡ true = ap is_utf8 (take_at bytes rest (length bytes) refl) ∙ utf8 in
-    rw (long, front) (ap (λ (l : List ℕ). Some l) (drop_at bytes rest (length bytes) refl))
+none_read : is_effect_list (spelling_of_effects []) ≡ true
+none_read = ap is_ok (list_again [] (omega arith, tt))
 
-text_read : (text rest : List ℕ) → length text < 2 ^ 32 → is_utf8 text ≡ true → behind_text (spelled_text text ++ rest) ≡ Some rest
-text_read text rest short utf8 =
-    let long : nat_le 4 (length (spelled_text text ++ rest)) ≡ true = le-leb 4 (length (spelled_text text ++ rest)) (omega arith) in
-    let number : from_le_bytes w32 (take 4 (spelled_text text ++ rest)) ≡ length text = from_le_bytes-to_le_bytes_4 (length text) short in
-    rw (long, number) (behind_whole text rest utf8)
-
-effect_read : (n : ℕ) (text rest : List ℕ) → length text < 2 ^ 32 → is_utf8 text ≡ true → behind_effect (spelled_effect (effects.Emit (references.Known n) text) ++ rest) ≡ Some rest
-effect_read n text rest short utf8 =
-    let tail = spelled_u64 n ++ spelled_text text in
-    let long : nat_le 8 (length ((spelled_u64 n ++ spelled_text text) ++ rest)) ≡ true = le-leb 8 (length ((spelled_u64 n ++ spelled_text text) ++ rest)) (omega arith) in
-    rw long (text_read text rest short utf8)
-
-one_read : (n : ℕ) (text : List ℕ) → length text < 2 ^ 32 → is_utf8 text ≡ true → is_effect_list (spelling_of_effects (effects.Emit (references.Known n) text ∷ [])) ≡ true
-one_read n text short utf8 =
-    let long : nat_le 4 (length (spelling_of_effects (effects.Emit (references.Known n) text ∷ []))) ≡ true = le-leb 4 (length (spelling_of_effects (effects.Emit (references.Known n) text ∷ []))) (omega arith) in
-    rw (effect_read n text [] short utf8, long)
+one_read : (n : ℕ) (text : List ℕ) → n < 2 ^ 64 → length text < 2 ^ 32 → is_utf8 text ≡ true → is_effect_list (spelling_of_effects (effects.Emit (references.Known n) text ∷ [])) ≡ true
+one_read n text few short utf8 =
+    ap is_ok (list_again (effects.Emit (references.Known n) text ∷ []) (omega arith, ((few, record { utf8 = IsUtf8-from_is_utf8 text utf8; short = short }), tt)))
 
 -- what is left behind a text, behind a list that is empty or has one effect, which emits a text, and behind a payload
 
@@ -120,32 +108,34 @@ record AreGood (list : List Effect) : Type 0 where
   left : (rest : List ℕ) → left_of_list (spelling_of_effects list ++ rest) ≡ rest
   short : length (spelling_of_effects list) ≤ 5000
 
-emit_good : (n : ℕ) (text : List ℕ) → length text ≤ 4200 → is_utf8 text ≡ true → AreGood (effects.Emit (references.Known n) text ∷ [])
-emit_good n text short utf8 = record {
-  read = one_read n text (omega (arith, short)) utf8;
+emit_good : (n : ℕ) (text : List ℕ) → n < 2 ^ 64 → length text ≤ 4200 → is_utf8 text ≡ true → AreGood (effects.Emit (references.Known n) text ∷ [])
+emit_good n text few short utf8 = record {
+  read = one_read n text few (omega (arith, short)) utf8;
   left = λ rest. one_left n text rest (omega (arith, short));
   short = omega (arith, one_size n text, short);
 }
 
-event_good : (v : Event) (row : Entity) → has_fields v.name v.fields ≡ true → AreGood (effects_of v row)
-event_good v row is = elim (cases_Bool (bytes_eq v.name invite)) [
+event_good : (v : Event) (row : Entity) → row.number.0 < 2 ^ 64 → has_fields v.name v.fields ≡ true → AreGood (effects_of v row)
+event_good v row few is = elim (cases_Bool (bytes_eq v.name invite)) [
   | inl it ↦
       let fields : is_address v.fields ≡ true = rw it at is in
       let address = short_address v.fields fields in
-      rw it (emit_good row.number.0 (codes "call " ++ address_in v.fields) (omega (arith, address.0, length-append (codes "call ") (address_in v.fields))) (call_utf8 (address_in v.fields) address.1))
-  | inr other ↦ rw other (emit_good row.number.0 (codes "over") (omega arith) over_utf8)
+      rw it (emit_good row.number.0 (codes "call " ++ address_in v.fields) few (omega (arith, address.0, length-append (codes "call ") (address_in v.fields))) (call_utf8 (address_in v.fields) address.1))
+  | inr other ↦ rw other (emit_good row.number.0 (codes "over") few (omega arith) over_utf8)
 ]
 
-row_good : (v : Event) (found : Option Entity) → has_fields v.name v.fields ≡ true → AreGood (option_map_or (λ row. effects_of v row) found [])
-row_good v None is = record { read = refl; left = λ rest. refl; short = omega arith }
-row_good v (Some row) is = event_good v row is
+row_good : (v : Event) (found : Option Entity) → ((row : Entity) → found ≡ Some row → row.number.0 < 2 ^ 64) → has_fields v.name v.fields ≡ true → AreGood (option_map_or (λ row. effects_of v row) found [])
+row_good v None few is = record { read = none_read; left = λ rest. refl; short = omega arith }
+row_good v (Some row) few is = event_good v row (few row refl) is
 
 due_good : (s : Parts) (a : ℕ) (found : Option Event) → IsSound s → front s.events a ≡ found
     → AreGood (option_map_or (λ v. option_map_or (λ row. effects_of v row) (first s a v) []) found [])
-due_good s a None sound is = record { read = refl; left = λ rest. refl; short = omega arith }
+due_good s a None sound is = record { read = none_read; left = λ rest. refl; short = omega arith }
 due_good s a (Some v) sound is =
     let found = front_all _ s.events a v is sound.events in
-    row_good v (first s a v) (rw found.1 at found.3.fields)
+    let few : (row : Entity) → first s a v ≡ Some row → row.number.0 < 2 ^ 64 =
+    λ row first_is. omega (arith, first_all (λ (r : Entity). r.number.0 < s.next_entity) s a v row first_is sound.ordered.entities_below, sound.counts.entities) in
+    row_good v (first s a v) few (rw found.1 at found.3.fields)
 
 pub payload_read : (s : Parts) (c : Choice) → IsSound s → is_choice c ≡ true → HasNumber c → choice_in (payload s c) ≡ Some c
 payload_read s (choices.Input signal) sound is fits =

@@ -1,10 +1,11 @@
 -- What the journal keeps of a step, and the choice that is read back from it.
-use Rattle.std.specs.Prelude.{ℕ, zero, suc, ◌<◌, ◌^◌, ◌==◌, ◌&&◌, nat_le, Bool, false, option_and_then, if◌then◌else◌, List, [], ◌∷◌, ◌++◌, length, take, drop, Ok, Err, Some, None, Option, option_map, ⊤}
+use Rattle.std.specs.Prelude.{ℕ, ◌<◌, ◌^◌, ◌==◌, ◌&&◌, nat_le, Bool, false, if◌then◌else◌, is_ok, List, [], ◌∷◌, ◌++◌, length, take, drop, Ok, Err, Some, None, Option, option_map, ⊤}
 use Rattle.std.specs.Option.{option_map_or}
 use Rattle.std.specs.Int.{w32, w64, from_le_bytes}
-use Rattle.std.specs.Str.{is_utf8}
 use Rattle.slee_value.specs.Bytes.{spelled_u64, spelled_text}
+use Rattle.slee_value.specs.declared.reading.TheConstants.{COUNT_LEN}
 use Rattle.slee_effect.specs.Bytes.{spelling_of_effects}
+use Rattle.slee_effect.specs.Reading.{list_of}
 use Rattle.slee_effect.specs.declared.effect.Effect.{Effect}
 use Rattle.trace_history.specs.declared.choice.Choice.{Choice}
 use Rattle.trace_history.specs.declared.choice.Choice.TheVariants as choices
@@ -35,51 +36,26 @@ abbrev pub payloads : Parts → List Choice → List (List ℕ)
 payloads s [] = []
 payloads s (c ∷ cs) = payload s c ∷ payloads (after s c) cs
 
+-- the bytes are a count of four bytes, and so many bytes, with nothing behind them
+abbrev pub is_counted : List ℕ → Bool
+is_counted bytes = nat_le COUNT_LEN (length bytes) && (from_le_bytes w32 (take COUNT_LEN bytes) == length (drop COUNT_LEN bytes))
+
 -- what a line says, if it is of a form that is taken
 abbrev pub routed : Reading Signal → Option Signal
 routed (Ok signal) = if is_routed signal then Some signal else None
 routed (Err bad) = None
 
--- the line of a text, if it is one but perhaps too long, and nothing stands behind it
+-- the line that is counted so, if it is of a form that is taken but perhaps too long
 abbrev pub input_in : List ℕ → Option Choice
-input_in bytes =
-    if nat_le 4 (length bytes) && (from_le_bytes w32 (take 4 bytes) == length (drop 4 bytes))
-    then option_map choices.Input (routed (signal_unbounded (drop 4 bytes))) else None
+input_in bytes = if is_counted bytes then option_map choices.Input (routed (signal_unbounded (drop COUNT_LEN bytes))) else None
 
 -- the activity whose number the first eight bytes are
 abbrev pub activity_in : List ℕ → ActivityId
 activity_in bytes = record { 0 = from_le_bytes w64 (take 8 bytes) }
 
--- what stands behind so many bytes
-abbrev pub behind : ℕ → List ℕ → Option (List ℕ)
-behind n bytes = if nat_le n (length bytes) then Some (drop n bytes) else None
-
--- what stands behind a reference: 0 and a number of eight bytes, or 1 and a place of four
-abbrev pub behind_reference : List ℕ → Option (List ℕ)
-behind_reference [] = None
-behind_reference (kind ∷ bytes) = if kind == 0 then behind 8 bytes else (if kind == 1 then behind 4 bytes else None)
-
--- what stands behind so many bytes that are UTF-8
-abbrev pub behind_utf8 : ℕ → List ℕ → Option (List ℕ)
-behind_utf8 n bytes = if nat_le n (length bytes) && is_utf8 (take n bytes) then Some (drop n bytes) else None
-
--- what stands behind a text: its length in four bytes, and its bytes, which are UTF-8
-abbrev pub behind_text : List ℕ → Option (List ℕ)
-behind_text bytes = if nat_le 4 (length bytes) then behind_utf8 (from_le_bytes w32 (take 4 bytes)) (drop 4 bytes) else None
-
--- what stands behind an effect. That which emits a text is the only one that is read by now: 16, the entity and the text.
-abbrev pub behind_effect : List ℕ → Option (List ℕ)
-behind_effect [] = None
-behind_effect (tag ∷ bytes) = if tag == 16 then option_and_then behind_text (behind_reference bytes) else None
-
--- the bytes are so many effects, and no more
-abbrev pub are_effects : ℕ → List ℕ → Bool
-are_effects zero bytes = length bytes == 0
-are_effects (suc n) bytes = option_map_or (λ rest. are_effects n rest) (behind_effect bytes) false
-
--- the bytes are a list of effects: their count in four bytes, and each of them
+-- the bytes are a list of effects, and no more
 abbrev pub is_effect_list : List ℕ → Bool
-is_effect_list bytes = nat_le 4 (length bytes) && are_effects (from_le_bytes w32 (take 4 bytes)) (drop 4 bytes)
+is_effect_list bytes = is_ok (list_of bytes)
 
 -- whether these bytes can stand behind the activity of a delivery: an outcome, which is a byte up to 17, and a list of effects
 abbrev pub is_outcome : List ℕ → Bool
