@@ -1,3 +1,4 @@
+//! The field words of a line.
 ghost use Rattle.std.specs.Prelude.{◌≡◌, ◌++◌, ◌∷◌, [], IfOk, OnOk, OnErr};
 ghost use Rattle.signal_script.specs.Signals.{has_field};
 

@@ -1,3 +1,4 @@
+//! What a line says.
 ghost use Rattle.std.specs.Prelude.{◌≡◌, IfOk};
 
 use crate::Fields;

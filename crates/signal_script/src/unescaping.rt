@@ -1,3 +1,4 @@
+//! Reading an escaped text.
 ghost use Rattle.std.specs.Prelude.{◌≡◌, ◌∷◌, ◌<◌, ◌/◌, ◌%◌, ◌&&◌, ◌==◌, true, false, None, IfOk, IsNone, IfSome, MatchOption, length, option_map};
 ghost use Rattle.slee_value.specs.Escape.{hex_digit_of};
 ghost use Rattle.signal_script.specs.WordText.{unescaped, is_escape, byte_of_digits, digit_value};

@@ -43,7 +43,10 @@ const BAD: &[(&[u8], &str)] = &[
     (b"start\n", "1 count"),
     (b"start c1 \n", "1 count"),
     (b"start c1\nstop c1\n", "2 verb"),
-    (b"start c1\nfire c1 invite addr=tel:1\nend c1\nend", "4 count"),
+    (
+        b"start c1\nfire c1 invite addr=tel:1\nend c1\nend",
+        "4 count",
+    ),
     (b"fire c1 invite@ addr=1", "1 name"),
     (b"fire c1 invite addr\n", "1 field"),
     (b"fire c1 invite addr=tel 1\n", "1 field"),
@@ -95,10 +98,14 @@ fn lines_that_the_router_does_not_take_are_not_built(rt: HostRuntime) -> Result<
 fn a_bad_line_comes_before_one_that_is_not_taken(rt: HostRuntime) -> Result<(), Fail> {
     let lines = b"clock 5\nclock five\n";
     let ran = run_alone(rt.alloc(), &["play", "1", "100"], lines, SOUND)?;
-    compare(&rt, &ran, Wanted {
-        code: 5,
-        printed: "status 5 bad-signals 2 number\n",
-    });
+    compare(
+        &rt,
+        &ran,
+        Wanted {
+            code: 5,
+            printed: "status 5 bad-signals 2 number\n",
+        },
+    );
     Ok(())
 }
 
@@ -134,8 +141,16 @@ fn the_last_line_may_lack_its_end(rt: HostRuntime) -> Result<(), Fail> {
         code: 0,
         printed: "1 input start c1\n  started a1 c1\nstatus 0 ok\n",
     };
-    compare(&rt, &run_alone(alloc, &["play", "1", "100"], b"start c1", SOUND)?, wanted);
-    compare(&rt, &run_alone(alloc, &["play", "1", "100"], b"start c1\n", SOUND)?, wanted);
+    compare(
+        &rt,
+        &run_alone(alloc, &["play", "1", "100"], b"start c1", SOUND)?,
+        wanted,
+    );
+    compare(
+        &rt,
+        &run_alone(alloc, &["play", "1", "100"], b"start c1\n", SOUND)?,
+        wanted,
+    );
     Ok(())
 }
 

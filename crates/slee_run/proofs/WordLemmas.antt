@@ -1,9 +1,8 @@
 -- Words, numbers and commands.
 use Rattle.std.proofs.Common.{◌≡◌, ℕ, ◌<◌, ◌≤◌, ◌^◌, ◌+◌, Bool, true, false, ◌&&◌, nat_le, if◌then◌else◌, List, [], ◌∷◌, length, get_or, Ok, refl, sym, ◌∙◌, ap, subst, arith, decimal, Option, Some, None, option_map, option_and_then, ◌⊎◌, inl, inr, codes}
-use Rattle.std.specs.declared.result.Result.{Result}
 use Rattle.std.specs.Str.{bytes_eq}
-use Rattle.std.specs.Str.Parse.{ParsesUnsigned, digits_value}
-use Rattle.std.proofs.lemmas.Fmt.{parse-decimal, decimal_is_IsNumeral}
+use Rattle.std.specs.Str.Parse.{digits_value}
+use Rattle.std.proofs.lemmas.Fmt.{decimal_is_IsNumeral}
 use Rattle.std.proofs.lemmas.Bool.{cases_Bool, and_parts, and_from, false_from_ne_true}
 use Rattle.std.proofs.lemmas.Bool.Decides.{nat_tests}
 use Rattle.std.proofs.lemmas.Slice.Eq.{bytes_eq-Decides}
@@ -42,14 +41,6 @@ number_none low high word small none = rw (false_from_ne_true (spells && within)
         let below = (and_parts (nat_le low number) (nat_le number high) parts.1).1 in
         let fits : number < 2 ^ 64 = grind (arith, nat_tests) in
         none number fits ((bytes_eq-Decides word (decimal number)).0 parts.0)
-
--- a number that was read, and isn't spelled so, is no number's spelling
-pub number_other : {E : Type 0} (word : List ℕ) (count : ℕ) (r : Result ℕ E) → ParsesUnsigned 64 10 word r → r ≡ Ok count
-    → (word ≡ decimal count → ⊥) → (n : ℕ) → n < 2 ^ 64 → word ≡ decimal n → ⊥
-number_other word count r parses is differs n small spelled =
-    let same : r ≡ Ok n = parse-decimal 64 n word r small small spelled parses in
-    let equal : count ≡ n = cc in
-    differs (spelled ∙ sym (ap decimal equal))
 
 -- the words
 

@@ -1,9 +1,9 @@
 //! The words of the command line.
-ghost use Rattle.std.specs.Prelude.{◌≡◌, ◌↔◌, ◌&&◌, ◌<◌, ◌^◌, ℕ, IsTrue, MatchOption, Some, None, decimal, nat_le, if◌then◌else◌};
+ghost use Rattle.std.specs.Prelude.{◌≡◌, ◌&&◌, Some, None, nat_le, if◌then◌else◌};
 ghost use Rattle.slee_run.specs.Words.{texts, command_of, command_alone, command_of_two, number_within, made_of, workers_of, steps_of, seed_of, count_of};
 
 use crate::Command;
-use itoa::Buffer;
+use signal_script::number_of;
 
 const MOST_WORKERS: u64 = 64;
 
@@ -106,25 +106,4 @@ fn within(number: u64, low: u64, high: u64) -> Option<u64>
     } else {
         None
     }
-}
-
-/// The number that the word spells, without a sign or a leading zero.
-fn number_of(word: &str) -> Option<u64>
-    ensures { MatchOption result ((n : ℕ) → n < 2 ^ 64 → word.now ≡ decimal n → ⊥) (λ n. word.now ≡ decimal n) }
-{
-    let Ok(number) = word.parse::<u64>() else {
-        return None;
-    };
-    if is_spelling(word, number) {
-        Some(number)
-    } else {
-        None
-    }
-}
-
-fn is_spelling(word: &str, number: u64) -> bool
-    ensures { IsTrue result ↔ (word.now ≡ decimal number) }
-{
-    let mut buffer = Buffer::new();
-    word == buffer.format(number)
 }

@@ -1,3 +1,4 @@
+//! What a step does.
 ghost use Rattle.std.specs.Prelude.{◌≡◌, IfOk};
 
 use signal_script::Signal;

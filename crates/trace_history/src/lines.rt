@@ -1,3 +1,4 @@
+//! Lines of text.
 ghost use Rattle.std.specs.Prelude.{◌≡◌, ◌++◌, ◌∷◌, [], OnOk, OnErr};
 
 use slee_value::{NoMemory, Text};

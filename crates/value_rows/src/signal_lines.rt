@@ -168,8 +168,14 @@ fn the_first_bad_line_is_told(rt: HostRuntime) -> Result<(), Fail> {
     let alloc = rt.alloc();
     assert_eq!(rt; fault_of(alloc, b"")?, None);
     assert_eq!(rt; fault_of(alloc, b"\n")?, Some((1, SignalBad::Empty)));
-    assert_eq!(rt; fault_of(alloc, b"start c1\n\n")?, Some((2, SignalBad::Empty)));
-    assert_eq!(rt; fault_of(alloc, b"start c1\nstop c1\nend")?, Some((2, SignalBad::Verb)));
+    assert_eq!(rt;
+        fault_of(alloc, b"start c1\n\n")?,
+        Some((2, SignalBad::Empty))
+    );
+    assert_eq!(rt;
+        fault_of(alloc, b"start c1\nstop c1\nend")?,
+        Some((2, SignalBad::Verb))
+    );
     Ok(())
 }
 
