@@ -1,10 +1,16 @@
-use crate::{SyntaxBad, SyntaxFault, tokens};
+//! Tokens: how many a text has, and where its first bad one stands.
+use script_tree::{SyntaxBad, SyntaxFault, tokens};
+use slee_value::NoMemory;
 use std::alloc::Global;
 use std::test::Fail;
 
-/// How many tokens a text has, or where none begins.
-fn read(alloc: Global, text: &str) -> Result<usize, SyntaxFault> {
-    Ok(tokens(alloc, text)?.as_slice().len())
+// How many tokens a text has, or where none begins.
+fn read(alloc: Global, text: &str) -> Result<Result<usize, SyntaxFault>, NoMemory> {
+    match tokens(alloc, text) {
+        Ok(found) => Ok(Ok(found.as_slice().len())),
+        Err(SyntaxFault::NoMemory) => Err(NoMemory),
+        Err(fault) => Ok(Err(fault)),
+    }
 }
 
 fn token_fault(line: u64, column: u64) -> Result<usize, SyntaxFault> {
@@ -33,7 +39,7 @@ fn texts_are_cut_into_tokens(rt: HostRuntime) -> Result<(), Fail> {
         ("\"\u{e9}\"", 1),
     ];
     for (text, count) in &cases {
-        assert_eq!(rt; read(rt.alloc(), text), Ok(*count));
+        assert_eq!(rt; read(rt.alloc(), text)?, Ok(*count));
     }
     Ok(())
 }
@@ -60,7 +66,7 @@ fn faults_stand_at_the_first_byte_of_no_token(rt: HostRuntime) -> Result<(), Fai
         ),
     ];
     for (text, line, column) in &cases {
-        assert_eq!(rt; read(rt.alloc(), text), token_fault(*line, *column));
+        assert_eq!(rt; read(rt.alloc(), text)?, token_fault(*line, *column));
     }
     Ok(())
 }
