@@ -2,7 +2,7 @@ pub mod Differs
 pub mod Found
 pub mod Spelled
 pub mod Spelt
-pub mod Sizes
+pub mod Lengths
 pub mod Counting
 pub mod Recovers
 pub mod Opening

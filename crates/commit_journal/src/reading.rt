@@ -6,6 +6,7 @@ ghost use Rattle.commit_journal.specs.Views.{Reads, head_view, front_view, Gives
 
 use crate::fault::JournalBad;
 use crate::record::{Record, RecordsFault};
+use crate::sizes::RECORD_FRAME;
 use slee_disk::Side;
 use slee_value::Blob;
 use std::alloc::Global;
@@ -149,7 +150,7 @@ pub(crate) fn records_of(
                 let Ok(()) = records.push(Record { at, payload }) else {
                     return Err(RecordsFault::NoMemory);
                 };
-                at += 5 + bytes.len() as u64;
+                at += RECORD_FRAME + bytes.len() as u64;
                 rest = after;
             }
         }

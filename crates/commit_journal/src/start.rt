@@ -11,6 +11,7 @@ use crate::Stage;
 use crate::fault::JournalFault;
 use crate::record::Found;
 use crate::recovery::recover;
+use crate::sizes::HEADER_FRAME;
 use slee_disk::{Disk, Side};
 use std::alloc::Global;
 
@@ -47,7 +48,7 @@ pub(crate) fn find<D: Disk>(
     ensures first { IfOk result (λ f. f.stage ≡ Stage.Blank → (f.snapshot ≡ []) × (f.records.items ≡ [])) }
     ensures cause { IsTrue (D.disk disk.old).told → IfErr result (λ e. IsCause e (recovered deployment.now (D.disk disk.old).seen)) }
     ensures looks { Looks (D.disk disk.old) (D.disk disk.new) (IsErrOf result JournalFault.DiskFault) }
-    ensures small { IfOk result (λ f. f.end < 2 ^ 63 + 23) }
+    ensures small { IfOk result (λ f. f.end < 2 ^ 63 + HEADER_FRAME) }
 {
     let a = read_side(alloc, disk, Side::A)?;
     let b = read_side(alloc, disk, Side::B)?;
