@@ -8,7 +8,7 @@ use Rattle.commit_journal.specs.Spelling.{text, recorded, FitsText, records_size
 use Rattle.commit_journal.specs.Kept.{batched}
 use Rattle.commit_journal.specs.Batch.{or_none, payloads_in, IsBatch}
 use Rattle.commit_journal.proofs.Spelled.{payloads_again}
-use Rattle.commit_journal.proofs.Lengths.{length-batched}
+use Rattle.commit_journal.proofs.Sizes.{length-batched}
 
 pub all_more : (ps qs : List (List ℕ)) → AllByRecursion FitsText ps → AllByRecursion FitsText qs → AllByRecursion FitsText (ps ++ qs)
 all_more [] qs p q = q

@@ -14,7 +14,7 @@ use Rattle.commit_journal.specs.Blank.{IsBlankOrOpen}
 use Rattle.commit_journal.specs.Rewriting.{IsRewritten}
 use Rattle.commit_journal.specs.Kept.{StandsIn, StandsFound, IsWhole, Keeps, Stands, StandsOrBegun}
 use Rattle.commit_journal.specs.Journal.{View, payloads_on, IsSound, size_begun}
-use Rattle.commit_journal.proofs.Lengths.{length-header}
+use Rattle.commit_journal.proofs.Sizes.{length-header}
 use Rattle.commit_journal.proofs.Writes.{stands_keeps}
 use Rattle.commit_journal.proofs.Rewrites.{blank_here, first_stands, first_image}
 use Rattle.commit_journal.proofs.Sound.{payloads_on_stands, payloads_on_blank, kept_on}

@@ -10,7 +10,7 @@ use Rattle.commit_journal.specs.Reading.{Kept}
 use Rattle.commit_journal.specs.Kept.{StandsIn, StandsFound, side_renewed, renewed}
 use Rattle.commit_journal.specs.Written.{IsWritten, IsUntouched}
 use Rattle.commit_journal.specs.Journal.{kept_by}
-use Rattle.commit_journal.proofs.Lengths.{length-spelled}
+use Rattle.commit_journal.proofs.Sizes.{length-spelled}
 use Rattle.commit_journal.proofs.Rewrites.{other_twice}
 use Rattle.commit_journal.proofs.Sound.{kept_on}
 use Rattle.commit_journal.proofs.Begins.{same_payloads}

@@ -13,7 +13,7 @@ use Rattle.commit_journal.specs.Spelling.{Head, text, recorded, spelled, FitsTex
 use Rattle.commit_journal.specs.Reading.{payload_at, then_more, if_some, payloads, payloads_of, Front, Blank, NoHeader, Header, header_or_not, front, Counting, Neither, Counts, NotOne, counting, first_difference, first_gate, Wrong, Other, Kept, with_records, with_front, with_counting, recovered}
 use Rattle.commit_journal.specs.Kept.{StandsFound}
 use Rattle.commit_journal.specs.Laws.{IsBytes, BeginsWith, AreRecords, AreShort}
-use Rattle.commit_journal.proofs.Lengths.{length-spelled}
+use Rattle.commit_journal.proofs.Sizes.{length-spelled}
 use Rattle.commit_journal.proofs.Spelled.{payload_again, header_again, payloads_again}
 use Rattle.commit_journal.proofs.Spelt.{payload_takes, front_takes, payloads_take}
 use Rattle.commit_journal.proofs.Recovers.{records_ok, stands_in, on_front}

@@ -2,7 +2,7 @@ pub mod Differs
 pub mod Found
 pub mod Spelled
 pub mod Spelt
-pub mod Lengths
+pub mod Sizes
 pub mod Counting
 pub mod Recovers
 pub mod Opening

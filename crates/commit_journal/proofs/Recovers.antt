@@ -12,7 +12,7 @@ use Rattle.commit_journal.specs.Reading.{payloads, payloads_of, first_difference
 use Rattle.commit_journal.specs.Kept.{StandsIn, StandsFound}
 use Rattle.commit_journal.specs.Views.{front_on, kept_first}
 use Rattle.commit_journal.proofs.Counting.{chosen}
-use Rattle.commit_journal.proofs.Lengths.{length-spelled}
+use Rattle.commit_journal.proofs.Sizes.{length-spelled}
 use Rattle.commit_journal.specs.Laws.{IsBytes}
 use Rattle.commit_journal.proofs.Spelt.{front_takes, payloads_take}
 

@@ -14,7 +14,7 @@ use Rattle.commit_journal.specs.Reading.{Front, Blank, front, counting, Kept, re
 use Rattle.commit_journal.specs.Kept.{StandsIn, IsWhole, AreBlank, Keeps, Stands, with_more, KeepsOrMore, StandsOrMore}
 use Rattle.commit_journal.specs.Batch.{or_none}
 use Rattle.commit_journal.specs.Journal.{View, behind_front, payloads_on, IsSound}
-use Rattle.commit_journal.proofs.Lengths.{length-spelled, records_size-more}
+use Rattle.commit_journal.proofs.Sizes.{length-spelled, records_size-more}
 use Rattle.commit_journal.proofs.Spelled.{payloads_again, front_again}
 use Rattle.commit_journal.proofs.Recovers.{reads_nothing}
 use Rattle.commit_journal.proofs.Writes.{stands_keeps, found_keeps}

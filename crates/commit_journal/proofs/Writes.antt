@@ -12,7 +12,7 @@ use Rattle.commit_journal.specs.Spelling.{Head, recorded, header, spelled, FitsT
 use Rattle.commit_journal.specs.Reading.{Header, front, Counts, counting, Kept}
 use Rattle.commit_journal.specs.Kept.{StandsIn, StandsFound, with_more, Keeps, KeepsOrMore, batched}
 use Rattle.commit_journal.proofs.Spelled.{front_again}
-use Rattle.commit_journal.proofs.Lengths.{length-batched}
+use Rattle.commit_journal.proofs.Sizes.{length-batched}
 use Rattle.commit_journal.proofs.Batches.{all_more}
 use Rattle.commit_journal.proofs.Counting.{counts_still, keeps}
 

@@ -4,7 +4,7 @@ use Rattle.slee_disk.specs.declared.side.Side.{Side}
 use Rattle.slee_disk.specs.Sides.{on}
 use Rattle.slee_disk.specs.Disk.{DiskState}
 use Rattle.commit_journal.specs.declared.record.Record.{Record}
-use Rattle.commit_journal.specs.declared.sizes.TheConstants.{SIDE_LIMIT}
+use Rattle.commit_journal.specs.declared.limits.TheConstants.{SIDE_LIMIT}
 use Rattle.commit_journal.specs.declared.stage.Stage.{Stage}
 use Rattle.commit_journal.specs.declared.stage.Stage.TheVariants.{Ready, Found, Stopped}
 use Rattle.commit_journal.specs.declared.stage.Stage.TheVariants as stages

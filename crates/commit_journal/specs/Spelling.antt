@@ -2,7 +2,7 @@
 use Rattle.std.specs.Prelude.{ℕ, ◌+◌, ◌<◌, ◌^◌, List, [], ◌∷◌, ◌++◌, length, codes}
 use Rattle.std.specs.List.{flat_map}
 use Rattle.std.specs.Int.{w32, w64, to_le_bytes}
-use Rattle.commit_journal.specs.declared.sizes.TheConstants.{RECORD_FRAME, SIDE_FRAME}
+use Rattle.commit_journal.specs.declared.limits.TheConstants.{RECORD_FRAME, SIDE_FRAME}
 
 -- the name of the format
 abbrev pub magic : List ℕ

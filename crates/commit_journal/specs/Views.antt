@@ -19,7 +19,7 @@ use Rattle.commit_journal.specs.declared.reading.Begins.TheVariants as begins
 use Rattle.commit_journal.specs.declared.reading.Behind.{Behind}
 use Rattle.commit_journal.specs.declared.reading.Behind.TheVariants as behinds
 use Rattle.commit_journal.specs.declared.reading.Heading.{Heading}
-use Rattle.commit_journal.specs.declared.sizes.TheConstants.{RECORD_FRAME}
+use Rattle.commit_journal.specs.declared.limits.TheConstants.{RECORD_FRAME}
 use Rattle.commit_journal.specs.Spelling.{Head, records_size}
 use Rattle.commit_journal.specs.Reading.{payload_at, Front, Blank, NoHeader, Header, Counting, Neither, Counts, NotOne, counting, Kept, Wrong, Bad, Other}
 

@@ -4,8 +4,8 @@ ghost use Rattle.commit_journal.specs.Spelling.{FitsText, text as text_of, heade
 ghost use Rattle.commit_journal.specs.Journal.{IsTooLarge};
 
 use crate::BeginFault;
+use crate::limits::{SIDE_FRAME, SIDE_LIMIT};
 use crate::reading::MAGIC;
-use crate::sizes::{SIDE_FRAME, SIDE_LIMIT};
 use slee_value::NoMemory;
 use std::alloc::Global;
 

@@ -3,8 +3,8 @@ ghost use Rattle.std.specs.Prelude.{◌≡◌, ◌≢◌, ◌⊎◌, ◌<◌, �
 use crate::batch::Batch;
 use crate::blank::{rewrite_side, write_side};
 use crate::heading::header_within;
+use crate::limits::{PAYLOAD_LIMIT, RECORD_FRAME, SIDE_LIMIT};
 use crate::reading::{next_of, other_of};
-use crate::sizes::{PAYLOAD_LIMIT, RECORD_FRAME, SIDE_LIMIT};
 use crate::start::find;
 use crate::writing::{cut_behind, write_batch};
 use crate::{AppendFault, BeginFault, JournalFault, Record, Stage};

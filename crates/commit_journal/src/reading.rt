@@ -5,8 +5,8 @@ ghost use Rattle.commit_journal.specs.Reading.{number_at, text_at, magic_at, hea
 ghost use Rattle.commit_journal.specs.Views.{Reads, head_view, front_view, GivesRecords, AtGate, Chooses, Picks};
 
 use crate::fault::JournalBad;
+use crate::limits::RECORD_FRAME;
 use crate::record::{Record, RecordsFault};
-use crate::sizes::RECORD_FRAME;
 use slee_disk::Side;
 use slee_value::Blob;
 use std::alloc::Global;

@@ -7,9 +7,9 @@ ghost use Rattle.commit_journal.specs.Views.{head_view, IsCause, IsRecovered, ke
 
 use crate::Stage;
 use crate::fault::{JournalBad, JournalFault};
+use crate::limits::HEADER_FRAME;
 use crate::reading::{Heading, choose, differ, records_of};
 use crate::record::{Found, RecordsFault};
-use crate::sizes::HEADER_FRAME;
 use slee_disk::Side;
 use slee_value::Blob;
 use std::alloc::Global;

@@ -9,9 +9,9 @@ ghost use Rattle.commit_journal.specs.Views.{IsCause, IsDevice, IsRecovered, kep
 
 use crate::Stage;
 use crate::fault::JournalFault;
+use crate::limits::HEADER_FRAME;
 use crate::record::Found;
 use crate::recovery::recover;
-use crate::sizes::HEADER_FRAME;
 use slee_disk::{Disk, Side};
 use std::alloc::Global;
 

@@ -1,4 +1,4 @@
-use Rattle.commit_journal.proofs.Lengths.{length-stands}
+use Rattle.commit_journal.proofs.Sizes.{length-stands}
 use Rattle.commit_journal.proofs.journal.Journal.side.Goals as goal
 
 pub returns-clause-whole : goal.returns-clause-whole
