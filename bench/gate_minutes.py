@@ -39,7 +39,7 @@ class Process:
 
     def __init__(self, parent, started):
         self.parent, self.started = parent, started
-        self.crate = self.kind = None
+        self.crate = self.kind = self.folder = None
         self.seconds = 0.0
 
 
@@ -106,9 +106,11 @@ def look(root, seen, crates):
         parent, seconds, started = found[pid]
         one = seen.setdefault((pid, started), Process(parent, started))
         one.seconds = max(one.seconds, seconds)
-        crate, kind = purpose_of(words_of(pid), folder_of(pid), crates)
-        if crate:
-            one.crate, one.kind = crate, kind
+        words, folder = words_of(pid), folder_of(pid)
+        crate, kind = purpose_of(words, folder, crates)
+        # (a process that is ending has no words any more)
+        if crate and any(words):
+            one.crate, one.kind, one.folder = crate, kind, folder
 
 
 def crates_of(folder):
@@ -135,12 +137,13 @@ def measured(folder, log):
         said.seek(0)
         lines = said.read().rstrip("\n").split("\n")
     after = resource.getrusage(resource.RUSAGE_CHILDREN)
-    spent, tried = {it: dict.fromkeys(KINDS, 0.0) for it in crates}, defaultdict(list)
+    spent, tried = {it: dict.fromkeys(KINDS, 0.0) for it in crates}, {it: defaultdict(float) for it in crates}
     for one in sorted(seen.values(), key=lambda it: it.started):
         if one.crate in spent:
             spent[one.crate][one.kind] += one.seconds
             if one.kind == "edits":
-                tried[one.crate].append(one.seconds)
+                # (the copy that one wrong body is tried in is a folder of its own)
+                tried[one.crate][one.folder] += one.seconds
     return {
         "status": gate.returncode,
         "last": lines[-1],
@@ -148,7 +151,7 @@ def measured(folder, log):
         "minutes": (time.time() - began) / 60,
         "processor": (after.ru_utime + after.ru_stime - before.ru_utime - before.ru_stime) / 60,
         "spent": spent,
-        "edits": {it: [edits_of(folder, it), tried[it]] for it in crates if tried[it]},
+        "edits": {it: [edits_of(folder, it), [*tried[it].values()]] for it in crates if tried[it]},
         "commit": said_by(["git", "rev-parse", "--short", "HEAD"], folder),
         "date": time.strftime("%-d %B %Y"),
         "processors": len(os.sched_getaffinity(0)),

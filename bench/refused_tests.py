@@ -25,8 +25,8 @@ from fail_alloc import library
 TOP = os.path.dirname(os.path.dirname(os.path.abspath(__file__)))
 CRATES = ("slee_rows", "value_rows", "disk_rows", "script_rows")
 WHOLE_CALL = "want_of_memory::a_refused_allocation_leaves_a_front_of_the_call"
-# How want of memory is told: by the repository's crates, and by the library's files.
-NO_MEMORY = ("NoMemory", "OutOfMemory")
+# How want of memory is told: by the crates of this repository, and by the library.
+NO_MEMORY = ("NoMemory", "OutOfMemory", "AllocError", "AllocFailed")
 # Tests over objects in memory that answer a fault where they can't grow.
 OVER_OBJECTS = {
     "objects::a_sink_takes_what_comes_before_a_fault",

@@ -6,6 +6,7 @@
     python3 bench/trials.py --gate             those that the gate tries too, from crates/*/must-fail
     python3 bench/trials.py --folder DIR       in DIR, a clone that is there and may have kept work
     python3 bench/trials.py --jobs 2           so many crates at a time; as many as there are processors where nothing is said
+    python3 bench/trials.py --texts            proves nothing: says in a second which can't be tried any more, here as it stands
 
 A line for each: `refused`; `PROVED` where the contract lets the wrong body through; `BROKEN` where it couldn't be tried, since
 its text doesn't stand in the code any more or doesn't compile. It ends with status 0 where all were refused. What the crates
@@ -48,6 +49,44 @@ def below(crates, name):
 
 def edits_of(folder):
     return sorted(glob.glob(os.path.join(folder, "*.edit")))
+
+
+def unfit(folder, crate, edit):
+    """Why an edit can't be tried, or nothing where each of its texts stands once in the file that it names."""
+    path, old, texts = None, None, {}
+    with open(edit, encoding="utf-8") as f:
+        lines = f.read().split("\n")
+    for line in lines:
+        word, _, text = line.partition(": ")
+        if word == "file":
+            path = os.path.join(folder, "crates", crate, text.strip())
+            if not os.path.isfile(path):
+                return f"there is no file {text.strip()}"
+            with open(path, encoding="utf-8") as f:
+                texts.setdefault(path, f.read())
+        elif word == "old":
+            old = text
+        elif word in ("new", "new:") and old:
+            count = texts[path].count(old)
+            if count != 1:
+                return f"its text stands {count} times in {os.path.relpath(path, folder)}: {old}"
+            texts[path] = texts[path].replace(old, text)
+    return "" if old else "it has no line 'old: '"
+
+
+def look_at_texts(folder, given):
+    """Prints the wrong bodies, of the gate and of trials/, that can't be tried any more, and returns how many they are."""
+    broken = 0
+    places = sorted(glob.glob(os.path.join(folder, "crates", "*", "must-fail")) + glob.glob(os.path.join(folder, "trials", "*")))
+    for place in places:
+        crate = os.path.relpath(place, folder).split(os.sep)[1]
+        for edit in edits_of(place) if not given.crates or crate in given.crates else []:
+            why = unfit(folder, crate, edit)
+            if why:
+                broken += 1
+                print(f"BROKEN  {os.path.relpath(edit, folder)}  {why}")
+    print(f"{broken} BROKEN")
+    return 1 if broken else 0
 
 
 def prepare(folder, crate, with_gate):
@@ -113,8 +152,11 @@ def main():
     parser.add_argument("crates", nargs="*", help="the crates whose trials are tried; all where none is named")
     parser.add_argument("--folder", help="a clone to work in; its must-fail folders are changed")
     parser.add_argument("--gate", action="store_true", help="the gate's wrong bodies too")
+    parser.add_argument("--texts", action="store_true", help="look at the texts alone")
     parser.add_argument("--jobs", type=int, default=len(os.sched_getaffinity(0)), help="how many crates at a time")
     given = parser.parse_args()
+    if given.texts:
+        return look_at_texts(given.folder or TOP, given)
     if given.folder and os.path.samefile(given.folder, TOP):
         sys.exit("this repository's own folder isn't changed: name a clone")
     with tempfile.TemporaryDirectory(prefix="trials-") as room:

@@ -5,7 +5,6 @@ use Rattle.std.proofs.lemmas.List.{append-nil, take_rest}
 use Rattle.std.proofs.lemmas.List.Concat.{flat_map-append}
 use Rattle.std.proofs.Math.Seq.{set-append_seam}
 use Rattle.commit_journal.specs.Spelling.{text, recorded, FitsText, records_size}
-use Rattle.commit_journal.specs.Reading.{payloads_of}
 use Rattle.commit_journal.specs.Kept.{batched}
 use Rattle.commit_journal.specs.Batch.{or_none, payloads_in, IsBatch}
 use Rattle.commit_journal.proofs.Spelled.{payloads_again}

@@ -1,6 +1,5 @@
 -- A journal that is begun.
-use Rattle.std.proofs.Common.{◌≡◌, ◌≢◌, ◌⊎◌, inl, inr, ℕ, ◌+◌, ◌-◌, ◌≤◌, ◌<◌, ◌^◌, List, [], ◌∷◌, ◌++◌, length, IsTrue, Option, Some, None, Ok, refl, sym, ◌∙◌, ap, subst, arith, length-append}
-use Rattle.slee_disk.specs.declared.side.Side.{Side}
+use Rattle.std.proofs.Common.{◌≡◌, ◌≢◌, ◌⊎◌, inl, inr, ℕ, ◌+◌, ◌≤◌, ◌<◌, ◌^◌, List, [], ◌∷◌, ◌++◌, length, IsTrue, refl, sym, ◌∙◌, ap, subst, arith, length-append}
 use Rattle.slee_disk.specs.Sides.{Sides, on, other}
 use Rattle.slee_disk.specs.Disk.{DiskState, LeavesOnly, is_clean}
 use Rattle.slee_disk.proofs.Moments.{reached_start, clean_only}
@@ -8,12 +7,12 @@ use Rattle.commit_journal.specs.declared.stage.Stage.{Stage}
 use Rattle.commit_journal.specs.declared.stage.Stage.TheVariants.{Ready, Found, Stopped}
 use Rattle.commit_journal.specs.declared.stage.Stage.TheVariants as stages
 use Rattle.commit_journal.specs.declared.record.Record.{Record}
-use Rattle.commit_journal.specs.Spelling.{Head, header, FitsText, FitsHead, records_size, size}
+use Rattle.commit_journal.specs.Spelling.{Head, header, FitsHead, records_size, size}
 use Rattle.commit_journal.specs.Reading.{Kept}
 use Rattle.commit_journal.specs.Gate.{IsOpened}
 use Rattle.commit_journal.specs.Blank.{IsBlankOrOpen}
 use Rattle.commit_journal.specs.Rewriting.{IsRewritten}
-use Rattle.commit_journal.specs.Kept.{StandsIn, StandsFound, IsWhole, AreBlank, Keeps, Stands, StandsOrBegun}
+use Rattle.commit_journal.specs.Kept.{StandsIn, StandsFound, IsWhole, Keeps, Stands, StandsOrBegun}
 use Rattle.commit_journal.specs.Journal.{View, payloads_on, IsSound, size_begun}
 use Rattle.commit_journal.proofs.Sizes.{length-header}
 use Rattle.commit_journal.proofs.Writes.{stands_keeps}

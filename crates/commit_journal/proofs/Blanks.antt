@@ -1,5 +1,5 @@
 -- What a crash leaves while a blank side is made one closed gate, or an open side is closed.
-use Rattle.std.proofs.Common.{◌≡◌, ◌≢◌, ◌⊎◌, inl, inr, ⊎_elim, ℕ, ◌+◌, ◌-◌, ◌≤◌, ◌<◌, min, max, Bool, eqb, cond, List, [], ◌∷◌, ◌++◌, length, get_or, take, drop, Option, Some, None, IsTrue, refl, sym, ◌∙◌, ap, subst, arith, length-take}
+use Rattle.std.proofs.Common.{◌≡◌, ◌≢◌, ◌⊎◌, inl, inr, ⊎_elim, ℕ, ◌+◌, ◌≤◌, ◌<◌, eqb, cond, List, [], ◌∷◌, ◌++◌, length, get_or, take, drop, Option, Some, None, refl, sym, ◌∙◌, ap, subst, arith, length-take}
 use Rattle.std.proofs.lemmas.Bool.{cases_eq}
 use Rattle.std.proofs.lemmas.Bool.Decides.{nat_tests}
 use Rattle.std.proofs.lemmas.List.{drop_all}
@@ -8,7 +8,7 @@ use Rattle.slee_disk.specs.Sides.{Sides, on, other, Torn, Cut, Holds, AtSide}
 use Rattle.slee_disk.specs.Disk.{DiskState, Looks, Changes, LeavesOnly, Only}
 use Rattle.slee_disk.proofs.Moments.{Reached, reached_start, reached_call, reached_look, looks_leave, leaves_then, leaves_what}
 use Rattle.commit_journal.specs.Spelling.{Head}
-use Rattle.commit_journal.specs.Reading.{header_at, header_or_not, Front, Blank, front}
+use Rattle.commit_journal.specs.Reading.{header_at, header_or_not, Blank, front}
 use Rattle.commit_journal.specs.Gate.{EndsShut, IsShutOrOpen}
 use Rattle.commit_journal.specs.Rewriting.{IsRewritten}
 use Rattle.commit_journal.specs.Blank.{IsBlankOn, IsOneShut, BlankBeside, IsBlankOrOpen, IsBlankOrSame}

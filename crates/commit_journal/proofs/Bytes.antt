@@ -1,18 +1,17 @@
 -- The bytes that a journal leaves on the sides of its disk.
-use Rattle.std.proofs.Common.{◌≡◌, ◌≢◌, ◌+◌, ℕ, List, [], ◌∷◌, ◌++◌, length, take, IsTrue, sym, ◌∙◌, ap, subst, arith}
+use Rattle.std.proofs.Common.{◌≡◌, ◌+◌, ℕ, List, [], take, sym, ◌∙◌, ap, subst, arith}
 use Rattle.slee_disk.specs.declared.side.Side.{Side}
-use Rattle.slee_disk.specs.Sides.{Sides, on, other}
+use Rattle.slee_disk.specs.Sides.{Sides, other}
 use Rattle.slee_disk.specs.Disk.{DiskState}
 use Rattle.commit_journal.specs.declared.stage.Stage.{Stage}
 use Rattle.commit_journal.specs.declared.stage.Stage.TheVariants.{Ready}
-use Rattle.commit_journal.specs.Spelling.{header, size}
+use Rattle.commit_journal.specs.Spelling.{size}
 use Rattle.commit_journal.specs.Reading.{Kept}
-use Rattle.commit_journal.specs.Gate.{IsOpened}
-use Rattle.commit_journal.specs.Kept.{StandsIn, StandsFound, with_more, side_renewed, renewed}
+use Rattle.commit_journal.specs.Kept.{StandsIn, StandsFound, side_renewed, renewed}
 use Rattle.commit_journal.specs.Written.{IsWritten, IsUntouched}
 use Rattle.commit_journal.specs.Journal.{kept_by}
 use Rattle.commit_journal.proofs.Sizes.{length-spelled}
-use Rattle.commit_journal.proofs.Rewrites.{spelled_here, other_twice}
+use Rattle.commit_journal.proofs.Rewrites.{other_twice}
 use Rattle.commit_journal.proofs.Sound.{kept_on}
 use Rattle.commit_journal.proofs.Begins.{same_payloads}
 use Rattle.commit_journal.proofs.Renewals.{same_renewed}

@@ -1,5 +1,5 @@
 -- Which side counts, and what the sides then stand for.
-use Rattle.std.proofs.Common.{◌≡◌, ◌≢◌, ℕ, Bool, true, cond, List, [], ◌∷◌, ◌++◌, length, Option, Some, Result, Ok, Err, refl, sym, ◌∙◌, ap, arith, append_assoc, length-append}
+use Rattle.std.proofs.Common.{◌≡◌, ◌≢◌, ℕ, Bool, true, cond, List, [], ◌∷◌, ◌++◌, length, Some, Ok, Err, refl, sym, ◌∙◌, ap, arith, append_assoc}
 use Rattle.std.specs.List.{flat_map, AllByRecursion}
 use Rattle.std.specs.Str.{bytes_eq}
 use Rattle.std.proofs.lemmas.List.Concat.{flat_map-append}
@@ -8,7 +8,7 @@ use Rattle.slee_disk.specs.declared.side.Side.{Side}
 use Rattle.slee_disk.specs.declared.side.Side.TheVariants.{A, B}
 use Rattle.slee_disk.specs.Sides.{Sides, on, other}
 use Rattle.commit_journal.specs.Spelling.{Head, recorded, header, spelled, FitsText, FitsHead}
-use Rattle.commit_journal.specs.Reading.{payloads_of, Front, Blank, NoHeader, Header, front, first_difference, Wrong, Other, Counts, counting, Kept, with_records, with_front, with_counting, recovered}
+use Rattle.commit_journal.specs.Reading.{payloads_of, Front, Blank, NoHeader, Header, front, first_difference, Other, Counts, counting, Kept, with_records, with_front, with_counting, recovered}
 use Rattle.commit_journal.specs.Kept.{Keeps}
 use Rattle.commit_journal.proofs.Spelled.{payloads_again, front_again}
 

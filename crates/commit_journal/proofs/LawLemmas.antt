@@ -1,6 +1,6 @@
 -- The spelling of sides and the reading of them are one.
-use Rattle.std.proofs.Common.{◌≡◌, ◌≢◌, ◌⊎◌, inl, inr, ℕ, zero, suc, ◌+◌, ◌<◌, ◌≤◌, Bool, true, false, cond, eqb, List, [], ◌∷◌, ◌++◌, length, get_or, Option, Some, None, Result, Ok, Err, refl, sym, ◌∙◌, ap, subst, arith, append_assoc}
-use Rattle.std.specs.List.{flat_map, AllByRecursion}
+use Rattle.std.proofs.Common.{◌≡◌, ◌≢◌, ◌⊎◌, inl, inr, ℕ, zero, suc, ◌+◌, Bool, true, false, cond, eqb, List, [], ◌∷◌, ◌++◌, length, Option, Some, None, Result, Ok, Err, refl, sym, ◌∙◌, ap, arith, append_assoc}
+use Rattle.std.specs.List.{flat_map}
 use Rattle.std.specs.Str.{bytes_eq}
 use Rattle.std.proofs.lemmas.Bool.{cases_eq}
 use Rattle.std.proofs.lemmas.Bool.Decides.{nat_tests}
@@ -9,9 +9,9 @@ use Rattle.std.proofs.lemmas.Slice.Eq.{bytes_eq-Decides}
 use Rattle.slee_disk.specs.declared.side.Side.{Side}
 use Rattle.slee_disk.specs.declared.side.Side.TheVariants.{A, B}
 use Rattle.slee_disk.specs.Sides.{Sides, on}
-use Rattle.commit_journal.specs.Spelling.{Head, text, recorded, header, spelled, FitsText, FitsHead, records_size}
-use Rattle.commit_journal.specs.Reading.{payload_at, then_more, if_some, payloads, payloads_of, Front, Blank, NoHeader, Header, header_at, header_or_not, front, Counting, Neither, Counts, NotOne, counting, first_difference, first_gate, Wrong, Bad, Other, Kept, with_records, with_front, with_counting, recovered}
-use Rattle.commit_journal.specs.Kept.{StandsIn, StandsFound, Keeps}
+use Rattle.commit_journal.specs.Spelling.{Head, text, recorded, spelled, FitsText, records_size}
+use Rattle.commit_journal.specs.Reading.{payload_at, then_more, if_some, payloads, payloads_of, Front, Blank, NoHeader, Header, header_or_not, front, Counting, Neither, Counts, NotOne, counting, first_difference, first_gate, Wrong, Other, Kept, with_records, with_front, with_counting, recovered}
+use Rattle.commit_journal.specs.Kept.{StandsFound}
 use Rattle.commit_journal.specs.Laws.{IsBytes, BeginsWith, AreRecords, AreShort}
 use Rattle.commit_journal.proofs.Sizes.{length-spelled}
 use Rattle.commit_journal.proofs.Spelled.{payload_again, header_again, payloads_again}

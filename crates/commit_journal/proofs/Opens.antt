@@ -1,5 +1,5 @@
 -- A journal that was just opened.
-use Rattle.std.proofs.Common.{◌≡◌, ◌≢◌, ◌⊎◌, inl, inr, ⊎_elim, ℕ, ◌+◌, ◌-◌, ◌≤◌, ◌<◌, ◌^◌, List, [], ◌∷◌, length, map, IsTrue, Option, Some, None, Result, Ok, Err, refl, sym, ◌∙◌, ap, subst, arith}
+use Rattle.std.proofs.Common.{◌≡◌, ◌≢◌, inl, inr, ⊎_elim, ℕ, ◌+◌, ◌≤◌, ◌<◌, ◌^◌, List, [], length, map, IsTrue, Some, None, Ok, refl, sym, ◌∙◌, ap, subst, arith}
 use Rattle.slee_disk.specs.declared.side.Side.{Side}
 use Rattle.slee_disk.specs.declared.side.Side.TheVariants.{A, B}
 use Rattle.slee_disk.specs.Sides.{Sides, on}
@@ -9,8 +9,8 @@ use Rattle.commit_journal.specs.declared.stage.Stage.TheVariants as stages
 use Rattle.commit_journal.specs.declared.record.Record.{Record}
 use Rattle.commit_journal.specs.declared.record.Found.{Found}
 use Rattle.commit_journal.specs.Spelling.{FitsText, records_size}
-use Rattle.commit_journal.specs.Reading.{Front, Blank, front, first_gate, Kept, recovered}
-use Rattle.commit_journal.specs.Kept.{StandsIn, StandsFound, AreBlank, Keeps, Stands}
+use Rattle.commit_journal.specs.Reading.{Blank, front, first_gate, Kept, recovered}
+use Rattle.commit_journal.specs.Kept.{StandsFound, AreBlank, Keeps, Stands}
 use Rattle.commit_journal.specs.Views.{payload_of, located, kept_found, kept_first, IsRecovered, IsFresh}
 use Rattle.commit_journal.specs.Journal.{View, payloads_on, kept_by, IsSound, IsOpenedAs}
 use Rattle.commit_journal.proofs.Writes.{stands_keeps}

@@ -1,14 +1,14 @@
 -- What two sides stand for, as it is read.
-use Rattle.std.proofs.Common.{◌≡◌, ◌≢◌, inl, inr, ℕ, suc, ◌+◌, ◌^◌, ◌<◌, ◌≤◌, Bool, true, false, cond, eqb, ltb, List, [], ◌∷◌, ◌++◌, length, get_or, Option, Some, None, Result, Ok, Err, IfOk, IfErr, refl, sym, ap, subst, ◌∙◌, append_assoc, arith, length-append}
+use Rattle.std.proofs.Common.{◌≡◌, ℕ, suc, ◌+◌, ◌^◌, ◌<◌, ◌≤◌, Bool, true, false, cond, eqb, ltb, List, [], ◌∷◌, ◌++◌, length, get_or, Option, Some, None, Result, Ok, Err, IfOk, IfErr, refl, sym, ap, subst, ◌∙◌, append_assoc, arith, length-append}
 use Rattle.std.specs.Str.{bytes_eq}
-use Rattle.std.specs.List.{flat_map, AllByRecursion}
+use Rattle.std.specs.List.{flat_map}
 use Rattle.slee_disk.specs.declared.side.Side.{Side}
 use Rattle.slee_disk.specs.declared.side.Side.TheVariants.{A, B}
 use Rattle.slee_disk.specs.Sides.{Sides, on}
 use Rattle.commit_journal.specs.declared.fault.JournalBad.{JournalBad}
 use Rattle.commit_journal.specs.declared.fault.JournalBad.TheVariants as kinds
-use Rattle.commit_journal.specs.Spelling.{Head, FitsHead, recorded, header, spelled, text, records_size, size}
-use Rattle.commit_journal.specs.Reading.{payloads, payloads_of, first_difference, first_gate, Front, Blank, NoHeader, Header, next, by_generations, front, Counting, Neither, Counts, NotOne, counting, Wrong, Bad, Other, Kept, with_records, with_front, with_counting, recovered}
+use Rattle.commit_journal.specs.Spelling.{Head, FitsHead, recorded, header, spelled, text, records_size}
+use Rattle.commit_journal.specs.Reading.{payloads, payloads_of, first_difference, first_gate, Front, Blank, NoHeader, Header, next, by_generations, front, Neither, Counts, NotOne, counting, Bad, Other, Kept, with_records, with_front, with_counting, recovered}
 use Rattle.commit_journal.specs.Kept.{StandsIn, StandsFound}
 use Rattle.commit_journal.specs.Views.{front_on, kept_first}
 use Rattle.commit_journal.proofs.Counting.{chosen}

@@ -1,5 +1,5 @@
 -- A journal that is renewed.
-use Rattle.std.proofs.Common.{◌≡◌, ◌≢◌, ◌⊎◌, inl, inr, ⊎_elim, ℕ, ◌+◌, ◌-◌, ◌≤◌, ◌<◌, ◌^◌, List, [], ◌∷◌, ◌++◌, length, IsTrue, Option, Some, None, Ok, refl, sym, ◌∙◌, ap, subst, arith}
+use Rattle.std.proofs.Common.{◌≡◌, ◌≢◌, inl, ℕ, ◌≤◌, ◌<◌, ◌^◌, List, [], ◌∷◌, ◌++◌, length, IsTrue, refl, sym, ◌∙◌, ap, subst, arith}
 use Rattle.std.proofs.lemmas.List.{append-nil}
 use Rattle.slee_disk.specs.declared.side.Side.{Side}
 use Rattle.slee_disk.specs.Sides.{Sides, on, other}
@@ -9,11 +9,11 @@ use Rattle.commit_journal.specs.declared.stage.Stage.{Stage}
 use Rattle.commit_journal.specs.declared.stage.Stage.TheVariants.{Ready, Found, Stopped}
 use Rattle.commit_journal.specs.declared.stage.Stage.TheVariants as stages
 use Rattle.commit_journal.specs.declared.record.Record.{Record}
-use Rattle.commit_journal.specs.Spelling.{Head, header, FitsText, FitsHead, records_size, size}
+use Rattle.commit_journal.specs.Spelling.{header, FitsHead, records_size, size}
 use Rattle.commit_journal.specs.Reading.{Kept}
 use Rattle.commit_journal.specs.Gate.{IsOpened}
 use Rattle.commit_journal.specs.Rewriting.{IsRewritten}
-use Rattle.commit_journal.specs.Kept.{StandsIn, StandsFound, IsWhole, Keeps, Stands, with_more, StandsOrMore, side_renewed, generation_renewed, renewed, StandsOrRenewed}
+use Rattle.commit_journal.specs.Kept.{StandsIn, IsWhole, Keeps, Stands, with_more, side_renewed, generation_renewed, renewed, StandsOrRenewed}
 use Rattle.commit_journal.specs.Renewal.{LeavesRenewed}
 use Rattle.commit_journal.specs.Journal.{View, payloads_on, kept_by, IsSound}
 use Rattle.commit_journal.proofs.Rewrites.{first_stands, first_image, next_stands, next_image}

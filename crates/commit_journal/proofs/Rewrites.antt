@@ -1,21 +1,19 @@
 -- What the sides stand for while a side is written anew.
-use Rattle.std.proofs.Common.{◌≡◌, ◌≢◌, ◌⊎◌, inl, inr, ⊎_elim, ℕ, suc, ◌+◌, ◌<◌, ◌≤◌, List, [], ◌∷◌, ◌++◌, length, Option, Some, None, Ok, refl, sym, ◌∙◌, ap, subst, arith, length-append}
-use Rattle.std.specs.List.{flat_map, AllByRecursion}
+use Rattle.std.proofs.Common.{◌≡◌, ◌⊎◌, inl, inr, ℕ, List, [], ◌∷◌, ◌++◌, length, None, Ok, refl, sym, ◌∙◌, ap, subst, arith, length-append}
+use Rattle.std.specs.List.{flat_map}
 use Rattle.std.proofs.lemmas.List.{append-nil}
 use Rattle.slee_disk.specs.declared.side.Side.{Side}
 use Rattle.slee_disk.specs.declared.side.Side.TheVariants.{A, B}
 use Rattle.slee_disk.specs.Sides.{Sides, on, other}
 use Rattle.slee_disk.proofs.Moments.{same_sides}
-use Rattle.commit_journal.specs.declared.stage.Stage.{Stage}
-use Rattle.commit_journal.specs.declared.stage.Stage.TheVariants as stages
-use Rattle.commit_journal.specs.Spelling.{Head, header, recorded, spelled, FitsText, FitsHead}
-use Rattle.commit_journal.specs.Reading.{Front, Blank, NoHeader, Header, front, next, by_generations, Counting, Neither, Counts, counting, Kept, recovered}
+use Rattle.commit_journal.specs.Spelling.{Head, header, recorded, spelled, FitsHead}
+use Rattle.commit_journal.specs.Reading.{Front, Blank, Header, front, next, by_generations, Neither, Counts, counting, Kept, recovered}
 use Rattle.commit_journal.specs.Kept.{StandsIn, AreBlank, Keeps}
 use Rattle.commit_journal.specs.Blank.{IsBlankOn}
 use Rattle.commit_journal.specs.Rewriting.{IsRewritten}
 use Rattle.commit_journal.proofs.Spelled.{front_again}
 use Rattle.commit_journal.proofs.Recovers.{reads_nothing}
-use Rattle.commit_journal.proofs.Writes.{stands_keeps, stands_with}
+use Rattle.commit_journal.proofs.Writes.{stands_keeps}
 use Rattle.commit_journal.proofs.Newer.{newer_a, newer_b}
 
 by_case : {X Y Z P : Type 0} → X ⊎ Y ⊎ Z → (X → P) → (Y → P) → (Z → P) → P

@@ -1,25 +1,23 @@
 -- What is true of the fields of each journal, over its calls.
-use Rattle.std.proofs.Common.{◌≡◌, ◌≢◌, ◌⊎◌, inl, inr, ℕ, ◌+◌, ◌-◌, ◌≤◌, ◌<◌, ◌^◌, Bool, true, false, List, [], ◌∷◌, ◌++◌, length, IsTrue, Option, Some, None, Result, Ok, Err, IfErr, IsErrAnd, refl, sym, ◌∙◌, ap, subst, arith}
-use Rattle.std.specs.List.{flat_map, AllByRecursion}
+use Rattle.std.proofs.Common.{◌≡◌, ◌≢◌, ◌⊎◌, inl, inr, ℕ, ◌+◌, ◌≤◌, Bool, true, false, List, [], ◌∷◌, ◌++◌, length, IsTrue, None, Result, Ok, Err, IfErr, IsErrAnd, refl, sym, ◌∙◌, ap, subst, arith}
+use Rattle.std.specs.List.{flat_map}
 use Rattle.std.proofs.lemmas.List.{append-nil}
-use Rattle.slee_disk.specs.declared.side.Side.{Side}
 use Rattle.slee_disk.specs.Sides.{Sides, on}
-use Rattle.slee_disk.specs.Disk.{DiskState, LeavesOnly, Only, is_clean}
+use Rattle.slee_disk.specs.Disk.{DiskState, LeavesOnly, is_clean}
 use Rattle.slee_disk.proofs.Moments.{reached_start, clean_only}
 use Rattle.commit_journal.specs.declared.stage.Stage.{Stage}
 use Rattle.commit_journal.specs.declared.stage.Stage.TheVariants.{Ready, Found, Stopped}
 use Rattle.commit_journal.specs.declared.stage.Stage.TheVariants as stages
 use Rattle.commit_journal.specs.declared.record.Record.{Record}
-use Rattle.commit_journal.specs.Spelling.{Head, recorded, FitsText, records_size, size}
-use Rattle.commit_journal.specs.Reading.{payloads_of, Front, Blank, Header, front, Neither, counting, Kept, recovered}
-use Rattle.commit_journal.specs.Kept.{StandsIn, StandsFound, IsWhole, AreBlank, Keeps, Stands, with_more, KeepsOrMore, StandsOrMore}
-use Rattle.commit_journal.specs.Gate.{EndsShut}
+use Rattle.commit_journal.specs.Spelling.{recorded, records_size, size}
+use Rattle.commit_journal.specs.Reading.{Front, Blank, front, counting, Kept, recovered}
+use Rattle.commit_journal.specs.Kept.{StandsIn, IsWhole, AreBlank, Keeps, Stands, with_more, KeepsOrMore, StandsOrMore}
 use Rattle.commit_journal.specs.Batch.{or_none}
 use Rattle.commit_journal.specs.Journal.{View, behind_front, payloads_on, IsSound}
 use Rattle.commit_journal.proofs.Sizes.{length-spelled, records_size-more}
 use Rattle.commit_journal.proofs.Spelled.{payloads_again, front_again}
 use Rattle.commit_journal.proofs.Recovers.{reads_nothing}
-use Rattle.commit_journal.proofs.Writes.{stands_keeps, stands_ends, found_keeps}
+use Rattle.commit_journal.proofs.Writes.{stands_keeps, found_keeps}
 
 -- ---- what the fields stand for
 

@@ -1,16 +1,15 @@
 -- What the sides stand for while a batch is written, or while what stands behind the last gate is cut.
-use Rattle.std.proofs.Common.{◌≡◌, ◌≢◌, ◌⊎◌, inl, inr, ⊎_elim, ℕ, ◌+◌, ◌-◌, ◌≤◌, ◌<◌, List, [], ◌∷◌, ◌++◌, length, get_or, take, drop, refl, sym, ◌∙◌, ap, subst, arith, append_assoc, length-append, take-append-drop}
+use Rattle.std.proofs.Common.{◌≡◌, ◌≢◌, inl, inr, ⊎_elim, ℕ, ◌+◌, List, [], ◌∷◌, ◌++◌, length, get_or, take, drop, sym, ◌∙◌, ap, subst, arith, append_assoc, length-append, take-append-drop}
 use Rattle.std.specs.List.{flat_map, AllByRecursion}
 use Rattle.std.proofs.lemmas.List.{take_at}
 use Rattle.std.proofs.lemmas.List.Concat.{flat_map-append}
 use Rattle.std.proofs.Math.Seq.{get_or-append_seam}
-use Rattle.slee_disk.specs.declared.side.Side.{Side}
 use Rattle.slee_disk.specs.Sides.{Sides, on, other, Cut, AtSide}
 use Rattle.slee_disk.specs.Disk.{DiskState, Looks, Changes, Only}
 use Rattle.slee_disk.proofs.Moments.{Reached, reached_start, reached_call}
 use Rattle.commit_journal.specs.Gate.{IsShut, EndsShut, IsShutOrOpen, IsOpened}
-use Rattle.commit_journal.specs.Spelling.{Head, recorded, header, spelled, FitsText, FitsHead, records_size}
-use Rattle.commit_journal.specs.Reading.{Front, Header, front, Counts, counting, Kept}
+use Rattle.commit_journal.specs.Spelling.{Head, recorded, header, spelled, FitsText, records_size}
+use Rattle.commit_journal.specs.Reading.{Header, front, Counts, counting, Kept}
 use Rattle.commit_journal.specs.Kept.{StandsIn, StandsFound, with_more, Keeps, KeepsOrMore, batched}
 use Rattle.commit_journal.proofs.Spelled.{front_again}
 use Rattle.commit_journal.proofs.Sizes.{length-batched}

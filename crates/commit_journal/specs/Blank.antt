@@ -2,7 +2,7 @@
 use Rattle.std.specs.Prelude.{◌≡◌, ◌≢◌, ◌⊎◌, ℕ, List, ◌∷◌, length, get_or}
 use Rattle.slee_disk.specs.declared.side.Side.{Side}
 use Rattle.slee_disk.specs.Sides.{Sides, on, other}
-use Rattle.commit_journal.specs.Reading.{Front, Blank, front}
+use Rattle.commit_journal.specs.Reading.{Blank, front}
 
 -- this side is blank
 abbrev pub IsBlankOn : Side → Sides → Type 0

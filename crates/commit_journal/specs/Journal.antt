@@ -1,9 +1,10 @@
 -- A journal as its callers see it.
-use Rattle.std.specs.Prelude.{◌≡◌, ◌≢◌, ◌⊎◌, ℕ, ◌+◌, ◌-◌, ◌≤◌, ◌<◌, ◌^◌, Bool, List, [], length, IsTrue, Option, Some, None, Result, Ok, Err}
+use Rattle.std.specs.Prelude.{◌≡◌, ◌≢◌, ◌⊎◌, ℕ, ◌+◌, ◌-◌, ◌≤◌, ◌<◌, ◌^◌, Bool, List, [], length, IsTrue, Option, Some, None, Result, Ok}
 use Rattle.slee_disk.specs.declared.side.Side.{Side}
-use Rattle.slee_disk.specs.Sides.{Sides, on}
+use Rattle.slee_disk.specs.Sides.{on}
 use Rattle.slee_disk.specs.Disk.{DiskState}
 use Rattle.commit_journal.specs.declared.record.Record.{Record}
+use Rattle.commit_journal.specs.declared.limits.TheConstants.{SIDE_LIMIT}
 use Rattle.commit_journal.specs.declared.stage.Stage.{Stage}
 use Rattle.commit_journal.specs.declared.stage.Stage.TheVariants.{Ready, Found, Stopped}
 use Rattle.commit_journal.specs.declared.stage.Stage.TheVariants as stages
@@ -61,7 +62,7 @@ pub record IsSound (stage : Stage) (kept : Kept) (end : ℕ) (batch : List (List
   pub sized : length kept.head.deployment + 64 < 2 ^ 63
   -- places and sizes are numbers of 64 bits
   pub room : end + records_size batch < 2 ^ 64 - 2 ^ 20
-  pub limited : limit ≤ 268435456
+  pub limited : limit ≤ SIDE_LIMIT
 
 -- an opened journal is what the bytes stand for
 abbrev pub IsOpenedAs : {D : Type 0} → List ℕ → Result (Option Kept) Wrong → View D → Type 0

@@ -1,12 +1,12 @@
 -- A side that counts, and what two sides stand for.
-use Rattle.std.specs.Prelude.{◌≡◌, ◌≢◌, ◌⊎◌, ℕ, List, [], ◌∷◌, ◌++◌, length, Option, Some, None, Ok}
+use Rattle.std.specs.Prelude.{◌≡◌, ◌≢◌, ◌⊎◌, ℕ, List, [], ◌∷◌, ◌++◌, length, Some, None, Ok}
 use Rattle.std.specs.List.{flat_map, AllByRecursion}
 use Rattle.slee_disk.specs.declared.side.Side.{Side}
 use Rattle.slee_disk.specs.Sides.{Sides, on, other}
 use Rattle.commit_journal.specs.declared.stage.Stage.{Stage}
 use Rattle.commit_journal.specs.declared.stage.Stage.TheVariants as stages
-use Rattle.commit_journal.specs.Spelling.{Head, recorded, spelled, FitsText, FitsHead}
-use Rattle.commit_journal.specs.Reading.{Front, Blank, front, Counts, counting, Kept, next, recovered}
+use Rattle.commit_journal.specs.Spelling.{recorded, spelled, FitsText, FitsHead}
+use Rattle.commit_journal.specs.Reading.{Blank, front, Counts, counting, Kept, next, recovered}
 
 -- A side counts, and is spelled as far as a closed gate at this place, with this behind the gate.
 pub record StandsIn (kept : Kept) (at : ℕ) (tail : List ℕ) (sides : Sides) : Type 0 where

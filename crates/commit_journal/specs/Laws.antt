@@ -4,7 +4,7 @@ use Rattle.std.specs.List.{flat_map, AllByRecursion}
 use Rattle.slee_disk.specs.declared.side.Side.{Side}
 use Rattle.slee_disk.specs.Sides.{Sides, on}
 use Rattle.commit_journal.specs.Spelling.{Head, text, recorded, header, spelled, FitsText, FitsHead, records_size}
-use Rattle.commit_journal.specs.Reading.{payloads_of, Front, Header, front, Kept, recovered}
+use Rattle.commit_journal.specs.Reading.{payloads_of, Header, front, Kept, recovered}
 use Rattle.commit_journal.specs.Kept.{StandsIn, StandsFound, Keeps}
 
 -- each number of the list is one of 8 bits

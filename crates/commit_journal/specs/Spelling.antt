@@ -2,6 +2,7 @@
 use Rattle.std.specs.Prelude.{ℕ, ◌+◌, ◌<◌, ◌^◌, List, [], ◌∷◌, ◌++◌, length, codes}
 use Rattle.std.specs.List.{flat_map}
 use Rattle.std.specs.Int.{w32, w64, to_le_bytes}
+use Rattle.commit_journal.specs.declared.limits.TheConstants.{RECORD_FRAME, SIDE_FRAME}
 
 -- the name of the format
 abbrev pub magic : List ℕ
@@ -40,11 +41,11 @@ pub record FitsHead (head : Head) : Type 0 where
   pub deployment : FitsText head.deployment
   pub snapshot : FitsText head.snapshot
 
--- five bytes and the payload for each record
+-- its frame and the payload for each record
 abbrev pub records_size : List (List ℕ) → ℕ
 records_size [] = 0
-records_size (payload ∷ payloads) = 5 + length payload + records_size payloads
+records_size (payload ∷ payloads) = RECORD_FRAME + length payload + records_size payloads
 
 -- the size of a side, its last gate included
 abbrev pub size : Head → List (List ℕ) → ℕ
-size head payloads = 24 + length head.deployment + length head.snapshot + records_size payloads
+size head payloads = SIDE_FRAME + length head.deployment + length head.snapshot + records_size payloads

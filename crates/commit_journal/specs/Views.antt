@@ -19,8 +19,9 @@ use Rattle.commit_journal.specs.declared.reading.Begins.TheVariants as begins
 use Rattle.commit_journal.specs.declared.reading.Behind.{Behind}
 use Rattle.commit_journal.specs.declared.reading.Behind.TheVariants as behinds
 use Rattle.commit_journal.specs.declared.reading.Heading.{Heading}
+use Rattle.commit_journal.specs.declared.limits.TheConstants.{RECORD_FRAME}
 use Rattle.commit_journal.specs.Spelling.{Head, records_size}
-use Rattle.commit_journal.specs.Reading.{payload_at, Front, Blank, NoHeader, Header, Counting, Neither, Counts, NotOne, counting, first_gate, Kept, Wrong, Bad, Other}
+use Rattle.commit_journal.specs.Reading.{payload_at, Front, Blank, NoHeader, Header, Counting, Neither, Counts, NotOne, counting, Kept, Wrong, Bad, Other}
 
 -- what a function returned, seen by view, is what reading gives
 abbrev pub Reads : {X Y : Type 0} → (X → Y) → Option X → Option Y → Type 0
@@ -39,7 +40,7 @@ front_view (begins.Header heading rest) = Header (head_view heading) rest.now
 -- payloads as records, the place of the first one's gate given
 abbrev pub located : ℕ → List (List ℕ) → List Record
 located first [] = []
-located first (payload ∷ payloads) = record { at = first; payload = payload } ∷ located (first + (5 + length payload)) payloads
+located first (payload ∷ payloads) = record { at = first; payload = payload } ∷ located (first + (RECORD_FRAME + length payload)) payloads
 
 -- the payloads of records
 abbrev pub payload_of : Record → List ℕ

@@ -1,5 +1,5 @@
 -- The bytes that a journal leaves on the sides of its disk.
-use Rattle.std.specs.Prelude.{◌≡◌, ℕ, List, [], ◌∷◌, ◌++◌}
+use Rattle.std.specs.Prelude.{◌≡◌, [], ◌∷◌, ◌++◌}
 use Rattle.slee_disk.specs.declared.side.Side.{Side}
 use Rattle.slee_disk.specs.Sides.{Sides, on}
 use Rattle.commit_journal.specs.Spelling.{spelled}

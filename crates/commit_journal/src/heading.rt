@@ -4,6 +4,7 @@ ghost use Rattle.commit_journal.specs.Spelling.{FitsText, text as text_of, heade
 ghost use Rattle.commit_journal.specs.Journal.{IsTooLarge};
 
 use crate::BeginFault;
+use crate::limits::{SIDE_FRAME, SIDE_LIMIT};
 use crate::reading::MAGIC;
 use slee_value::NoMemory;
 use std::alloc::Global;
@@ -46,14 +47,14 @@ pub(crate) fn header_within(
     deployment: &[u8],
     snapshot: &[u8],
 ) -> Result<Vec<u8>, BeginFault>
-    requires limit { limit ≤ 268435456 }
+    requires limit { limit ≤ SIDE_LIMIT }
     requires sized { length deployment.now + 64 < 2 ^ 63 }
     ensures bytes { IfOk result (λ v. v.items ≡ header (record { generation = generation; deployment = deployment.now; snapshot = snapshot.now }) ++ 0 ∷ []) }
     ensures fits { OnOk result (size (record { generation = generation; deployment = deployment.now; snapshot = snapshot.now }) [] ≤ limit) }
     ensures refused { IfErr result (λ fault. IsTooLarge (size (record { generation = generation; deployment = deployment.now; snapshot = snapshot.now }) []) limit fault) }
     ensures no_device { IsErrOf result BeginFault.DiskFault → ⊥ }
 {
-    let size = 24 + deployment.len() as u64 + snapshot.len() as u64;
+    let size = SIDE_FRAME + deployment.len() as u64 + snapshot.len() as u64;
     if size > limit {
         return Err(BeginFault::Full {
             length: 0,

@@ -3,6 +3,7 @@ ghost use Rattle.std.specs.Prelude.{◌≡◌, ◌≢◌, ◌⊎◌, ◌<◌, �
 use crate::batch::Batch;
 use crate::blank::{rewrite_side, write_side};
 use crate::heading::header_within;
+use crate::limits::{PAYLOAD_LIMIT, RECORD_FRAME, SIDE_LIMIT};
 use crate::reading::{next_of, other_of};
 use crate::start::find;
 use crate::writing::{cut_behind, write_batch};
@@ -69,7 +70,7 @@ impl<D: Disk> Journal<D> {
         deployment: &[u8],
         limit: u64,
     ) -> Result<Journal<D>, (JournalFault, D)>
-        requires { limit ≤ 268435456 }
+        requires { limit ≤ SIDE_LIMIT }
         ensures opened { IsTrue (D.disk disk).told → IfOk result (λ j. IsOpenedAs deployment.now (recovered deployment.now (D.disk disk).seen) j) }
         ensures running { IfOk result (λ j. j.stage ≢ Stopped) }
         ensures empty { IfOk result (λ j. j.batch ≡ []) }
@@ -201,19 +202,19 @@ impl<D: Disk> Journal<D> {
         }
     }
 
-    /// Adds a payload of at most 65,536 bytes to the batch, without a call of the disk.
+    /// Adds a payload to the batch, without a call of the disk.
     pub fn append(&mut self, payload: &[u8]) -> Result<(), AppendFault>
         requires ready { self.old.stage ≡ Ready }
-        requires short { length payload.now ≤ 65536 }
+        requires short { length payload.now ≤ PAYLOAD_LIMIT }
         ensures ok { OnOk result (self.new ≡ record self.old { batch = self.old.batch ++ payload.now ∷ [] }) }
         ensures err { OnErr result (self.new ≡ self.old) }
         ensures refused { IfErr result (λ fault. Refuses (D.disk self.old.disk).told
-            (size self.old.kept.head (self.old.kept.payloads ++ self.old.batch)) (5 + length payload.now) self.old.limit fault) }
+            (size self.old.kept.head (self.old.kept.payloads ++ self.old.batch)) (RECORD_FRAME + length payload.now) self.old.limit fault) }
         ensures fits { IsTrue (D.disk self.old.disk).told → OnOk result
-            (size self.old.kept.head (self.old.kept.payloads ++ self.old.batch) + (5 + length payload.now) ≤ self.old.limit) }
+            (size self.old.kept.head (self.old.kept.payloads ++ self.old.batch) + (RECORD_FRAME + length payload.now) ≤ self.old.limit) }
     {
         let length = self.end + 1 + self.batch.size();
-        let adding = 5 + payload.len() as u64;
+        let adding = RECORD_FRAME + payload.len() as u64;
         if length + adding > self.limit {
             return Err(AppendFault::Full { length, adding });
         }

@@ -8,6 +8,7 @@ mod gate;
 mod heading;
 mod journal;
 pub mod laws;
+mod limits;
 mod reading;
 mod record;
 mod recovery;
@@ -17,5 +18,6 @@ mod writing;
 
 pub use fault::{AppendFault, BeginFault, JournalBad, JournalFault};
 pub use journal::Journal;
+pub use limits::{HEADER_FRAME, PAYLOAD_LIMIT, RECORD_FRAME, SIDE_FRAME, SIDE_LIMIT};
 pub use record::Record;
 pub use stage::Stage;

@@ -5,6 +5,7 @@ ghost use Rattle.commit_journal.specs.Reading.{number_at, text_at, magic_at, hea
 ghost use Rattle.commit_journal.specs.Views.{Reads, head_view, front_view, GivesRecords, AtGate, Chooses, Picks};
 
 use crate::fault::JournalBad;
+use crate::limits::RECORD_FRAME;
 use crate::record::{Record, RecordsFault};
 use slee_disk::Side;
 use slee_value::Blob;
@@ -149,7 +150,7 @@ pub(crate) fn records_of(
                 let Ok(()) = records.push(Record { at, payload }) else {
                     return Err(RecordsFault::NoMemory);
                 };
-                at += 5 + bytes.len() as u64;
+                at += RECORD_FRAME + bytes.len() as u64;
                 rest = after;
             }
         }

@@ -7,6 +7,7 @@ ghost use Rattle.commit_journal.specs.Views.{head_view, IsCause, IsRecovered, ke
 
 use crate::Stage;
 use crate::fault::{JournalBad, JournalFault};
+use crate::limits::HEADER_FRAME;
 use crate::reading::{Heading, choose, differ, records_of};
 use crate::record::{Found, RecordsFault};
 use slee_disk::Side;
@@ -31,9 +32,9 @@ fn keep(
     ensures named { IfOk result (λ f. (f.deployment ≡ deployment.now) × (f.deployment ≡ heading.entry.deployment.now)) }
     ensures cause { IfErr result (λ e. IsCause e (with_records deployment.now side (head_view heading.entry) (payloads_of gates.now))) }
     ensures no_fault { IsErrOf result JournalFault.DiskFault → ⊥ }
-    ensures small { IfOk result (λ f. f.end < 2 ^ 63 + 23) }
+    ensures small { IfOk result (λ f. f.end < 2 ^ 63 + HEADER_FRAME) }
 {
-    let first = 23 + heading.deployment.len() as u64 + heading.snapshot.len() as u64;
+    let first = HEADER_FRAME + heading.deployment.len() as u64 + heading.snapshot.len() as u64;
     let (records, end) = match records_of(alloc, gates, first) {
         Ok(found) => found,
         Err(RecordsFault::Short(at)) => {
@@ -83,7 +84,7 @@ pub(crate) fn recover(
     ensures first { IfOk result (λ f. f.stage ≡ Stage.Blank → (f.snapshot ≡ []) × (f.records.items ≡ [])) }
     ensures cause { IfErr result (λ e. IsCause e (recovered deployment.now (record { a = a.now; b = b.now }))) }
     ensures no_fault { IsErrOf result JournalFault.DiskFault → ⊥ }
-    ensures small { IfOk result (λ f. f.end < 2 ^ 63 + 23) }
+    ensures small { IfOk result (λ f. f.end < 2 ^ 63 + HEADER_FRAME) }
 {
     match choose(a, b) {
         Err((side, kind)) => Err(JournalFault::BadJournal { side, at: 0, kind }),

@@ -9,6 +9,7 @@ ghost use Rattle.commit_journal.specs.Views.{IsCause, IsDevice, IsRecovered, kep
 
 use crate::Stage;
 use crate::fault::JournalFault;
+use crate::limits::HEADER_FRAME;
 use crate::record::Found;
 use crate::recovery::recover;
 use slee_disk::{Disk, Side};
@@ -47,7 +48,7 @@ pub(crate) fn find<D: Disk>(
     ensures first { IfOk result (λ f. f.stage ≡ Stage.Blank → (f.snapshot ≡ []) × (f.records.items ≡ [])) }
     ensures cause { IsTrue (D.disk disk.old).told → IfErr result (λ e. IsCause e (recovered deployment.now (D.disk disk.old).seen)) }
     ensures looks { Looks (D.disk disk.old) (D.disk disk.new) (IsErrOf result JournalFault.DiskFault) }
-    ensures small { IfOk result (λ f. f.end < 2 ^ 63 + 23) }
+    ensures small { IfOk result (λ f. f.end < 2 ^ 63 + HEADER_FRAME) }
 {
     let a = read_side(alloc, disk, Side::A)?;
     let b = read_side(alloc, disk, Side::B)?;

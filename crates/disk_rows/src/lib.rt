@@ -3,3 +3,5 @@
 
 #[cfg(test)]
 mod objects;
+#[cfg(test)]
+mod pieces;

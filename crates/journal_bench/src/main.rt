@@ -6,14 +6,11 @@
 ghost use Rattle.std.specs.Prelude.{◌≡◌, ◌≤◌, length, OnOk};
 ghost use Rattle.commit_journal.specs.declared.stage.Stage.TheVariants.{Ready};
 
-use commit_journal::{Journal, JournalFault};
+use commit_journal::{Journal, JournalFault, PAYLOAD_LIMIT, SIDE_LIMIT};
 use slee_disk::{Disk, HostDisk};
 use std::alloc::Global;
 use std::process::ExitCode;
 use std::{env, io};
-
-/// The most bytes of a side.
-const LIMIT: u64 = 268_435_456;
 
 /// No payload more was acknowledged.
 #[derive(Drop)]
@@ -51,7 +48,7 @@ fn run(rt: &HostRuntime, words: &[String]) -> ExitCode {
 
 /// Prints what the two files stand for.
 fn open<D: Disk + Drop>(rt: &HostRuntime, disk: D, deployment: &str) -> ExitCode {
-    match Journal::open(rt.alloc(), disk, deployment.as_bytes(), LIMIT) {
+    match Journal::open(rt.alloc(), disk, deployment.as_bytes(), SIDE_LIMIT) {
         Ok(journal) => told(println!(rt; "records {}", journal.records().len())),
         Err((fault, _disk)) => {
             let _ = print_fault(rt, fault);
@@ -84,7 +81,7 @@ fn print_fault(rt: &HostRuntime, fault: JournalFault) -> io::Result<()> {
 /// Appends and flushes this many payloads; how many of them are acknowledged, or none after a fault.
 fn write<D: Disk + Drop>(alloc: Global, disk: D, count: u32, size: u16) -> Option<u32> {
     let payload = vec![in alloc; b'.'; usize::from(size)].ok()?;
-    let Ok(mut journal) = Journal::open(alloc, disk, b"bench", LIMIT) else {
+    let Ok(mut journal) = Journal::open(alloc, disk, b"bench", SIDE_LIMIT) else {
         return None;
     };
     let Ok(()) = journal.begin() else {
@@ -101,7 +98,7 @@ fn write<D: Disk + Drop>(alloc: Global, disk: D, count: u32, size: u16) -> Optio
 /// Appends a payload and flushes it.
 fn write_one<D: Disk>(journal: &mut Journal<D>, payload: &[u8]) -> Result<(), Refused>
     requires ready { journal.old.stage ≡ Ready }
-    requires short { length payload.now ≤ 65536 }
+    requires short { length payload.now ≤ PAYLOAD_LIMIT }
     ensures { OnOk result (journal.new.stage ≡ Ready) }
 {
     let Ok(()) = journal.append(payload) else {

@@ -4,7 +4,7 @@ ghost use Rattle.commit_journal.specs.declared.stage.Stage.TheVariants.{Ready, S
 
 use crate::row::bytes_of;
 use crate::rows::Trouble;
-use commit_journal::{AppendFault, BeginFault, Journal};
+use commit_journal::{AppendFault, BeginFault, Journal, PAYLOAD_LIMIT};
 use slee_disk::{Disk, Failed};
 use std::alloc::Global;
 
@@ -117,7 +117,7 @@ fn append<D: Disk>(journal: &mut Journal<D>, payload: &[u8]) -> Answer
     requires { journal.old.stage ≡ Ready }
     ensures { journal.new.stage ≡ Ready }
 {
-    if payload.len() > 65_536 {
+    if payload.len() > PAYLOAD_LIMIT {
         return Answer::NoMemory;
     }
     match journal.append(payload) {

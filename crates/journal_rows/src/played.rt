@@ -4,7 +4,7 @@ ghost use Rattle.commit_journal.specs.declared.stage.Stage.TheVariants.{Ready, S
 
 use crate::act::{Act, Answer};
 use crate::rows::Trouble;
-use commit_journal::{Journal, JournalFault};
+use commit_journal::{Journal, JournalFault, SIDE_LIMIT};
 use slee_disk::Disk;
 use std::alloc::Global;
 
@@ -24,7 +24,7 @@ pub(crate) fn play<D: Disk + Drop>(
     limit: u64,
     acts: &[Act],
 ) -> Result<Played<D>, Trouble>
-    requires { limit ≤ 268435456 }
+    requires { limit ≤ SIDE_LIMIT }
 {
     match Journal::open(alloc, disk, deployment, limit) {
         Err((fault, disk)) => Ok(Played {

@@ -4,13 +4,10 @@ ghost use Rattle.std.specs.Prelude.{◌≤◌};
 use crate::act::{Act, Answer};
 use crate::played::play;
 use crate::rows::Trouble;
-use commit_journal::JournalFault;
+use commit_journal::{JournalFault, SIDE_LIMIT};
 use slee_disk::{MemoryDisk, Side};
 use slee_value::Blob;
 use std::alloc::Global;
-
-/// The most bytes that a side may have.
-pub(crate) const LIMIT: u64 = 268_435_456;
 
 /// What a row begins with.
 #[derive(Debug, Drop)]
@@ -54,7 +51,7 @@ impl Row {
 
     /// Makes the calls, and prints the answers and the sides.
     pub(crate) fn print(&self, rt: &HostRuntime, acts: &[Act]) -> Result<(), Trouble> {
-        if self.limit > LIMIT {
+        if self.limit > SIDE_LIMIT {
             return Err(Trouble::Row);
         }
         let alloc = rt.alloc();

@@ -4,9 +4,8 @@ ghost use Rattle.std.specs.Prelude.{◌≤◌, length};
 use crate::act::Act;
 use crate::kept::Kept;
 use crate::played::play;
-use crate::row::LIMIT;
 use crate::rows::Trouble;
-use commit_journal::Journal;
+use commit_journal::{Journal, SIDE_LIMIT};
 use slee_disk::MemoryDisk;
 use slee_value::Blob;
 use std::alloc::Global;
@@ -63,7 +62,7 @@ fn played_on(
         Blob::new(alloc),
         Blob::from_slice(alloc, fail)?,
     )?;
-    Ok(play(alloc, disk, deployment, LIMIT, acts)?.disk)
+    Ok(play(alloc, disk, deployment, SIDE_LIMIT, acts)?.disk)
 }
 
 /// How many calls of the disk were made once the journal was opened, and after each call.
@@ -181,7 +180,7 @@ fn count_images(
 }
 
 fn is_right(alloc: Global, image: MemoryDisk, deployment: &[u8], allowed: &[Kept<'_>]) -> bool {
-    match Journal::open(alloc, image, deployment, LIMIT) {
+    match Journal::open(alloc, image, deployment, SIDE_LIMIT) {
         Ok(journal) => allowed.iter().any(|kept| kept.is_in(&journal)),
         Err(_) => false,
     }

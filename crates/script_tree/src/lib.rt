@@ -32,6 +32,3 @@ pub use tree::{
     ActivityStmt, Assignment, EntityStmt, Expr, FieldValue, Leaf, Over, Prefix, Query, Repeat,
     Stmt, TimerStmt, Who,
 };
-
-#[cfg(test)]
-mod tests;

@@ -20,6 +20,3 @@ pub use reading::{read_line, read_signals, read_unbounded};
 pub use signal::Signal;
 pub use signals::Signals;
 pub use unescaping::unescape;
-
-#[cfg(test)]
-mod tests;

@@ -1,1 +1,8 @@
 pub mod Deployed
+pub mod Faults
+pub mod Rules
+pub mod Tables
+pub mod Firsts
+pub mod Ids
+pub mod Lookups
+pub mod Resolving

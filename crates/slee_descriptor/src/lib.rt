@@ -2,11 +2,22 @@
 #![tactic(auto)]
 
 mod choice;
+mod deployment;
 mod fault;
+mod first;
+mod handling;
+mod ids;
+mod leaf;
+mod lookup;
 mod parts;
+mod rule;
+mod walk;
 
 pub use choice::{SelectRule, Variable};
+pub use deployment::Deployment;
 pub use fault::{DeployBad, DeployFault};
+pub use handling::{rule_of, variable_of};
+pub use leaf::LABEL_LIMIT;
 pub use parts::{
     Block, BlockEvent, CustomRule, EventType, Method, Parts, ProfileSpec, Relation, Service, Table,
 };

@@ -1,7 +1,11 @@
 //! The parts of a deployment. What comes from a JSON object is a list in byte order of its names.
 
-use script_types::CodeList;
+ghost use Rattle.std.specs.Prelude.{◌≡◌};
+
+use crate::ids::Component;
+use crate::rule::Named;
 use script_tree::Script;
+use script_types::CodeList;
 use slee_value::{ComponentId, Kind, Name, Text};
 
 /// An event type (JSR 240, chapter 8). The built-in ones are in no list.
@@ -102,4 +106,116 @@ pub struct Parts {
     pub tables: CodeList<Table>,
     pub blocks: CodeList<Block>,
     pub services: CodeList<Service>,
+}
+
+impl Named for EventType {
+    ghost name_of = { λ x. x.key };
+
+    fn name(&self) -> &str {
+        self.key.as_str()
+    }
+}
+
+impl Named for ProfileSpec {
+    ghost name_of = { λ x. x.key };
+
+    fn name(&self) -> &str {
+        self.key.as_str()
+    }
+}
+
+impl Named for Table {
+    ghost name_of = { λ x. x.name };
+
+    fn name(&self) -> &str {
+        self.name.as_str()
+    }
+}
+
+impl Named for Relation {
+    ghost name_of = { λ x. x.name };
+
+    fn name(&self) -> &str {
+        self.name.as_str()
+    }
+}
+
+impl Named for BlockEvent {
+    ghost name_of = { λ x. x.event };
+
+    fn name(&self) -> &str {
+        self.event.as_str()
+    }
+}
+
+impl Named for Method {
+    ghost name_of = { λ x. x.name };
+
+    fn name(&self) -> &str {
+        self.name.as_str()
+    }
+}
+
+impl Named for Block {
+    ghost name_of = { λ x. x.key };
+
+    fn name(&self) -> &str {
+        self.key.as_str()
+    }
+}
+
+impl Named for Service {
+    ghost name_of = { λ x. x.key };
+
+    fn name(&self) -> &str {
+        self.key.as_str()
+    }
+}
+
+impl Named for (Name, Kind) {
+    ghost name_of = { λ x. x.0 };
+
+    fn name(&self) -> &str {
+        self.0.as_str()
+    }
+}
+
+impl Named for (Name, Name) {
+    ghost name_of = { λ x. x.0 };
+
+    fn name(&self) -> &str {
+        self.0.as_str()
+    }
+}
+
+impl Component for EventType {
+    ghost id_of = { λ x. x.id };
+
+    fn id(&self) -> &ComponentId {
+        &self.id
+    }
+}
+
+impl Component for ProfileSpec {
+    ghost id_of = { λ x. x.id };
+
+    fn id(&self) -> &ComponentId {
+        &self.id
+    }
+}
+
+impl Component for Block {
+    ghost id_of = { λ x. x.id };
+
+    fn id(&self) -> &ComponentId {
+        &self.id
+    }
+}
+
+impl Component for Service {
+    ghost id_of = { λ x. x.id };
+
+    fn id(&self) -> &ComponentId {
+        &self.id
+    }
 }

@@ -2,6 +2,7 @@ pub mod Images
 pub mod Moments
 pub mod Nothing
 pub mod Overwrites
+pub mod PieceFiles
 pub mod Pieces
 pub mod Recording
 pub mod Whole

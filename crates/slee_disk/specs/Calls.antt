@@ -1,5 +1,5 @@
 -- What a run of calls does to the bytes of two sides, and to what a crash may leave of them.
-use Rattle.std.specs.Prelude.{◌≡◌, ℕ, ◌+◌, ◌-◌, ◌≤◌, Bool, true, false, List, [], ◌∷◌, ◌++◌, length, take, drop, replicate}
+use Rattle.std.specs.Prelude.{◌≡◌, ℕ, ◌-◌, ◌≤◌, Bool, true, false, List, [], ◌∷◌, ◌++◌, length, take, replicate}
 use Rattle.slee_disk.specs.declared.side.Side.{Side}
 use Rattle.slee_disk.specs.declared.side.Side.TheVariants.{A, B}
 use Rattle.slee_disk.specs.declared.call.Act.{Act}

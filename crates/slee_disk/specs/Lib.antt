@@ -2,6 +2,7 @@ pub mod Causes
 pub mod Sides
 pub mod Disk
 pub mod Taken
+pub mod Pieces
 pub mod Writes
 pub mod Memory
 pub mod Calls

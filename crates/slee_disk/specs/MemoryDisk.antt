@@ -1,5 +1,5 @@
 -- A disk in memory, which is known by its calls.
-use Rattle.std.specs.Prelude.{◌≡◌, ◌⊎◌, ℕ, ◌≤◌, true, false, List, length, drop, IsTrue, IsErr, OnOk, OnErr}
+use Rattle.std.specs.Prelude.{◌≡◌, ◌⊎◌, ℕ, ◌+◌, ◌≤◌, true, false, List, length, drop, IsTrue, IsErr, OnOk, OnErr}
 use Rattle.std.specs.declared.result.Result.{Result}
 use Rattle.slee_disk.specs.declared.side.Side.{Side}
 use Rattle.slee_disk.specs.declared.call.Act.{Act}
@@ -41,6 +41,12 @@ state_of m = state_at m.first m.calls m.faults
 abbrev pub seen_of : MemoryState → Sides
 seen_of m = (after m.calls (fresh m.first)).seen
 
+-- What is true of the parts of each disk in memory: it holds what reads give, and there is room to keep each call that its
+-- list may fail.
+pub record IsMemory (first : Sides) (calls : List Call) (held : Sides) (fails : List ℕ) (kept capacity : ℕ) : Type 0 where
+  pub held_is : (after calls (fresh first)).seen ≡ held
+  pub room : length fails + kept ≤ capacity
+
 -- A call was kept, as one that failed or not. It failed where the list says so, and else only for want of memory; where
 -- there was none to keep it, nothing has changed but the list and the count of faults.
 pub record Recorded {T E : Type 0} (old new : MemoryState) (side : Side) (act : Act) (result : Result T E) : Type 0 where
@@ -51,6 +57,10 @@ pub record Recorded {T E : Type 0} (old new : MemoryState) (side : Side) (act : 
   pub quiet : OnOk result (new.faults ≡ old.faults)
   pub ok : OnOk result (new.calls ≡ more old.calls side act false)
   pub err : OnErr result ((new.calls ≡ more old.calls side act true) ⊎ (new.calls ≡ old.calls))
+
+-- a call that the list fails is kept, as one that failed
+abbrev pub KeepsListed : MemoryState → MemoryState → Side → Act → Type 0
+KeepsListed old new side act = IsTrue (fails_next old.fails) → new.calls ≡ more old.calls side act true
 
 -- a fault is counted, and nothing else changes
 pub record CountsFault (old new : MemoryState) : Type 0 where

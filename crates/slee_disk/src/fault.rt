@@ -1,4 +1,4 @@
-use std::fmt;
+use std::{fmt, io};
 
 /// The outside has failed. Its count of faults tells that it has.
 #[derive(Clone, Copy, Debug, PartialEq, Eq)]
@@ -11,3 +11,9 @@ impl fmt::Display for Failed {
 }
 
 impl std::error::Error for Failed {}
+
+impl From<io::Error> for Failed {
+    fn from(_: io::Error) -> Self {
+        Failed
+    }
+}

@@ -6,8 +6,8 @@ use crate::host_files::HostFiles;
 use crate::{Disk, Failed, Side};
 use std::fs::{File, Files};
 
-/// A disk over two files of a folder. Each is opened at its first use, and made if it isn't there; then its folder is
-/// synced once. Nothing is told of what they hold.
+/// A disk over two files of a folder. Each is opened at its first use, and made if it isn't there; before it is first
+/// written, cut or synced, its folder is synced. Nothing is told of what they hold.
 #[derive(Drop)]
 pub struct HostDisk<'a, F: Files<File = File>> {
     files: HostFiles<'a, F>,

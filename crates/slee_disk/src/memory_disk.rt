@@ -3,7 +3,7 @@ ghost use Rattle.std.specs.Prelude.{◌≡◌, ℕ, ◌≤◌, ◌+◌, ◌++◌
 ghost use Rattle.slee_disk.specs.Sides.{Sides, on, given, AtSide, Holds, Torn, Cut};
 ghost use Rattle.slee_disk.specs.Disk.{Looks, Changes, KeepsSettled, Settles, IsAtRest};
 ghost use Rattle.slee_disk.specs.Calls.{image_of};
-ghost use Rattle.slee_disk.specs.MemoryDisk.{state_of, seen_of, Recorded, CountsFault};
+ghost use Rattle.slee_disk.specs.MemoryDisk.{state_of, seen_of, Recorded, KeepsListed, CountsFault};
 ghost use Rattle.slee_disk.specs.declared.call.Act.TheVariants as acts;
 
 use crate::call::{Act, Call};
@@ -15,7 +15,8 @@ use slee_value::{Blob, NoMemory};
 use std::alloc::Global;
 use std::marker::Model;
 
-/// Two sides in memory. A list says which calls fail; want of memory is a fault of its own too.
+/// Two sides in memory. A list says which calls fail; want of memory is a fault of its own too. It takes the room for the
+/// calls that the list may fail at once, so that each of these is kept, but for a write that finds no memory for its bytes.
 #[derive(Debug, Drop)]
 pub struct MemoryDisk {
     alloc: Global,
@@ -28,15 +29,14 @@ pub struct MemoryDisk {
 }
 
 impl Model for MemoryDisk {
-    ghost use Rattle.std.specs.Prelude.{◌≡◌};
-    ghost use Rattle.slee_disk.specs.Calls.{after, fresh};
-    ghost use Rattle.slee_disk.specs.MemoryDisk.{MemoryState};
+    ghost use Rattle.std.specs.Prelude.{vec_len, vec_capacity};
+    ghost use Rattle.slee_disk.specs.MemoryDisk.{MemoryState, IsMemory};
 
     ghost Value = { MemoryState };
 
     ghost view = { λ d. record { first = record { a = d.first_a; b = d.first_b }; calls = d.calls.items; fails = d.fail; faults = d.faults } };
 
-    ghost invariant = { λ d. (after d.calls.items (fresh (record { a = d.first_a; b = d.first_b }))).seen ≡ d.held };
+    ghost invariant = { λ d. IsMemory (record { a = d.first_a; b = d.first_b }) d.calls.items d.held d.fail (vec_len d.calls) (vec_capacity d.calls) };
 }
 
 impl MemoryDisk {
@@ -47,13 +47,14 @@ impl MemoryDisk {
         ensures rest { IfOk result (λ disk. IsAtRest (record { a = a; b = b }) (state_of disk)) }
     {
         let held = Pair::from_slices(alloc, a.as_slice(), b.as_slice())?;
+        let calls = Vec::with_capacity(alloc, fail.len())?;
         Ok(MemoryDisk {
             alloc,
             first_a: a,
             first_b: b,
             held,
             fail: FailList::new(fail),
-            calls: Vec::new(alloc),
+            calls,
             faults: 0,
         })
     }
@@ -103,12 +104,16 @@ impl MemoryDisk {
 
     // Does a call and keeps it, if memory allows, and fails it where the list says so.
     fn record(&mut self, side: Side, act: Act) -> Result<(), Failed>
-        ensures { Recorded self.old self.new side act result }
+        ensures recorded { Recorded self.old self.new side act result }
+        ensures listed { KeepsListed self.old self.new side act }
     {
         let failed = self.fail.next();
-        if self.calls.reserve(1).is_err() || apply(&mut self.held, side, &act, failed).is_err() {
+        let Ok(()) = self.calls.reserve(1) else {
             return Err(self.fault());
-        }
+        };
+        let Ok(()) = apply(&mut self.held, side, &act, failed) else {
+            return Err(self.fault());
+        };
         self.calls.push(Call { side, act, failed }).unwrap();
         if failed {
             return Err(self.fault());
@@ -126,6 +131,7 @@ impl Disk for MemoryDisk {
         ensures looks { Looks (state_of self.old) (state_of self.new) (IsErr result) }
         ensures settled { KeepsSettled (state_of self.old) (state_of self.new) }
         ensures recorded { Recorded self.old self.new side acts.Look result }
+        ensures listed { KeepsListed self.old self.new side acts.Look }
     {
         self.record(side, Act::Look)?;
         Ok(self.held.side(side).len() as u64)
@@ -140,6 +146,7 @@ impl Disk for MemoryDisk {
         ensures looks { Looks (state_of self.old) (state_of self.new) (IsErr result) }
         ensures settled { KeepsSettled (state_of self.old) (state_of self.new) }
         ensures recorded { Recorded self.old self.new side acts.Look result }
+        ensures listed { KeepsListed self.old self.new side acts.Look }
         ensures failed { OnErr result (into.new ≡ into.old) }
     {
         self.record(side, Act::Look)?;
@@ -165,6 +172,7 @@ impl Disk for MemoryDisk {
         ensures cut { OnOk result (AtSide side (λ old new. new ≡ take length old) (seen_of self.old) (seen_of self.new)) }
         ensures changes { Changes side (Cut length) (state_of self.old) (state_of self.new) (IsErr result) }
         ensures recorded { Recorded self.old self.new side (acts.Cut length) result }
+        ensures listed { KeepsListed self.old self.new side (acts.Cut length) }
         ensures unchanged { OnErr result (seen_of self.new ≡ seen_of self.old) }
     {
         self.record(side, Act::Cut(length))
@@ -176,6 +184,7 @@ impl Disk for MemoryDisk {
         ensures looks { Looks (state_of self.old) (state_of self.new) (IsErr result) }
         ensures settled { Settles side (state_of self.old) (state_of self.new) result }
         ensures recorded { Recorded self.old self.new side acts.Sync result }
+        ensures listed { KeepsListed self.old self.new side acts.Sync }
     {
         self.record(side, Act::Sync)
     }

@@ -1,5 +1,5 @@
 //! What a stop leaves of two sides.
-ghost use Rattle.std.specs.Prelude.{◌≡◌, IfOk, OnOk, OnErr};
+ghost use Rattle.std.specs.Prelude.{◌≡◌, IsTrue, IsOk, IfOk, OnOk, OnErr};
 ghost use Rattle.slee_disk.specs.Sides.{on};
 ghost use Rattle.slee_disk.specs.Calls.{seen_after, left_after, stopped, stopped_by, torn_piece, Stopped};
 
@@ -78,6 +78,7 @@ impl Stop {
 pub(crate) fn apply(pair: &mut Pair, side: Side, act: &Act, failed: bool) -> Result<(), NoMemory>
     ensures ok { OnOk result (pair.new ≡ seen_after side failed act.now pair.old) }
     ensures err { OnErr result (pair.new ≡ pair.old) }
+    ensures certain { IsTrue failed → IsOk result }
 {
     match act {
         Act::Write(at, bytes) if !failed => pair.overwrite(side, *at, bytes.as_slice()),

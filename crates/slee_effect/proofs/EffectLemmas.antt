@@ -1,24 +1,25 @@
 -- Each effect is read as it is spelled.
-use Rattle.std.proofs.Common.{◌≡◌, ℕ, zero, suc, ◌+◌, ◌^◌, ◌<◌, ℤ, Bool, true, false, cond, eqb, eqb-true, List, [], ◌∷◌, ◌++◌, length, Option, Ok, Err, refl, sym, ap, subst, ◌∙◌, arith, FitsSigned}
+use Rattle.std.proofs.Common.{◌≡◌, ℕ, zero, suc, ◌+◌, ◌^◌, ◌<◌, ℤ, Bool, List, [], ◌∷◌, ◌++◌, length, Option, Ok, Err, refl, arith, FitsSigned}
 use Rattle.std.specs.Prelude.{⊤}
 use Rattle.std.specs.Int.{w8, w64}
 use Rattle.slee_value.specs.declared.keep.Keep.{Keep}
-use Rattle.slee_value.specs.declared.fault.ValueBad.TheVariants as bad
 use Rattle.slee_value.specs.Order.{names_of}
-use Rattle.slee_value.specs.Bytes.{spelled_u64, spelled_i64, spelled_text, spelled_flag, FitsText}
-use Rattle.slee_value.specs.Reading.{Fault, Part, mapped, pair, number_at, i64_at, flag_at, text_at}
-use Rattle.slee_value.proofs.ReadLemmas.{AreBytes, Takes, Begins, IsStuckBy, ReadsBy, spell_pair, fits_pair, reads_pair, IsCaseBy, case_takes, case_again, case_bytes, case_stuck, no_case, no_bytes, err_is}
-use Rattle.slee_value.proofs.PartLemmas.{reads_u64, reads_i64, reads_flag}
+use Rattle.slee_value.specs.Bytes.{spelled_u64, spelled_i8, spelled_i64, spelled_text, spelled_flag, spelled_option, FitsOption, FitsText}
+use Rattle.slee_value.specs.Reading.{Part, Rows, mapped, pair, number_at, i8_at, i64_at, flag_at, option_at, text_at}
+use Rattle.slee_value.proofs.ReadLemmas.{AreBytes, Begins, ReadsBy, spell_pair, fits_pair, reads_pair, IsCaseBy, case_again, case_bytes}
+use Rattle.slee_value.proofs.TagLemmas.{IsRow, AreRows, none_left, one_more, case_row, reads_tagged}
+use Rattle.slee_value.proofs.BytesLemmas.{reads_option}
+use Rattle.slee_value.proofs.PartLemmas.{reads_u64, reads_i8, reads_i64, reads_flag}
 use Rattle.slee_value.proofs.TextPartLemmas.{reads_text}
 use Rattle.slee_effect.specs.declared.reference.Ref.{Ref}
 use Rattle.slee_effect.specs.declared.value.Val.{Val}
 use Rattle.slee_effect.specs.declared.tag.TheConstants.{SET_FIELD, SET_ATTR, CREATE, REMOVE, SET_PRIORITY, ATTACH, DETACH, SET_MASK, FIRE, NEW_NULL, END_NULL, SET_TIMER, CANCEL_TIMER, BIND, UNBIND, EMIT, USAGE, SUSPEND, RESUME}
 use Rattle.slee_effect.specs.declared.effect.Effect.{Effect}
 use Rattle.slee_effect.specs.declared.effect.Effect.TheVariants.{SetField, SetAttr, Create, Remove, SetPriority, Attach, Detach, SetMask, Fire, NewNull, EndNull, SetTimer, CancelTimer, Bind, Unbind, Emit, Usage, Suspend, Resume}
-use Rattle.slee_effect.specs.Bytes.{spelled_i8, spelled_option, spelled_keep, spelled_ref, spelled_val, spelled_fields, spelled_effect}
-use Rattle.slee_effect.specs.Fitting.{FitsRef, FitsVal, FitsOption, AreLooseFields, AreRisingFields, FitsEffect, IsLooseEffect}
-use Rattle.slee_effect.specs.Reading.{nothing_at, i8_at, keep_at, option_at, ref_at, val_at, fields_at, bodies, body_of, no_effect, effect_at}
-use Rattle.slee_effect.proofs.PieceLemmas.{reads_nothing, reads_i8, reads_keep, reads_option, reads_ref, reads_val}
+use Rattle.slee_effect.specs.Bytes.{spelled_keep, spelled_ref, spelled_val, spelled_fields, spelled_effect}
+use Rattle.slee_effect.specs.Fitting.{FitsRef, FitsVal, AreLooseFields, AreRisingFields, FitsEffect, IsLooseEffect}
+use Rattle.slee_effect.specs.Reading.{nothing_at, keep_at, ref_at, val_at, fields_at, effects_by_tag, effect_at}
+use Rattle.slee_effect.proofs.PieceLemmas.{reads_nothing, reads_keep, reads_ref, reads_val}
 use Rattle.slee_effect.proofs.FieldLemmas.{rise_loosely, reads_fields}
 
 -- ---- shapes: how a part is spelled, what fits, and how it is read
@@ -69,7 +70,7 @@ abbrev kept : Shape Keep
 kept = strict spelled_keep (λ k. ⊤) keep_at
 
 abbrev option : Shape (Option (List ℕ))
-option = strict spelled_option FitsOption option_at
+option = strict (spelled_option spelled_text) (FitsOption FitsText) (option_at text_at)
 
 abbrev fields : Shape (List (List ℕ × Val))
 fields = record { spell = spelled_fields; fits = AreRisingFields; loose = AreLooseFields; read = fields_at }
@@ -108,7 +109,7 @@ abbrev firing : Shape (Ref × (List ℕ × (Option (List ℕ) × List (List ℕ 
 firing = both one (both text (both option fields))
 
 read_firing : IsRead firing
-read_firing = read_both one (both text (both option fields)) reads_ref (read_both text (both option fields) reads_text (read_both option fields reads_option reads_fields))
+read_firing = read_both one (both text (both option fields)) reads_ref (read_both text (both option fields) reads_text (read_both option fields (reads_option spelled_text FitsText FitsText text_at reads_text) reads_fields))
 
 abbrev timed : Shape (Ref × (ℕ × (ℕ × (ℕ × Keep))))
 timed = both one (both moment (both moment (both moment kept)))
@@ -247,71 +248,41 @@ effect_bytes (Resume activity) f = case_bytes _ _ _ _ _ _ _ _ _ _ resume_case re
 effect_some : Begins spelled_effect IsLooseEffect []
 effect_some = (NewNull, NEW_NULL ∷ [], tt, refl)
 
--- what stands behind a first byte
-record IsBody (tag : ℕ) (body : List ℕ → Part Effect) : Type 0 where
-  takes : ((bytes : List ℕ) → effect_at (tag ∷ bytes) ≡ body bytes) → (bytes : List ℕ) (x : Effect × List ℕ) → AreBytes (tag ∷ bytes) → body bytes ≡ Ok x → Takes (tag ∷ bytes) (spelled_effect x.0) x.1 × FitsEffect x.0
-  stuck : ((bytes : List ℕ) → effect_at (tag ∷ bytes) ≡ body bytes) → (bytes : List ℕ) (f : Fault) → AreBytes (tag ∷ bytes) → body bytes ≡ Err f → IsStuckBy spelled_effect FitsEffect IsLooseEffect (tag ∷ bytes) f.left
+abbrev IsEffectRow : ℕ × (List ℕ → Part Effect) → Type 0
+IsEffectRow row = IsRow spelled_effect FitsEffect IsLooseEffect effect_at row.0 row.1
 
-made_of : {A : Type 0} (tag : ℕ) (make : A → Effect) (s : Shape A) → IsEffectCase tag make s → IsRead s → IsBody tag (mapped make s.read)
-made_of tag make s is reads = record {
-  takes = λ same bytes x h e. case_takes spelled_effect FitsEffect IsLooseEffect effect_at tag make s.spell s.fits s.loose s.read is reads bytes x h (same bytes ∙ e);
-  stuck = λ same bytes f h e. case_stuck spelled_effect FitsEffect IsLooseEffect effect_at tag make s.spell s.fits s.loose s.read is reads effect_again effect_bytes bytes f h (same bytes ∙ e);
-}
+abbrev AreEffectRows : Rows Effect → Type 0
+AreEffectRows rows = AreRows spelled_effect FitsEffect IsLooseEffect effect_at rows
 
-no_body : (tag : ℕ) → IsBody tag no_effect
-no_body tag = record {
-  takes = λ same bytes x h e. absurd cc;
-  stuck = λ same bytes f h e.
-      no_case spelled_effect FitsEffect IsLooseEffect effect_at tag bytes f effect_again effect_some (λ more. (record { left = length more + 1; kind = bad.Tag }, same more)) (omega (arith, ap (λ (d : Fault). d.left) (err_is {A = Effect × List ℕ} _ f e)));
-}
-
--- what stands behind each first byte of a table
-data AreBodies : List (ℕ × (List ℕ → Part Effect)) → Type 0 where
-  none_left : AreBodies []
-  one_more : {row : ℕ × (List ℕ → Part Effect)} {rows : List (ℕ × (List ℕ → Part Effect))} → IsBody row.0 row.1 → AreBodies rows → AreBodies (row ∷ rows)
+row_by : {A : Type 0} (tag : ℕ) (make : A → Effect) (s : Shape A) → IsEffectCase tag make s → IsRead s → IsRow spelled_effect FitsEffect IsLooseEffect effect_at tag (mapped make s.read)
+row_by tag make s is reads = case_row spelled_effect FitsEffect IsLooseEffect effect_at effect_again effect_bytes effect_some tag make s.spell s.fits s.loose s.read is reads
 
 infixr 10 ◌&◌
-◌&◌ : {row : ℕ × (List ℕ → Part Effect)} {rows : List (ℕ × (List ℕ → Part Effect))} → IsBody row.0 row.1 → AreBodies rows → AreBodies (row ∷ rows)
-first & others = one_more first others
+◌&◌ : {row : ℕ × (List ℕ → Part Effect)} {rows : Rows Effect} → IsRow spelled_effect FitsEffect IsLooseEffect effect_at row.0 row.1 → AreRows spelled_effect FitsEffect IsLooseEffect effect_at rows → AreRows spelled_effect FitsEffect IsLooseEffect effect_at (row ∷ rows)
+◌&◌ {row} {rows} here others = one_more row rows here others
 
-all_bodies : AreBodies bodies
-all_bodies =
-    made_of SET_FIELD (λ p. SetField p.0 p.1.0 p.1.1) setting set_field_case read_setting
-    & made_of SET_ATTR (λ p. SetAttr p.0 p.1.0 p.1.1) setting set_attr_case read_setting
-    & made_of CREATE (λ p. Create p.0 p.1.0 p.1.1) creation create_case read_creation
-    & made_of REMOVE (λ p. Remove p) one remove_case reads_ref
-    & made_of SET_PRIORITY (λ p. SetPriority p.0 p.1) ranked set_priority_case read_ranked
-    & made_of ATTACH (λ p. Attach p.0 p.1) two attach_case read_two
-    & made_of DETACH (λ p. Detach p.0 p.1) two detach_case read_two
-    & made_of SET_MASK (λ p. SetMask p.0 p.1.0 p.1.1.0 p.1.1.1) masked set_mask_case read_masked
-    & made_of FIRE (λ p. Fire p.0 p.1.0 p.1.1.0 p.1.1.1) firing fire_case read_firing
-    & made_of NEW_NULL (λ p. NewNull) nothing new_null_case reads_nothing
-    & made_of END_NULL (λ p. EndNull p) one end_null_case reads_ref
-    & made_of SET_TIMER (λ p. SetTimer p.0 p.1.0 p.1.1.0 p.1.1.1.0 p.1.1.1.1) timed set_timer_case read_timed
-    & made_of CANCEL_TIMER (λ p. CancelTimer p) one cancel_timer_case reads_ref
-    & made_of BIND (λ p. Bind p.0 p.1) bound bind_case read_bound
-    & made_of UNBIND (λ p. Unbind p) text unbind_case reads_text
-    & made_of EMIT (λ p. Emit p.0 p.1) said emit_case read_said
-    & made_of USAGE (λ p. Usage p.0 p.1.0 p.1.1) counted usage_case read_counted
-    & made_of SUSPEND (λ p. Suspend p.0 p.1) delayed suspend_case read_delayed
-    & made_of RESUME (λ p. Resume p) one resume_case reads_ref
+effect_rows : AreEffectRows effects_by_tag
+effect_rows =
+    row_by SET_FIELD (λ p. SetField p.0 p.1.0 p.1.1) setting set_field_case read_setting
+    & row_by SET_ATTR (λ p. SetAttr p.0 p.1.0 p.1.1) setting set_attr_case read_setting
+    & row_by CREATE (λ p. Create p.0 p.1.0 p.1.1) creation create_case read_creation
+    & row_by REMOVE (λ p. Remove p) one remove_case reads_ref
+    & row_by SET_PRIORITY (λ p. SetPriority p.0 p.1) ranked set_priority_case read_ranked
+    & row_by ATTACH (λ p. Attach p.0 p.1) two attach_case read_two
+    & row_by DETACH (λ p. Detach p.0 p.1) two detach_case read_two
+    & row_by SET_MASK (λ p. SetMask p.0 p.1.0 p.1.1.0 p.1.1.1) masked set_mask_case read_masked
+    & row_by FIRE (λ p. Fire p.0 p.1.0 p.1.1.0 p.1.1.1) firing fire_case read_firing
+    & row_by NEW_NULL (λ p. NewNull) nothing new_null_case reads_nothing
+    & row_by END_NULL (λ p. EndNull p) one end_null_case reads_ref
+    & row_by SET_TIMER (λ p. SetTimer p.0 p.1.0 p.1.1.0 p.1.1.1.0 p.1.1.1.1) timed set_timer_case read_timed
+    & row_by CANCEL_TIMER (λ p. CancelTimer p) one cancel_timer_case reads_ref
+    & row_by BIND (λ p. Bind p.0 p.1) bound bind_case read_bound
+    & row_by UNBIND (λ p. Unbind p) text unbind_case reads_text
+    & row_by EMIT (λ p. Emit p.0 p.1) said emit_case read_said
+    & row_by USAGE (λ p. Usage p.0 p.1.0 p.1.1) counted usage_case read_counted
+    & row_by SUSPEND (λ p. Suspend p.0 p.1) delayed suspend_case read_delayed
+    & row_by RESUME (λ p. Resume p) one resume_case reads_ref
     & none_left
-
-chosen_body : (row : ℕ × (List ℕ → Part Effect)) (rows : List (ℕ × (List ℕ → Part Effect))) (tag : ℕ) (same : Bool) → eqb tag row.0 ≡ same → IsBody row.0 row.1 → IsBody tag (body_of rows tag) → IsBody tag (cond same row.1 (body_of rows tag))
-chosen_body row rows tag true e here behind = subst (λ (n : ℕ). IsBody n row.1) (sym (eqb-true tag row.0 e)) here
-chosen_body row rows tag false e here behind = behind
-
-body_at : (rows : List (ℕ × (List ℕ → Part Effect))) (tag : ℕ) → AreBodies rows → IsBody tag (body_of rows tag)
-body_at [] tag all = no_body tag
-body_at (row ∷ rows) tag (one_more here others) = chosen_body row rows tag (eqb tag row.0) refl here (body_at rows tag others)
-
-effect_takes : (bytes : List ℕ) (x : Effect × List ℕ) → AreBytes bytes → effect_at bytes ≡ Ok x → Takes bytes (spelled_effect x.0) x.1 × FitsEffect x.0
-effect_takes [] x h e = absurd cc
-effect_takes (tag ∷ bytes) x h e = (body_at bodies tag all_bodies).takes (λ more. refl) bytes x h e
-
-effect_stuck : (bytes : List ℕ) (f : Fault) → AreBytes bytes → effect_at bytes ≡ Err f → IsStuckBy spelled_effect FitsEffect IsLooseEffect bytes f.left
-effect_stuck [] f h e = subst (IsStuckBy spelled_effect FitsEffect IsLooseEffect []) (ap (λ (d : Fault). d.left) (err_is {A = Effect × List ℕ} _ f e)) (no_bytes spelled_effect FitsEffect IsLooseEffect effect_at effect_some)
-effect_stuck (tag ∷ bytes) f h e = (body_at bodies tag all_bodies).stuck (λ more. refl) bytes f h e
 
 loosen_effect : (x : Effect) → FitsEffect x → IsLooseEffect x
 loosen_effect (SetField entity name value) f = f
@@ -335,4 +306,4 @@ loosen_effect (Suspend activity until) f = f
 loosen_effect (Resume activity) f = f
 
 pub reads_effect : ReadsBy spelled_effect FitsEffect IsLooseEffect effect_at
-reads_effect = record { takes = effect_takes; again = effect_again; stuck = effect_stuck; some = effect_some; bytes = effect_bytes; loosen = loosen_effect }
+reads_effect = reads_tagged spelled_effect FitsEffect IsLooseEffect effects_by_tag effect_again effect_bytes effect_some loosen_effect effect_rows

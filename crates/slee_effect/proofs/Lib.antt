@@ -1,4 +1,5 @@
 pub mod Loops
+pub mod MemoryLemmas
 pub mod FallLemmas
 pub mod ExitLemmas
 pub mod LastLemmas

@@ -1,40 +1,31 @@
 -- The bytes of effects. Numbers have their low byte first, and a list begins with its count.
-use Rattle.std.specs.Prelude.{ℕ, ◌<◌, ◌^◌, ℤ, List, [], ◌∷◌, ◌++◌, length, Option, Some, None, ⊤}
-use Rattle.std.specs.Int.{w8, cast_unsigned}
+use Rattle.std.specs.Prelude.{ℕ, ◌<◌, ◌^◌, List, [], ◌∷◌, ◌++◌, length, Option, Some, None, ⊤}
 use Rattle.std.specs.List.{flat_map, AllByRecursion}
 use Rattle.slee_value.specs.declared.keep.Keep.{Keep}
 use Rattle.slee_value.specs.declared.keep.Keep.TheVariants.{All, Last, NoneMissed}
-use Rattle.slee_value.specs.Bytes.{spelled_u32, spelled_u64, spelled_i64, spelled_text, spelled_flag, spelling_of_value, IsShort}
+use Rattle.slee_value.specs.Bytes.{spelled_u32, spelled_u64, spelled_i8, spelled_i64, spelled_text, spelled_flag, spelled_option, spelling_of_value, IsShort}
 use Rattle.slee_effect.specs.declared.reference.Ref.{Ref}
 use Rattle.slee_effect.specs.declared.reference.Ref.TheVariants.{Known, Fresh}
 use Rattle.slee_effect.specs.declared.value.Val.{Val}
 use Rattle.slee_effect.specs.declared.value.Val.TheVariants.{Plain, NewActivity, NewTimer}
-use Rattle.slee_effect.specs.declared.tag.TheConstants.{SET_FIELD, SET_ATTR, CREATE, REMOVE, SET_PRIORITY, ATTACH, DETACH, SET_MASK, FIRE, NEW_NULL, END_NULL, SET_TIMER, CANCEL_TIMER, BIND, UNBIND, EMIT, USAGE, SUSPEND, RESUME}
+use Rattle.slee_effect.specs.declared.tag.TheConstants.{SET_FIELD, SET_ATTR, CREATE, REMOVE, SET_PRIORITY, ATTACH, DETACH, SET_MASK, FIRE, NEW_NULL, END_NULL, SET_TIMER, CANCEL_TIMER, BIND, UNBIND, EMIT, USAGE, SUSPEND, RESUME, KNOWN, FRESH, PLAIN, NEW_ACTIVITY, NEW_TIMER, KEEP_ALL, KEEP_LAST, KEEP_NONE}
 use Rattle.slee_effect.specs.declared.effect.Effect.{Effect}
 use Rattle.slee_effect.specs.declared.effect.Effect.TheVariants.{SetField, SetAttr, Create, Remove, SetPriority, Attach, Detach, SetMask, Fire, NewNull, EndNull, SetTimer, CancelTimer, Bind, Unbind, Emit, Usage, Suspend, Resume}
 
--- a byte with a sign
-abbrev pub spelled_i8 : ℤ → List ℕ
-spelled_i8 z = cast_unsigned w8 z ∷ []
-
--- an option is 0, or 1 and what it holds
-abbrev pub spelled_option : Option (List ℕ) → List ℕ
-spelled_option None = 0 ∷ []
-spelled_option (Some text) = 1 ∷ spelled_text text
-
+-- what a timer does with occurrences that were missed
 abbrev pub spelled_keep : Keep → List ℕ
-spelled_keep All = 0 ∷ []
-spelled_keep Last = 1 ∷ []
-spelled_keep NoneMissed = 2 ∷ []
+spelled_keep All = KEEP_ALL ∷ []
+spelled_keep Last = KEEP_LAST ∷ []
+spelled_keep NoneMissed = KEEP_NONE ∷ []
 
 abbrev pub spelled_ref : Ref → List ℕ
-spelled_ref (Known number) = 0 ∷ spelled_u64 number
-spelled_ref (Fresh place) = 1 ∷ spelled_u32 place
+spelled_ref (Known number) = KNOWN ∷ spelled_u64 number
+spelled_ref (Fresh place) = FRESH ∷ spelled_u32 place
 
 abbrev pub spelled_val : Val → List ℕ
-spelled_val (Plain value) = 0 ∷ spelling_of_value value
-spelled_val (NewActivity place) = 1 ∷ spelled_u32 place
-spelled_val (NewTimer place) = 2 ∷ spelled_u32 place
+spelled_val (Plain value) = PLAIN ∷ spelling_of_value value
+spelled_val (NewActivity place) = NEW_ACTIVITY ∷ spelled_u32 place
+spelled_val (NewTimer place) = NEW_TIMER ∷ spelled_u32 place
 
 -- a field of an event, and all of them
 abbrev pub spelled_field : List ℕ × Val → List ℕ
@@ -53,7 +44,7 @@ spelled_effect (SetPriority entity priority) = SET_PRIORITY ∷ (spelled_ref ent
 spelled_effect (Attach entity activity) = ATTACH ∷ (spelled_ref entity ++ spelled_ref activity)
 spelled_effect (Detach entity activity) = DETACH ∷ (spelled_ref entity ++ spelled_ref activity)
 spelled_effect (SetMask entity activity event on) = SET_MASK ∷ (spelled_ref entity ++ (spelled_ref activity ++ (spelled_text event ++ spelled_flag on)))
-spelled_effect (Fire activity event service fields) = FIRE ∷ (spelled_ref activity ++ (spelled_text event ++ (spelled_option service ++ spelled_fields fields)))
+spelled_effect (Fire activity event service fields) = FIRE ∷ (spelled_ref activity ++ (spelled_text event ++ (spelled_option spelled_text service ++ spelled_fields fields)))
 spelled_effect NewNull = NEW_NULL ∷ []
 spelled_effect (EndNull activity) = END_NULL ∷ spelled_ref activity
 spelled_effect (SetTimer activity start period times keep) = SET_TIMER ∷ (spelled_ref activity ++ (spelled_u64 start ++ (spelled_u64 period ++ (spelled_u64 times ++ spelled_keep keep))))

@@ -1,9 +1,9 @@
 -- Which effects have bytes.
-use Rattle.std.specs.Prelude.{◌+◌, [], ◌∷◌, ℕ, ◌<◌, ◌^◌, List, length, Option, Some, None, FitsSigned, IsTrue, ⊤}
+use Rattle.std.specs.Prelude.{◌+◌, [], ◌∷◌, ℕ, ◌<◌, ◌^◌, List, length, FitsSigned, IsTrue, ⊤}
 use Rattle.std.specs.Int.{w8, w64}
 use Rattle.std.specs.List.{AllByRecursion}
 use Rattle.slee_value.specs.Order.{is_below, rises, names_of}
-use Rattle.slee_value.specs.Bytes.{FitsText, Fits}
+use Rattle.slee_value.specs.Bytes.{FitsOption, FitsText, Fits}
 use Rattle.slee_effect.specs.declared.reference.Ref.{Ref}
 use Rattle.slee_effect.specs.declared.reference.Ref.TheVariants.{Known, Fresh}
 use Rattle.slee_effect.specs.declared.value.Val.{Val}
@@ -19,10 +19,6 @@ abbrev pub FitsVal : Val → Type 0
 FitsVal (Plain value) = Fits value
 FitsVal (NewActivity place) = place < 2 ^ 32
 FitsVal (NewTimer place) = place < 2 ^ 32
-
-abbrev pub FitsOption : Option (List ℕ) → Type 0
-FitsOption None = ⊤
-FitsOption (Some text) = FitsText text
 
 abbrev pub FitsField : List ℕ × Val → Type 0
 FitsField field = FitsText field.0 × FitsVal field.1
@@ -53,7 +49,7 @@ FitsBy FieldsFit (SetPriority entity priority) = FitsRef entity × FitsSigned w8
 FitsBy FieldsFit (Attach entity activity) = FitsRef entity × FitsRef activity
 FitsBy FieldsFit (Detach entity activity) = FitsRef entity × FitsRef activity
 FitsBy FieldsFit (SetMask entity activity event on) = FitsRef entity × (FitsRef activity × (FitsText event × ⊤))
-FitsBy FieldsFit (Fire activity event service fields) = FitsRef activity × (FitsText event × (FitsOption service × FieldsFit fields))
+FitsBy FieldsFit (Fire activity event service fields) = FitsRef activity × (FitsText event × (FitsOption FitsText service × FieldsFit fields))
 FitsBy FieldsFit NewNull = ⊤
 FitsBy FieldsFit (EndNull activity) = FitsRef activity
 FitsBy FieldsFit (SetTimer activity start period times keep) = FitsRef activity × ((start < 2 ^ 64) × ((period < 2 ^ 64) × ((times < 2 ^ 64) × ⊤)))

@@ -1,59 +1,54 @@
 -- Reading effects from left to right. A fault is how many bytes are left from the first one that can't go on.
-use Rattle.std.specs.Prelude.{ℕ, zero, suc, ◌+◌, ◌-◌, ℤ, List, [], ◌∷◌, length, Option, Some, None, Result, Ok, Err, nat_lt, ◌==◌, if◌then◌else◌, slice_get, option_map}
-use Rattle.std.specs.Int.{w8, w32, w64, cast_signed}
+use Rattle.std.specs.Prelude.{ℕ, zero, suc, ◌-◌, List, [], ◌∷◌, length, Option, Some, None, Result, Ok, Err, nat_lt, ◌==◌, if◌then◌else◌, slice_get, option_map}
+use Rattle.std.specs.Int.{w32, w64}
 use Rattle.slee_value.specs.declared.keep.Keep.{Keep}
 use Rattle.slee_value.specs.declared.keep.Keep.TheVariants.{All, Last, NoneMissed}
 use Rattle.slee_value.specs.declared.fault.ValueBad.TheVariants as bad
-use Rattle.slee_value.specs.Reading.{Fault, Part, ◌>>=◌, mapped, pair, refuse, ended, number_at, i64_at, flag_at, text_at, value_at}
+use Rattle.slee_value.specs.Reading.{Fault, Part, ◌>>=◌, mapped, pair, Rows, tagged, number_at, i8_at, i64_at, flag_at, option_at, text_at, value_at}
 use Rattle.slee_effect.specs.Rising.{name_fall}
 use Rattle.slee_effect.specs.declared.reference.Ref.{Ref}
 use Rattle.slee_effect.specs.declared.reference.Ref.TheVariants.{Known, Fresh}
 use Rattle.slee_effect.specs.declared.value.Val.{Val}
 use Rattle.slee_effect.specs.declared.value.Val.TheVariants.{Plain, NewActivity, NewTimer}
-use Rattle.slee_effect.specs.declared.tag.TheConstants.{SET_FIELD, SET_ATTR, CREATE, REMOVE, SET_PRIORITY, ATTACH, DETACH, SET_MASK, FIRE, NEW_NULL, END_NULL, SET_TIMER, CANCEL_TIMER, BIND, UNBIND, EMIT, USAGE, SUSPEND, RESUME}
+use Rattle.slee_effect.specs.declared.tag.TheConstants.{SET_FIELD, SET_ATTR, CREATE, REMOVE, SET_PRIORITY, ATTACH, DETACH, SET_MASK, FIRE, NEW_NULL, END_NULL, SET_TIMER, CANCEL_TIMER, BIND, UNBIND, EMIT, USAGE, SUSPEND, RESUME, KNOWN, FRESH, PLAIN, NEW_ACTIVITY, NEW_TIMER, KEEP_ALL, KEEP_LAST, KEEP_NONE}
 use Rattle.slee_effect.specs.declared.effect.Effect.{Effect}
 use Rattle.slee_effect.specs.declared.effect.Effect.TheVariants.{SetField, SetAttr, Create, Remove, SetPriority, Attach, Detach, SetMask, Fire, NewNull, EndNull, SetTimer, CancelTimer, Bind, Unbind, Emit, Usage, Suspend, Resume}
-
--- this byte can't stand here
-abbrev pub stray : {A : Type 0} → List ℕ → Part A
-stray bytes = refuse bytes bad.Tag
 
 -- a part without bytes
 abbrev pub nothing_at : List ℕ → Part (Unit {0})
 nothing_at bytes = Ok (tt, bytes)
 
-abbrev pub byte_at : List ℕ → Part ℕ
-byte_at [] = ended
-byte_at (b ∷ rest) = Ok (b, rest)
-
-abbrev pub i8_at : List ℕ → Part ℤ
-i8_at = mapped (cast_signed w8) byte_at
+-- what a timer does with occurrences that were missed
+abbrev pub keeps_by_tag : Rows Keep
+keeps_by_tag =
+    (KEEP_ALL, mapped (λ p. All) nothing_at)
+    ∷ (KEEP_LAST, mapped (λ p. Last) nothing_at)
+    ∷ (KEEP_NONE, mapped (λ p. NoneMissed) nothing_at)
+    ∷ []
 
 abbrev pub keep_at : List ℕ → Part Keep
-keep_at [] = ended
-keep_at (zero ∷ rest) = Ok (All, rest)
-keep_at (suc zero ∷ rest) = Ok (Last, rest)
-keep_at (suc (suc zero) ∷ rest) = Ok (NoneMissed, rest)
-keep_at (suc (suc (suc b)) ∷ rest) = stray (suc (suc (suc b)) ∷ rest)
+keep_at = tagged keeps_by_tag
 
-abbrev pub option_at : List ℕ → Part (Option (List ℕ))
-option_at [] = ended
-option_at (zero ∷ rest) = mapped (λ nothing. None) nothing_at rest
-option_at (suc zero ∷ rest) = mapped (λ text. Some text) text_at rest
-option_at (suc (suc b) ∷ rest) = stray (suc (suc b) ∷ rest)
+-- a reference
+abbrev pub refs_by_tag : Rows Ref
+refs_by_tag =
+    (KNOWN, mapped (λ number. Known number) (number_at w64))
+    ∷ (FRESH, mapped (λ place. Fresh place) (number_at w32))
+    ∷ []
 
 abbrev pub ref_at : List ℕ → Part Ref
-ref_at [] = ended
-ref_at (zero ∷ rest) = mapped (λ number. Known number) (number_at w64) rest
-ref_at (suc zero ∷ rest) = mapped (λ place. Fresh place) (number_at w32) rest
-ref_at (suc (suc b) ∷ rest) = stray (suc (suc b) ∷ rest)
+ref_at = tagged refs_by_tag
+
+-- a value in an effect
+abbrev pub vals_by_tag : Rows Val
+vals_by_tag =
+    (PLAIN, mapped (λ value. Plain value) value_at)
+    ∷ (NEW_ACTIVITY, mapped (λ place. NewActivity place) (number_at w32))
+    ∷ (NEW_TIMER, mapped (λ place. NewTimer place) (number_at w32))
+    ∷ []
 
 abbrev pub val_at : List ℕ → Part Val
-val_at [] = ended
-val_at (zero ∷ rest) = mapped (λ value. Plain value) value_at rest
-val_at (suc zero ∷ rest) = mapped (λ place. NewActivity place) (number_at w32) rest
-val_at (suc (suc zero) ∷ rest) = mapped (λ place. NewTimer place) (number_at w32) rest
-val_at (suc (suc (suc b)) ∷ rest) = stray (suc (suc (suc b)) ∷ rest)
+val_at = tagged vals_by_tag
 
 -- where a name can't go on to come after the one before, if there is one
 abbrev pub fall_behind : Option (List ℕ) → List ℕ → Option ℕ
@@ -85,13 +80,9 @@ rows_at (suc n) before bytes = field_at before bytes >>= λ x. rows_at n (Some x
 abbrev pub fields_at : List ℕ → Part (List (List ℕ × Val))
 fields_at bytes = number_at w32 bytes >>= λ n. rows_at n.0 None n.1
 
--- no effect has this byte
-abbrev pub no_effect : List ℕ → Part Effect
-no_effect bytes = Err (record { left = length bytes + 1; kind = bad.Tag })
-
 -- what stands behind the byte of each effect
-abbrev pub bodies : List (ℕ × (List ℕ → Part Effect))
-bodies =
+abbrev pub effects_by_tag : Rows Effect
+effects_by_tag =
     (SET_FIELD, mapped (λ p. SetField p.0 p.1.0 p.1.1) (pair ref_at (pair text_at val_at)))
     ∷ (SET_ATTR, mapped (λ p. SetAttr p.0 p.1.0 p.1.1) (pair ref_at (pair text_at val_at)))
     ∷ (CREATE, mapped (λ p. Create p.0 p.1.0 p.1.1) (pair ref_at (pair text_at i8_at)))
@@ -100,7 +91,7 @@ bodies =
     ∷ (ATTACH, mapped (λ p. Attach p.0 p.1) (pair ref_at ref_at))
     ∷ (DETACH, mapped (λ p. Detach p.0 p.1) (pair ref_at ref_at))
     ∷ (SET_MASK, mapped (λ p. SetMask p.0 p.1.0 p.1.1.0 p.1.1.1) (pair ref_at (pair ref_at (pair text_at flag_at))))
-    ∷ (FIRE, mapped (λ p. Fire p.0 p.1.0 p.1.1.0 p.1.1.1) (pair ref_at (pair text_at (pair option_at fields_at))))
+    ∷ (FIRE, mapped (λ p. Fire p.0 p.1.0 p.1.1.0 p.1.1.1) (pair ref_at (pair text_at (pair (option_at text_at) fields_at))))
     ∷ (NEW_NULL, mapped (λ p. NewNull) nothing_at)
     ∷ (END_NULL, mapped (λ p. EndNull p) ref_at)
     ∷ (SET_TIMER, mapped (λ p. SetTimer p.0 p.1.0 p.1.1.0 p.1.1.1.0 p.1.1.1.1) (pair ref_at (pair (number_at w64) (pair (number_at w64) (pair (number_at w64) keep_at)))))
@@ -113,15 +104,9 @@ bodies =
     ∷ (RESUME, mapped (λ p. Resume p) ref_at)
     ∷ []
 
--- what stands behind this byte by such a table
-abbrev pub body_of : List (ℕ × (List ℕ → Part Effect)) → ℕ → List ℕ → Part Effect
-body_of [] tag = no_effect
-body_of (row ∷ rows) tag = if tag == row.0 then row.1 else body_of rows tag
-
 -- the effect at the front of the bytes, and the bytes behind it
 abbrev pub effect_at : List ℕ → Part Effect
-effect_at [] = ended
-effect_at (tag ∷ bytes) = body_of bodies tag bytes
+effect_at = tagged effects_by_tag
 
 unfoldable pub items_at : ℕ → List ℕ → Part (List Effect)
 items_at zero bytes = Ok ([], bytes)

@@ -27,6 +27,3 @@ pub use reading::read_effects;
 pub use reference::Ref;
 pub use value::Val;
 pub use writing::write_effects;
-
-#[cfg(test)]
-mod tests;

@@ -1,19 +1,21 @@
-ghost use Rattle.std.specs.Prelude.{◌≡◌, ◌≢◌, Err};
+//! The parts of effects: each of these reads the part at the front of the bytes, and gives the bytes behind it.
+ghost use Rattle.std.specs.Prelude.{◌≡◌, ◌≢◌, Err, IsOk, IsTrue};
 ghost use Rattle.std.specs.Int.{w64};
-ghost use Rattle.slee_value.specs.Reading.{Gives, pair, number_at, i64_at, flag_at, text_at};
-ghost use Rattle.slee_effect.specs.Reading.{i8_at, keep_at, option_at, ref_at, val_at, fields_at};
+ghost use Rattle.slee_value.specs.Reading.{Gives, pair, number_at, i8_at, i64_at, flag_at, option_at, text_at};
+ghost use Rattle.slee_effect.specs.Reading.{keep_at, ref_at, val_at, fields_at};
+ghost use Rattle.slee_effect.specs.Memory.{passes_behind, has_text, has_named};
 
 use crate::rows::read_fields;
-use crate::{FiredFields, Ref, Val};
+use crate::{FiredFields, Ref, Val, tag};
 use slee_value::{
-    Keep, PartFault, Text, ValueBad, read_flag, read_part, read_text, read_u32, read_u64,
+    Keep, PartFault, Text, ValueBad, read_flag, read_i8, read_i64, read_part, read_text, read_u32,
+    read_u64,
 };
 use std::alloc::Global;
 
-// Each of these reads the part at the front of the bytes, and gives the bytes behind it.
-
 pub(crate) fn read_named(alloc: Global, bytes: &[u8]) -> Result<((Ref, Text), &[u8]), PartFault>
-    ensures { Gives (λ x. (x.0, x.1.now)) result (pair ref_at text_at bytes.now) }
+    ensures part { Gives (λ x. (x.0, x.1.now)) result (pair ref_at text_at bytes.now) }
+    ensures memory { result ≡ Err PartFault.NoMemory → IsTrue (has_named bytes.now) }
 {
     let (one, rest) = read_ref(bytes)?;
     let (name, rest) = read_text(alloc, rest)?;
@@ -24,7 +26,8 @@ pub(crate) fn read_setting(
     alloc: Global,
     bytes: &[u8],
 ) -> Result<((Ref, (Text, Val)), &[u8]), PartFault>
-    ensures { Gives (λ x. (x.0, x.1.now)) result (pair ref_at (pair text_at val_at) bytes.now) }
+    ensures part { Gives (λ x. (x.0, x.1.now)) result (pair ref_at (pair text_at val_at) bytes.now) }
+    ensures memory { result ≡ Err PartFault.NoMemory → IsTrue (has_named bytes.now) }
 {
     let (one, rest) = read_ref(bytes)?;
     let (name, rest) = read_text(alloc, rest)?;
@@ -36,7 +39,8 @@ pub(crate) fn read_creation(
     alloc: Global,
     bytes: &[u8],
 ) -> Result<((Ref, (Text, i8)), &[u8]), PartFault>
-    ensures { Gives (λ x. (x.0, x.1.now)) result (pair ref_at (pair text_at i8_at) bytes.now) }
+    ensures part { Gives (λ x. (x.0, x.1.now)) result (pair ref_at (pair text_at i8_at) bytes.now) }
+    ensures memory { result ≡ Err PartFault.NoMemory → IsTrue (has_named bytes.now) }
 {
     let (one, rest) = read_ref(bytes)?;
     let (name, rest) = read_text(alloc, rest)?;
@@ -66,7 +70,8 @@ pub(crate) fn read_mask(
     alloc: Global,
     bytes: &[u8],
 ) -> Result<((Ref, (Ref, (Text, bool))), &[u8]), PartFault>
-    ensures { Gives (λ x. (x.0, x.1.now)) result (pair ref_at (pair ref_at (pair text_at flag_at)) bytes.now) }
+    ensures part { Gives (λ x. (x.0, x.1.now)) result (pair ref_at (pair ref_at (pair text_at flag_at)) bytes.now) }
+    ensures memory { result ≡ Err PartFault.NoMemory → IsTrue (passes_behind has_named (ref_at bytes.now)) }
 {
     let (one, rest) = read_ref(bytes)?;
     let (other, rest) = read_ref(rest)?;
@@ -79,7 +84,8 @@ pub(crate) fn read_fire(
     alloc: Global,
     bytes: &[u8],
 ) -> Result<((Ref, (Text, (Option<Text>, FiredFields))), &[u8]), PartFault>
-    ensures { Gives (λ x. (x.0, x.1.now)) result (pair ref_at (pair text_at (pair option_at fields_at)) bytes.now) }
+    ensures part { Gives (λ x. (x.0, x.1.now)) result (pair ref_at (pair text_at (pair (option_at text_at) fields_at)) bytes.now) }
+    ensures memory { result ≡ Err PartFault.NoMemory → IsTrue (has_named bytes.now) }
 {
     let (one, rest) = read_ref(bytes)?;
     let (event, rest) = read_text(alloc, rest)?;
@@ -103,7 +109,8 @@ pub(crate) fn read_timer(
 }
 
 pub(crate) fn read_binding(alloc: Global, bytes: &[u8]) -> Result<((Text, Ref), &[u8]), PartFault>
-    ensures { Gives (λ x. (x.0, x.1.now)) result (pair text_at ref_at bytes.now) }
+    ensures part { Gives (λ x. (x.0, x.1.now)) result (pair text_at ref_at bytes.now) }
+    ensures memory { result ≡ Err PartFault.NoMemory → IsTrue (has_text bytes.now) }
 {
     let (name, rest) = read_text(alloc, bytes)?;
     let (one, rest) = read_ref(rest)?;
@@ -114,7 +121,8 @@ pub(crate) fn read_usage(
     alloc: Global,
     bytes: &[u8],
 ) -> Result<((Ref, (Text, i64)), &[u8]), PartFault>
-    ensures { Gives (λ x. (x.0, x.1.now)) result (pair ref_at (pair text_at i64_at) bytes.now) }
+    ensures part { Gives (λ x. (x.0, x.1.now)) result (pair ref_at (pair text_at i64_at) bytes.now) }
+    ensures memory { result ≡ Err PartFault.NoMemory → IsTrue (has_named bytes.now) }
 {
     let (one, rest) = read_ref(bytes)?;
     let (name, rest) = read_text(alloc, rest)?;
@@ -140,11 +148,11 @@ pub(crate) fn read_ref(bytes: &[u8]) -> Result<(Ref, &[u8]), PartFault>
             left: 0,
             kind: ValueBad::Short,
         }),
-        [0, rest @ ..] => {
+        [tag::KNOWN, rest @ ..] => {
             let (number, rest) = read_u64(rest)?;
             Ok((Ref::Known(number), rest))
         }
-        [1, rest @ ..] => {
+        [tag::FRESH, rest @ ..] => {
             let (place, rest) = read_u32(rest)?;
             Ok((Ref::Fresh(place), rest))
         }
@@ -156,22 +164,23 @@ pub(crate) fn read_ref(bytes: &[u8]) -> Result<(Ref, &[u8]), PartFault>
 }
 
 pub(crate) fn read_val(alloc: Global, bytes: &[u8]) -> Result<(Val, &[u8]), PartFault>
-    ensures { Gives (λ x. (x.0, x.1.now)) result (val_at bytes.now) }
+    ensures part { Gives (λ x. (x.0, x.1.now)) result (val_at bytes.now) }
+    ensures memory { result ≡ Err PartFault.NoMemory → IsOk (val_at bytes.now) }
 {
     match bytes {
         [] => Err(PartFault::Bad {
             left: 0,
             kind: ValueBad::Short,
         }),
-        [0, rest @ ..] => {
+        [tag::PLAIN, rest @ ..] => {
             let (value, rest) = read_part(alloc, rest)?;
             Ok((Val::Plain(value), rest))
         }
-        [1, rest @ ..] => {
+        [tag::NEW_ACTIVITY, rest @ ..] => {
             let (place, rest) = read_u32(rest)?;
             Ok((Val::NewActivity(place), rest))
         }
-        [2, rest @ ..] => {
+        [tag::NEW_TIMER, rest @ ..] => {
             let (place, rest) = read_u32(rest)?;
             Ok((Val::NewTimer(place), rest))
         }
@@ -183,23 +192,15 @@ pub(crate) fn read_val(alloc: Global, bytes: &[u8]) -> Result<(Val, &[u8]), Part
 }
 
 pub(crate) fn read_option(alloc: Global, bytes: &[u8]) -> Result<(Option<Text>, &[u8]), PartFault>
-    ensures { Gives (λ x. (x.0, x.1.now)) result (option_at bytes.now) }
+    ensures part { Gives (λ x. (x.0, x.1.now)) result (option_at text_at bytes.now) }
+    ensures memory { result ≡ Err PartFault.NoMemory → IsOk (option_at text_at bytes.now) }
 {
-    match bytes {
-        [] => Err(PartFault::Bad {
-            left: 0,
-            kind: ValueBad::Short,
-        }),
-        [0, rest @ ..] => Ok((None, rest)),
-        [1, rest @ ..] => {
-            let (text, rest) = read_text(alloc, rest)?;
-            Ok((Some(text), rest))
-        }
-        [_, ..] => Err(PartFault::Bad {
-            left: bytes.len(),
-            kind: ValueBad::Tag,
-        }),
+    let (is_some, rest) = read_flag(bytes)?;
+    if !is_some {
+        return Ok((None, rest));
     }
+    let (text, rest) = read_text(alloc, rest)?;
+    Ok((Some(text), rest))
 }
 
 pub(crate) fn read_keep(bytes: &[u8]) -> Result<(Keep, &[u8]), PartFault>
@@ -211,33 +212,12 @@ pub(crate) fn read_keep(bytes: &[u8]) -> Result<(Keep, &[u8]), PartFault>
             left: 0,
             kind: ValueBad::Short,
         }),
-        [0, rest @ ..] => Ok((Keep::All, rest)),
-        [1, rest @ ..] => Ok((Keep::Last, rest)),
-        [2, rest @ ..] => Ok((Keep::NoneMissed, rest)),
+        [tag::KEEP_ALL, rest @ ..] => Ok((Keep::All, rest)),
+        [tag::KEEP_LAST, rest @ ..] => Ok((Keep::Last, rest)),
+        [tag::KEEP_NONE, rest @ ..] => Ok((Keep::NoneMissed, rest)),
         [_, ..] => Err(PartFault::Bad {
             left: bytes.len(),
             kind: ValueBad::Tag,
         }),
     }
-}
-
-pub(crate) fn read_i8(bytes: &[u8]) -> Result<(i8, &[u8]), PartFault>
-    ensures part { Gives (λ x. (x.0, x.1.now)) result (i8_at bytes.now) }
-    ensures memory { result ≢ Err PartFault.NoMemory }
-{
-    match bytes {
-        [] => Err(PartFault::Bad {
-            left: 0,
-            kind: ValueBad::Short,
-        }),
-        [byte, rest @ ..] => Ok((byte.cast_signed(), rest)),
-    }
-}
-
-pub(crate) fn read_i64(bytes: &[u8]) -> Result<(i64, &[u8]), PartFault>
-    ensures part { Gives (λ x. (x.0, x.1.now)) result (i64_at bytes.now) }
-    ensures memory { result ≢ Err PartFault.NoMemory }
-{
-    let (number, rest) = read_u64(bytes)?;
-    Ok((number.cast_signed(), rest))
 }

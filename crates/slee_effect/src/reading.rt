@@ -1,12 +1,14 @@
-ghost use Rattle.std.specs.Prelude.{◌≡◌, List, length, IfOk, IfErr};
-ghost use Rattle.slee_value.specs.Reading.{Gives};
+//! Reading a list of effects.
+ghost use Rattle.std.specs.Prelude.{◌≡◌, List, length, Err, IsTrue, IfOk, IfErr};
+ghost use Rattle.slee_value.specs.Reading.{Gives, row_of};
 ghost use Rattle.slee_value.specs.declared.fault.PartFault.TheVariants.{Bad};
 ghost use Rattle.slee_value.specs.declared.fault.ValueBad.TheVariants.{Tag};
 ghost use Rattle.slee_effect.specs.declared.effect.Effect.{Effect as EffectModel};
 ghost use Rattle.slee_effect.specs.Bytes.{spelling_of_effects};
 ghost use Rattle.slee_effect.specs.Fitting.{FitEffects};
 ghost use Rattle.slee_effect.specs.Lists.{IsRead, StandsRight, Answers};
-ghost use Rattle.slee_effect.specs.Reading.{effect_at, bodies, body_of, items_at, list_of};
+ghost use Rattle.slee_effect.specs.Reading.{effect_at, effects_by_tag, items_at, list_of};
+ghost use Rattle.slee_effect.specs.Memory.{first_texts, passes, has_first_text, items_take_memory, takes_memory};
 
 use crate::making::{create, fire, set_attr, set_field, set_mask, set_timer, usage};
 use crate::parts::{
@@ -27,6 +29,8 @@ pub fn read_effects(alloc: Global, bytes: &[u8]) -> Result<Effects, EffectFault>
     ensures place { IfErr result (λ e. StandsRight bytes.now e) }
     // Which list or fault it is.
     ensures exact { Answers bytes.now result }
+    // Memory can run out only where an effect of the list, or its first text, is read.
+    ensures memory { result ≡ Err EffectFault.NoMemory → IsTrue (takes_memory bytes.now) }
 {
     match list(alloc, bytes) {
         Ok(effects) => Ok(Effects::from_vec(effects)),
@@ -38,7 +42,8 @@ pub fn read_effects(alloc: Global, bytes: &[u8]) -> Result<Effects, EffectFault>
 }
 
 fn list(alloc: Global, bytes: &[u8]) -> Result<Vec<Effect>, PartFault>
-    ensures { Gives (λ v. v.items) result (list_of bytes.now) }
+    ensures list { Gives (λ v. v.items) result (list_of bytes.now) }
+    ensures memory { result ≡ Err PartFault.NoMemory → IsTrue (takes_memory bytes.now) }
 {
     let (count, rest) = read_u32(bytes)?;
     let (effects, rest) = read_items(alloc, count, rest)?;
@@ -48,8 +53,10 @@ fn list(alloc: Global, bytes: &[u8]) -> Result<Vec<Effect>, PartFault>
     Ok(effects)
 }
 
+#[tactic(auto, using(crate::proofs::MemoryLemmas::text_memory))]
 fn read_items(alloc: Global, count: u32, bytes: &[u8]) -> Result<(Vec<Effect>, &[u8]), PartFault>
-    ensures { Gives (λ x. (x.0.items, x.1.now)) result (items_at count bytes.now) }
+    ensures items { Gives (λ x. (x.0.items, x.1.now)) result (items_at count bytes.now) }
+    ensures memory { result ≡ Err PartFault.NoMemory → IsTrue (items_take_memory count bytes.now) }
 {
     let mut effects = Vec::new(alloc);
     let mut rest = bytes;
@@ -71,7 +78,8 @@ fn stray(bytes: &[u8]) -> PartFault
 }
 
 fn read_effect(alloc: Global, bytes: &[u8]) -> Result<(Effect, &[u8]), PartFault>
-    ensures { Gives (λ x. (x.0, x.1.now)) result (effect_at bytes.now) }
+    ensures part { Gives (λ x. (x.0, x.1.now)) result (effect_at bytes.now) }
+    ensures memory { result ≡ Err PartFault.NoMemory → IsTrue (has_first_text bytes.now) }
 {
     match bytes {
         [] => Err(PartFault::Bad {
@@ -83,7 +91,8 @@ fn read_effect(alloc: Global, bytes: &[u8]) -> Result<(Effect, &[u8]), PartFault
 }
 
 fn read_body(alloc: Global, tag: u8, rest: &[u8]) -> Result<(Effect, &[u8]), PartFault>
-    ensures { Gives (λ x. (x.0, x.1.now)) result (body_of bodies tag rest.now) }
+    ensures part { Gives (λ x. (x.0, x.1.now)) result (row_of effects_by_tag tag rest.now) }
+    ensures memory { result ≡ Err PartFault.NoMemory → IsTrue (passes first_texts tag rest.now) }
 {
     match tag {
         tag::SET_FIELD => {

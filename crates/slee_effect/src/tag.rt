@@ -1,4 +1,4 @@
-//! The byte that begins each effect.
+//! The bytes that tell apart effects, references, values in effects and what a timer keeps.
 
 pub const SET_FIELD: u8 = 0x01;
 
@@ -37,3 +37,19 @@ pub const USAGE: u8 = 0x11;
 pub const SUSPEND: u8 = 0x20;
 
 pub const RESUME: u8 = 0x21;
+
+pub const KNOWN: u8 = 0;
+
+pub const FRESH: u8 = 1;
+
+pub const PLAIN: u8 = 0;
+
+pub const NEW_ACTIVITY: u8 = 1;
+
+pub const NEW_TIMER: u8 = 2;
+
+pub const KEEP_ALL: u8 = 0;
+
+pub const KEEP_LAST: u8 = 1;
+
+pub const KEEP_NONE: u8 = 2;

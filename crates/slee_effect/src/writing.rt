@@ -1,9 +1,12 @@
+//! Writing a list of effects.
 ghost use Rattle.std.specs.Prelude.{◌≡◌, ◌++◌, ◌∷◌, OnOk, OnErr, IfOk};
-ghost use Rattle.slee_value.specs.Bytes.{spelled_text, spelled_flag, spelled_u32, spelled_u64};
-ghost use Rattle.slee_effect.specs.Bytes.{spelled_i8, spelled_option, spelled_keep, spelled_ref, spelled_val, spelled_fields, spelled_effect, spelling_of_effects, IsShortText, IsShortOption, IsShortVal, AreShortFields, IsShortEffect, AreShort};
+ghost use Rattle.slee_value.specs.Bytes.{spelled_text, spelled_u64, spelled_option};
+ghost use Rattle.slee_effect.specs.Bytes.{spelled_keep, spelled_ref, spelled_val, spelled_fields, spelled_effect, spelling_of_effects, IsShortText, IsShortOption, IsShortVal, AreShortFields, IsShortEffect, AreShort};
 
 use crate::{Effect, Ref, Val, tag};
-use slee_value::{Keep, NoMemory, Text, write_text, write_value};
+use slee_value::{
+    Keep, NoMemory, Text, write_flag, write_i8, write_text, write_u32, write_u64, write_value,
+};
 use std::alloc::Global;
 
 /// Adds the bytes of the list of effects at the end.
@@ -23,7 +26,7 @@ fn bytes_of(alloc: Global, effects: &[Effect]) -> Result<Vec<u8>, NoMemory>
     ensures { IfOk result (λ v. v.items ≡ spelling_of_effects effects.now) }
 {
     let mut bytes = Vec::new(alloc);
-    bytes.extend_from_slice(&(effects.len() as u32).to_le_bytes())?;
+    write_u32(effects.len() as u32, &mut bytes)?;
     for effect in effects {
         put_effect(effect, &mut bytes)?;
     }
@@ -51,12 +54,12 @@ fn put_effect(effect: &Effect, into: &mut Vec<u8>) -> Result<(), NoMemory>
             priority,
         } => {
             put_named(tag::CREATE, *parent, relation, into)?;
-            put_i8(*priority, into)
+            write_i8(*priority, into)
         }
         Effect::Remove { entity } => put_one(tag::REMOVE, *entity, into),
         Effect::SetPriority { entity, priority } => {
             put_one(tag::SET_PRIORITY, *entity, into)?;
-            put_i8(*priority, into)
+            write_i8(*priority, into)
         }
         Effect::Attach { entity, activity } => put_two(tag::ATTACH, *entity, *activity, into),
         Effect::Detach { entity, activity } => put_two(tag::DETACH, *entity, *activity, into),
@@ -68,7 +71,7 @@ fn put_effect(effect: &Effect, into: &mut Vec<u8>) -> Result<(), NoMemory>
         } => {
             put_two(tag::SET_MASK, *entity, *activity, into)?;
             write_text(event, into)?;
-            put_flag(*on, into)
+            write_flag(*on, into)
         }
         Effect::Fire {
             activity,
@@ -111,7 +114,7 @@ fn put_effect(effect: &Effect, into: &mut Vec<u8>) -> Result<(), NoMemory>
         } => { put_counted(tag::USAGE, *entity, name, amount.cast_unsigned(), into) }
         Effect::Suspend { activity, until } => {
             put_one(tag::SUSPEND, *activity, into)?;
-            put_u64(*until, into)
+            write_u64(*until, into)
         }
         Effect::Resume { activity } => put_one(tag::RESUME, *activity, into),
     }
@@ -165,7 +168,7 @@ fn put_counted(
     ensures { OnOk result (into.new.items ≡ into.old.items ++ (tag ∷ (spelled_ref one ++ (spelled_text name.now ++ spelled_u64 number)))) }
 {
     put_named(tag, one, name, into)?;
-    put_u64(number, into)
+    write_u64(number, into)
 }
 
 fn put_ref(one: Ref, into: &mut Vec<u8>) -> Result<(), NoMemory>
@@ -173,12 +176,12 @@ fn put_ref(one: Ref, into: &mut Vec<u8>) -> Result<(), NoMemory>
 {
     match one {
         Ref::Known(number) => {
-            into.push(0)?;
-            put_u64(number, into)
+            into.push(tag::KNOWN)?;
+            write_u64(number, into)
         }
         Ref::Fresh(place) => {
-            into.push(1)?;
-            put_u32(place, into)
+            into.push(tag::FRESH)?;
+            write_u32(place, into)
         }
     }
 }
@@ -189,28 +192,28 @@ fn put_val(value: &Val, into: &mut Vec<u8>) -> Result<(), NoMemory>
 {
     match value {
         Val::Plain(value) => {
-            into.push(0)?;
+            into.push(tag::PLAIN)?;
             write_value(value, into)
         }
         Val::NewActivity(place) => {
-            into.push(1)?;
-            put_u32(*place, into)
+            into.push(tag::NEW_ACTIVITY)?;
+            write_u32(*place, into)
         }
         Val::NewTimer(place) => {
-            into.push(2)?;
-            put_u32(*place, into)
+            into.push(tag::NEW_TIMER)?;
+            write_u32(*place, into)
         }
     }
 }
 
 fn put_option(text: &Option<Text>, into: &mut Vec<u8>) -> Result<(), NoMemory>
     requires { IsShortOption text.now }
-    ensures { OnOk result (into.new.items ≡ into.old.items ++ spelled_option text.now) }
+    ensures { OnOk result (into.new.items ≡ into.old.items ++ spelled_option spelled_text text.now) }
 {
     match text {
-        None => Ok(into.push(0)?),
+        None => write_flag(false, into),
         Some(text) => {
-            into.push(1)?;
+            write_flag(true, into)?;
             write_text(text, into)
         }
     }
@@ -220,7 +223,7 @@ fn put_fields(fields: &[(Text, Val)], into: &mut Vec<u8>) -> Result<(), NoMemory
     requires { AreShortFields fields.now }
     ensures { OnOk result (into.new.items ≡ into.old.items ++ spelled_fields fields.now) }
 {
-    put_u32(fields.len() as u32, into)?;
+    write_u32(fields.len() as u32, into)?;
     for (name, value) in fields {
         write_text(name, into)?;
         put_val(value, into)?;
@@ -228,45 +231,21 @@ fn put_fields(fields: &[(Text, Val)], into: &mut Vec<u8>) -> Result<(), NoMemory
     Ok(())
 }
 
-fn put_u32(number: u32, into: &mut Vec<u8>) -> Result<(), NoMemory>
-    ensures { OnOk result (into.new.items ≡ into.old.items ++ spelled_u32 number) }
-{
-    Ok(into.extend_from_slice(&number.to_le_bytes())?)
-}
-
-fn put_u64(number: u64, into: &mut Vec<u8>) -> Result<(), NoMemory>
-    ensures { OnOk result (into.new.items ≡ into.old.items ++ spelled_u64 number) }
-{
-    Ok(into.extend_from_slice(&number.to_le_bytes())?)
-}
-
 fn put_moments(start: u64, period: u64, times: u64, into: &mut Vec<u8>) -> Result<(), NoMemory>
     ensures { OnOk result (into.new.items ≡ into.old.items ++ (spelled_u64 start ++ (spelled_u64 period ++ spelled_u64 times))) }
 {
-    put_u64(start, into)?;
-    put_u64(period, into)?;
-    put_u64(times, into)
-}
-
-fn put_i8(number: i8, into: &mut Vec<u8>) -> Result<(), NoMemory>
-    ensures { OnOk result (into.new.items ≡ into.old.items ++ spelled_i8 number) }
-{
-    Ok(into.push(number.cast_unsigned())?)
-}
-
-fn put_flag(flag: bool, into: &mut Vec<u8>) -> Result<(), NoMemory>
-    ensures { OnOk result (into.new.items ≡ into.old.items ++ spelled_flag flag) }
-{
-    Ok(into.push(u8::from(flag))?)
+    write_u64(start, into)?;
+    write_u64(period, into)?;
+    write_u64(times, into)
 }
 
 fn put_keep(keep: Keep, into: &mut Vec<u8>) -> Result<(), NoMemory>
     ensures { OnOk result (into.new.items ≡ into.old.items ++ spelled_keep keep) }
 {
     let byte = match keep {
-        Keep::All => 0,
-        Keep::Last => 1,
-        Keep::NoneMissed => 2,
+        Keep::All => tag::KEEP_ALL,
+        Keep::Last => tag::KEEP_LAST,
+        Keep::NoneMissed => tag::KEEP_NONE,
     };
     Ok(into.push(byte)?)
 }

@@ -31,7 +31,6 @@ pub record IsOrdered (s : State) : Type 0 where
   pub masks : IsTrue (rises_by mask_before s.masks)
   pub names : IsTrue (rises_by name_before s.names)
   pub events : IsTrue (rises_by queued_before s.events)
-  pub events_below : IsTrue (are_below (λ q. q.event.id.0) s.next_event s.events)
   pub services_done : IsTrue (rises_by service_mark_before s.services_done)
   pub delivered : IsTrue (rises_by entity_mark_before s.delivered)
   pub suspensions : IsTrue (rises_by suspension_before s.suspensions)

@@ -1,5 +1,5 @@
 -- The events that wait on activities, the marks beside head events, and suspensions: what is read of them, and how they change.
-use Rattle.std.specs.Prelude.{ℕ, nat_lt, Bool, ◌==◌, not, if◌then◌else◌, List, [], ◌∷◌, Option, option_map, filter, find, map, is_some}
+use Rattle.std.specs.Prelude.{ℕ, nat_lt, Bool, ◌==◌, not, if◌then◌else◌, List, [], ◌∷◌, Option, option_map, filter, find, map, is_some, codes}
 use Rattle.std.specs.List.{list_any, list_all}
 use Rattle.slee_state.specs.Orders.{put, pair_before, same_pair}
 use Rattle.slee_state.specs.declared.rows.Event.{Event}
@@ -7,6 +7,10 @@ use Rattle.slee_state.specs.declared.rows.Queued.{Queued}
 use Rattle.slee_state.specs.declared.rows.ServiceMark.{ServiceMark}
 use Rattle.slee_state.specs.declared.rows.EntityMark.{EntityMark}
 use Rattle.slee_state.specs.declared.rows.Suspension.{Suspension}
+
+-- the event that ends an activity; each activity has it, and nobody fires it (JSR 240, 7.6)
+abbrev pub activity_end : List ℕ
+activity_end = codes "activity-end"
 
 -- by activity, then by number
 abbrev pub queued_before : Queued → Queued → Bool

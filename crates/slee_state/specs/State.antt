@@ -1,5 +1,6 @@
 -- The state of a service container, as plain lists.
 use Rattle.std.specs.Prelude.{ℕ, ◌^◌, Bool, ◌||◌, nat_lt, List}
+use Rattle.script_types.specs.Program.{Program}
 use Rattle.slee_descriptor.specs.Deployed.{Deployed}
 use Rattle.slee_state.specs.declared.rows.Service.{Service}
 use Rattle.slee_state.specs.declared.rows.Entity.{Entity}
@@ -19,8 +20,9 @@ use Rattle.slee_state.specs.declared.rows.ProfileRow.{ProfileRow}
 
 -- Each list rises, by what stands beside it. The service of number n stands at place n, counted from 0.
 pub record State : Type 0 where
-  -- what was deployed; no step changes it
+  -- what was deployed, and the scripts of its blocks; no step changes them
   pub deployment : Deployed
+  pub program : Program
   -- the moment that the last clock line gave
   pub clock : ℕ
   -- how many lines were taken

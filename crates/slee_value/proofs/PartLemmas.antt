@@ -1,15 +1,15 @@
 -- Numbers and flags: each is read as it is spelled.
 use Rattle.std.proofs.Common.{◌≡◌, ℕ, zero, suc, ◌+◌, ◌-◌, ◌^◌, ◌<◌, ◌≤◌, ℤ, Bool, true, false, cond, ltb, List, [], ◌∷◌, ◌++◌, length, get_or, take, drop, replicate, Result, Ok, Err, refl, sym, ap, subst, ◌∙◌, append_assoc, arith, FitsSigned, Fits}
 use Rattle.std.specs.Prelude.{⊤}
-use Rattle.std.specs.Int.{Width, w32, w64, byte_len, from_le_bytes, to_le_bytes, cast_signed, cast_unsigned}
+use Rattle.std.specs.Int.{Width, w8, w32, w64, byte_len, from_le_bytes, to_le_bytes, cast_signed, cast_unsigned}
 use Rattle.std.proofs.lemmas.Bool.{ltb-false, ltb-true, le-ltb}
 use Rattle.std.proofs.lemmas.List.{append-nil, take_at, drop_at, take-append-drop, length-append, length-take, length-replicate}
 use Rattle.std.proofs.lemmas.Nat.{le_bytes_4, le_bytes_8, from_le_bytes-to_le_bytes_4, from_le_bytes-to_le_bytes_8}
 use Rattle.std.proofs.lemmas.Int.{of_z-to_z, to_z-of_z}
 use Rattle.std.proofs.Math.Facts.{sfits_to_z, Fits-of_z}
 use Rattle.slee_value.specs.declared.fault.ValueBad.TheVariants as bad
-use Rattle.slee_value.specs.Bytes.{spelled_u32, spelled_u64, spelled_i64, spelled_flag}
-use Rattle.slee_value.specs.Reading.{Fault, Part, mapped, number_at, i64_at, flag_at, refuse}
+use Rattle.slee_value.specs.Bytes.{spelled_u32, spelled_u64, spelled_i8, spelled_i64, spelled_flag}
+use Rattle.slee_value.specs.Reading.{Fault, Part, mapped, byte_at as first_byte, number_at, i8_at, i64_at, flag_at, refuse}
 use Rattle.slee_value.proofs.ReadLemmas.{AreBytes, bytes_append, bytes_left, bytes_right, byte_at, Takes, Begins, IsStuck, Reads, reads_mapped, no_case, no_bytes, ok_is, err_is}
 
 -- a test that did not fail, and one that did
@@ -114,6 +114,35 @@ reads_i64 = reads_mapped (cast_signed w64) (cast_unsigned w64) spelled_u64 (λ n
     (λ z f. (Fits-of_z {w = w64} {z = z} f).fits)
     (λ z f. to_z-of_z w64 z f)
     reads_u64
+
+-- ---- bytes
+
+byte_takes : (bytes : List ℕ) (x : ℕ × List ℕ) → AreBytes bytes → first_byte bytes ≡ Ok x → Takes bytes (x.0 ∷ []) x.1 × (x.0 < 2 ^ 8)
+byte_takes [] x h e = absurd cc
+byte_takes (b ∷ bytes) x h e = subst (λ (z : ℕ × List ℕ). Takes (b ∷ bytes) (z.0 ∷ []) z.1 × (z.0 < 2 ^ 8)) (ok_is (b, bytes) x e) (record { parts = refl; rest_bytes = h.1 }, omega (arith, h.0))
+
+byte_stuck : (bytes : List ℕ) (f : Fault) → AreBytes bytes → first_byte bytes ≡ Err f → IsStuck (λ (b : ℕ). b ∷ []) (λ b. b < 2 ^ 8) bytes f.left
+byte_stuck [] f h e = subst (IsStuck (λ (b : ℕ). b ∷ []) (λ b. b < 2 ^ 8) []) (ap (λ (d : Fault). d.left) (err_is {A = ℕ × List ℕ} _ f e)) (no_bytes (λ (b : ℕ). b ∷ []) (λ b. b < 2 ^ 8) (λ b. b < 2 ^ 8) first_byte (0, 0 ∷ [], omega arith, refl))
+byte_stuck (b ∷ bytes) f h e = absurd cc
+
+reads_byte : Reads (λ (b : ℕ). b ∷ []) (λ b. b < 2 ^ 8) first_byte
+reads_byte = record {
+  takes = byte_takes;
+  again = λ x rest f. refl;
+  stuck = byte_stuck;
+  some = (0, 0 ∷ [], omega arith, refl);
+  bytes = λ x f. (omega (arith, f), tt);
+  loosen = λ x f. f;
+}
+
+pub reads_i8 : Reads spelled_i8 (FitsSigned w8) i8_at
+reads_i8 = reads_mapped (cast_signed w8) (cast_unsigned w8) (λ (b : ℕ). b ∷ []) (λ b. b < 2 ^ 8) spelled_i8 (FitsSigned w8) first_byte
+    (λ n lt. ap (λ (b : ℕ). b ∷ []) (of_z-to_z w8 n lt))
+    (λ n lt. sfits_to_z {w = w8} {n = n} (record { fits = lt }))
+    (λ z f. refl)
+    (λ z f. (Fits-of_z {w = w8} {z = z} f).fits)
+    (λ z f. to_z-of_z w8 z f)
+    reads_byte
 
 -- ---- flags
 

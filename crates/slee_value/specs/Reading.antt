@@ -1,8 +1,9 @@
 -- Reading bytes from left to right, with the first byte that can't go on.
 use Rattle.std.specs.Prelude.{◌≡◌, ℕ, ℤ, zero, suc, ◌+◌, ◌-◌, Bool, true, false, ◌&&◌, ◌||◌, List, [], ◌∷◌, length, take, drop, slice_index, Option, Some, None, Result, Ok, Err, nat_lt, nat_le, ◌==◌, if◌then◌else◌}
-use Rattle.std.specs.Int.{Width, w32, w64, byte_len, from_le_bytes, cast_signed}
+use Rattle.std.specs.Int.{Width, w8, w32, w64, byte_len, from_le_bytes, cast_signed}
 use Rattle.std.specs.Str.{is_utf8}
 use Rattle.std.specs.Str.Lossy.{utf8_valid_len, utf8_invalid_len}
+use Rattle.slee_value.specs.declared.tag.TheConstants.{INT_TAG, TEXT_TAG, FLAG_TAG, ACTIVITY_TAG, TIMER_TAG}
 use Rattle.slee_value.specs.declared.value.Value.{Value}
 use Rattle.slee_value.specs.declared.value.Value.TheVariants.{Int, Text, Bool as Flag, Activity, Timer}
 use Rattle.slee_value.specs.declared.fault.ValueBad.{ValueBad}
@@ -56,6 +57,14 @@ pair first second bytes = first bytes >>= λ x. second x.1 >>= λ y. Ok ((x.0, y
 abbrev pub number_at : Width → List ℕ → Part ℕ
 number_at w bytes = if nat_lt (length bytes) (byte_len w) then ended else Ok (from_le_bytes w (take (byte_len w) bytes), drop (byte_len w) bytes)
 
+-- a byte, and one with a sign
+abbrev pub byte_at : List ℕ → Part ℕ
+byte_at [] = ended
+byte_at (b ∷ rest) = Ok (b, rest)
+
+abbrev pub i8_at : List ℕ → Part ℤ
+i8_at = mapped (cast_signed w8) byte_at
+
 -- a number of 64 bits with a sign
 abbrev pub i64_at : List ℕ → Part ℤ
 i64_at = mapped (cast_signed w64) (number_at w64)
@@ -66,6 +75,14 @@ flag_at [] = ended
 flag_at (zero ∷ rest) = Ok (false, rest)
 flag_at (suc zero ∷ rest) = Ok (true, rest)
 flag_at (suc (suc b) ∷ rest) = refuse (suc (suc b) ∷ rest) bad.Flag
+
+-- an option is a flag, and where that is set its item
+abbrev pub option_at : {A : Type 0} → (List ℕ → Part A) → List ℕ → Part (Option A)
+option_at read bytes = flag_at bytes >>= λ x. if x.0 then mapped (λ item. Some item) read x.1 else Ok (None, x.1)
+
+-- a count, and so many bytes of any kind
+abbrev pub bytes_at : List ℕ → Part (List ℕ)
+bytes_at bytes = number_at w32 bytes >>= λ n. if nat_lt (length n.1) n.0 then ended else Ok (take n.0 n.1, drop n.0 n.1)
 
 -- how many bytes a character takes that begins with this byte, and 0 where none does
 abbrev pub char_len : ℕ → ℕ
@@ -101,32 +118,34 @@ text_at bytes = do
   len ← number_at w32 bytes
   unless_fault (text_fault len.0 len.1) (take len.0 len.1, drop len.0 len.1)
 
+-- What is read behind each of some first bytes: the rows of a table.
+abbrev pub Rows : Type 0 → Type 0
+Rows A = List (ℕ × (List ℕ → Part A))
+
+-- no row has this first byte
+abbrev pub no_row : {A : Type 0} → List ℕ → Part A
+no_row bytes = Err (record { left = length bytes + 1; kind = bad.Tag })
+
+-- what is read behind this first byte
+abbrev pub row_of : {A : Type 0} → Rows A → ℕ → List ℕ → Part A
+row_of [] tag = no_row
+row_of (row ∷ rows) tag = if tag == row.0 then row.1 else row_of rows tag
+
+-- the part at the front of the bytes, by its first byte
+abbrev pub tagged : {A : Type 0} → Rows A → List ℕ → Part A
+tagged rows [] = ended
+tagged rows (tag ∷ bytes) = row_of rows tag bytes
+
 -- the values of each type, behind the byte for it
-abbrev pub int_at : List ℕ → Part Value
-int_at = mapped (λ n. Int n) i64_at
-
-abbrev pub text_value_at : List ℕ → Part Value
-text_value_at = mapped (λ text. Text text) text_at
-
-abbrev pub flag_value_at : List ℕ → Part Value
-flag_value_at = mapped (λ flag. Flag flag) flag_at
-
-abbrev pub activity_at : List ℕ → Part Value
-activity_at = mapped (λ n. Activity (record { 0 = n })) (number_at w64)
-
-abbrev pub timer_at : List ℕ → Part Value
-timer_at = mapped (λ n. Timer (record { 0 = n })) (number_at w64)
-
--- no value has this byte for its type
-abbrev pub no_type : List ℕ → Part Value
-no_type bytes = Err (record { left = length bytes + 1; kind = bad.Tag })
+abbrev pub values_by_tag : Rows Value
+values_by_tag =
+    (INT_TAG, mapped (λ n. Int n) i64_at)
+    ∷ (TEXT_TAG, mapped (λ text. Text text) text_at)
+    ∷ (FLAG_TAG, mapped (λ flag. Flag flag) flag_at)
+    ∷ (ACTIVITY_TAG, mapped (λ n. Activity (record { 0 = n })) (number_at w64))
+    ∷ (TIMER_TAG, mapped (λ n. Timer (record { 0 = n })) (number_at w64))
+    ∷ []
 
 -- the value at the front of the bytes, and the bytes behind it
 abbrev pub value_at : List ℕ → Part Value
-value_at [] = ended
-value_at (zero ∷ rest) = int_at rest
-value_at (suc zero ∷ rest) = text_value_at rest
-value_at (suc (suc zero) ∷ rest) = flag_value_at rest
-value_at (suc (suc (suc zero)) ∷ rest) = activity_at rest
-value_at (suc (suc (suc (suc zero))) ∷ rest) = timer_at rest
-value_at (suc (suc (suc (suc (suc b)))) ∷ rest) = no_type rest
+value_at = tagged values_by_tag

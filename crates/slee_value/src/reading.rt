@@ -1,21 +1,26 @@
+//! Reading: each of these reads the part at the front of the bytes, and gives the bytes behind it.
 ghost use Rattle.std.specs.Prelude.{◌≡◌, ◌≢◌, ℕ, ◌+◌, ◌<◌, ◌≤◌, List, length, take, drop, OnOk, IfOk, IfErr, IfSome, ◌++◌, slice_get, None, Some, Err, IsOk};
 ghost use Rattle.std.specs.Int.{w32, w64};
 ghost use Rattle.std.specs.Str.Lossy.{utf8_valid_len, utf8_error_len};
 ghost use Rattle.slee_value.specs.declared.value.Value.{Value as ValueModel};
 ghost use Rattle.slee_value.specs.Bytes.{spelling_of_value, Fits};
 ghost use Rattle.slee_value.specs.Values.{IsFront, IsRead, StandsRight, Answers};
-ghost use Rattle.slee_value.specs.Reading.{Gives, Fails, number_at, flag_at, text_at, text_fault, fault_behind, unless_fault, good_len, char_len, value_at};
+ghost use Rattle.slee_value.specs.Reading.{Gives, Fails, number_at, byte_at, i8_at, i64_at, flag_at, bytes_at, text_at, text_fault, fault_behind, unless_fault, good_len, char_len, value_at};
 
+use crate::tag::{ACTIVITY_TAG, FLAG_TAG, INT_TAG, TEXT_TAG, TIMER_TAG};
 use crate::{ActivityId, PartFault, Text, TimerId, Value, ValueBad, ValueFault};
 use std::alloc::Global;
 use std::str;
+
+/// How many bytes a count takes: a number of 32 bits.
+pub const COUNT_LEN: usize = 4;
 
 /// The number of 32 bits at the front, and the bytes behind it.
 pub fn read_u32(bytes: &[u8]) -> Result<(u32, &[u8]), PartFault>
     ensures part { Gives (λ x. (x.0, x.1.now)) result (number_at w32 bytes.now) }
     ensures memory { result ≢ Err PartFault.NoMemory }
 {
-    let Some((number, rest)) = bytes.split_first_chunk::<4>() else {
+    let Some((number, rest)) = bytes.split_first_chunk::<COUNT_LEN>() else {
         return Err(PartFault::Bad {
             left: 0,
             kind: ValueBad::Short,
@@ -57,23 +62,81 @@ pub fn read_flag(bytes: &[u8]) -> Result<(bool, &[u8]), PartFault>
     }
 }
 
-/// The text at the front, its length first, and the bytes behind it.
+/// The byte at the front, and the bytes behind it.
+pub fn read_u8(bytes: &[u8]) -> Result<(u8, &[u8]), PartFault>
+    ensures part { Gives (λ x. (x.0, x.1.now)) result (byte_at bytes.now) }
+    ensures memory { result ≢ Err PartFault.NoMemory }
+{
+    let Some((byte, rest)) = bytes.split_first() else {
+        return Err(PartFault::Bad {
+            left: 0,
+            kind: ValueBad::Short,
+        });
+    };
+    Ok((*byte, rest))
+}
+
+/// The byte with a sign at the front, and the bytes behind it.
+pub fn read_i8(bytes: &[u8]) -> Result<(i8, &[u8]), PartFault>
+    ensures part { Gives (λ x. (x.0, x.1.now)) result (i8_at bytes.now) }
+    ensures memory { result ≢ Err PartFault.NoMemory }
+{
+    let (byte, rest) = read_u8(bytes)?;
+    Ok((byte.cast_signed(), rest))
+}
+
+/// The number of 64 bits with a sign at the front, and the bytes behind it.
+pub fn read_i64(bytes: &[u8]) -> Result<(i64, &[u8]), PartFault>
+    ensures part { Gives (λ x. (x.0, x.1.now)) result (i64_at bytes.now) }
+    ensures memory { result ≢ Err PartFault.NoMemory }
+{
+    let (number, rest) = read_u64(bytes)?;
+    Ok((number.cast_signed(), rest))
+}
+
+/// So many bytes as the number of 32 bits at the front counts, and the bytes behind them.
+pub fn read_bytes(bytes: &[u8]) -> Result<(&[u8], &[u8]), PartFault>
+    ensures part { Gives (λ x. (x.0.now, x.1.now)) result (bytes_at bytes.now) }
+    ensures size { IfOk result (λ x. length x.0.now + length x.1.now + COUNT_LEN ≡ length bytes.now) }
+    ensures memory { result ≢ Err PartFault.NoMemory }
+{
+    let (len, rest) = read_u32(bytes)?;
+    let len = len as usize;
+    if rest.len() < len {
+        return Err(PartFault::Bad {
+            left: 0,
+            kind: ValueBad::Short,
+        });
+    }
+    Ok(rest.split_at(len))
+}
+
+/// The text at the front, its length first, and the bytes behind it. It is lent and takes no memory.
 #[tactic(auto, unfolding(crate::specs::Reading::text_at))]
+pub fn read_str(bytes: &[u8]) -> Result<(&str, &[u8]), PartFault>
+    ensures part { Gives (λ x. (x.0.now, x.1.now)) result (text_at bytes.now) }
+    ensures memory { result ≢ Err PartFault.NoMemory }
+{
+    let (len, rest) = read_u32(bytes)?;
+    let len = len as usize;
+    let text = str_of(len, rest)?;
+    Ok((text, &rest[len..]))
+}
+
+/// The same, copied.
 pub fn read_text(alloc: Global, bytes: &[u8]) -> Result<(Text, &[u8]), PartFault>
     ensures part { Gives (λ x. (x.0, x.1.now)) result (text_at bytes.now) }
     // Memory can run out only where a text stands.
     ensures memory { result ≡ Err PartFault.NoMemory → IsOk (text_at bytes.now) }
 {
-    let (len, rest) = read_u32(bytes)?;
-    let len = len as usize;
-    let text = text_of(alloc, len, rest)?;
-    Ok((text, &rest[len..]))
+    let (text, rest) = read_str(bytes)?;
+    Ok((Text::from_str(alloc, text)?, rest))
 }
 
-fn text_of(alloc: Global, len: usize, bytes: &[u8]) -> Result<Text, PartFault>
-    ensures text { Gives (λ x. x) result (unless_fault (text_fault len bytes.now) (take len bytes.now)) }
+fn str_of(len: usize, bytes: &[u8]) -> Result<&str, PartFault>
+    ensures text { Gives (λ t. t.now) result (unless_fault (text_fault len bytes.now) (take len bytes.now)) }
     ensures bound { OnOk result (len ≤ length bytes.now) }
-    ensures memory { result ≡ Err PartFault.NoMemory → text_fault len bytes.now ≡ None }
+    ensures memory { result ≢ Err PartFault.NoMemory }
 {
     let front = front_of(bytes, len);
     match str::from_utf8(front) {
@@ -88,7 +151,7 @@ fn text_of(alloc: Global, len: usize, bytes: &[u8]) -> Result<Text, PartFault>
                     kind: ValueBad::Short,
                 })
             } else {
-                Ok(Text::from_str(alloc, text)?)
+                Ok(text)
             }
         }
     }
@@ -164,7 +227,7 @@ pub fn read_value(alloc: Global, bytes: &[u8]) -> Result<(Value, usize), ValueFa
     // Which value or fault it is.
     ensures exact { Answers bytes.now result }
     // Memory can run out only where a text stands.
-    ensures memory { result ≡ Err ValueFault.NoMemory → (slice_get bytes.now 0 ≡ Some 1) × IsOk (value_at bytes.now) }
+    ensures memory { result ≡ Err ValueFault.NoMemory → (slice_get bytes.now 0 ≡ Some TEXT_TAG) × IsOk (value_at bytes.now) }
 {
     match read_part(alloc, bytes) {
         Ok((value, rest)) => Ok((value, bytes.len() - rest.len())),
@@ -180,30 +243,30 @@ pub fn read_value(alloc: Global, bytes: &[u8]) -> Result<(Value, usize), ValueFa
 pub fn read_part(alloc: Global, bytes: &[u8]) -> Result<(Value, &[u8]), PartFault>
     ensures part { Gives (λ x. (x.0, x.1.now)) result (value_at bytes.now) }
     // Memory can run out only where a text stands.
-    ensures memory { result ≡ Err PartFault.NoMemory → (slice_get bytes.now 0 ≡ Some 1) × IsOk (value_at bytes.now) }
+    ensures memory { result ≡ Err PartFault.NoMemory → (slice_get bytes.now 0 ≡ Some TEXT_TAG) × IsOk (value_at bytes.now) }
 {
     match bytes {
         [] => Err(PartFault::Bad {
             left: 0,
             kind: ValueBad::Short,
         }),
-        [0, rest @ ..] => {
-            let (number, rest) = read_u64(rest)?;
-            Ok((Value::Int(number.cast_signed()), rest))
+        [INT_TAG, rest @ ..] => {
+            let (number, rest) = read_i64(rest)?;
+            Ok((Value::Int(number), rest))
         }
-        [1, rest @ ..] => {
+        [TEXT_TAG, rest @ ..] => {
             let (text, rest) = read_text(alloc, rest)?;
             Ok((Value::Text(text), rest))
         }
-        [2, rest @ ..] => {
+        [FLAG_TAG, rest @ ..] => {
             let (flag, rest) = read_flag(rest)?;
             Ok((Value::Bool(flag), rest))
         }
-        [3, rest @ ..] => {
+        [ACTIVITY_TAG, rest @ ..] => {
             let (number, rest) = read_u64(rest)?;
             Ok((Value::Activity(ActivityId(number)), rest))
         }
-        [4, rest @ ..] => {
+        [TIMER_TAG, rest @ ..] => {
             let (number, rest) = read_u64(rest)?;
             Ok((Value::Timer(TimerId(number)), rest))
         }

@@ -10,6 +10,3 @@ pub use choice::Choice;
 pub use entry::Entry;
 pub use history::History;
 pub use lines::Lines;
-
-#[cfg(test)]
-mod tests;

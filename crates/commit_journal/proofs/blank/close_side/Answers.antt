@@ -1,5 +1,4 @@
-use Rattle.std.proofs.Common.{◌∙◌, arith}
-use Rattle.slee_disk.specs.Sides.{Sides, on}
+use Rattle.slee_disk.specs.Sides.{on}
 use Rattle.slee_disk.proofs.Moments.{reached_look, tells, on_ok, clean_told, clean_only}
 use Rattle.commit_journal.proofs.Blanks.{IsFirst, close_write, beside_look, seen_not_open, seen_closed}
 use Rattle.commit_journal.proofs.blank.close_side.Goals as goal

@@ -1,5 +1,4 @@
-use Rattle.std.proofs.Common.{◌≡◌, ◌∙◌, inl, inr, ⊎_elim, sym, subst, [], List, ℕ}
-use Rattle.slee_disk.specs.Sides.{Sides, on, other}
+use Rattle.std.proofs.Common.{sym, subst, [], List, ℕ}
 use Rattle.slee_disk.proofs.Moments.{tells, leaves_what, leaves_then, on_ok, clean_told}
 use Rattle.commit_journal.specs.Gate.{IsOpened}
 use Rattle.commit_journal.specs.Rewriting.{IsRewritten}

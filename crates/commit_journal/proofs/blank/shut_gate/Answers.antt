@@ -1,7 +1,7 @@
 use Rattle.std.proofs.Common.{◌<◌, ◌≤◌, length, arith}
-use Rattle.slee_disk.specs.Sides.{Sides, on}
+use Rattle.slee_disk.specs.Sides.{on}
 use Rattle.slee_disk.proofs.Moments.{reached_look, tells, on_ok, clean_told, clean_only}
-use Rattle.commit_journal.proofs.Blanks.{blank_start, blank_cut, blank_write, one_cut, one_written, one_there}
+use Rattle.commit_journal.proofs.Blanks.{blank_start, blank_cut, blank_write, one_cut}
 use Rattle.commit_journal.proofs.blank.shut_gate.Goals as goal
 
 pub returns-then-length-gt1-clause-any_moment : goal.returns-then-length-gt1-clause-any_moment

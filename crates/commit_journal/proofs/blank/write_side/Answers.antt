@@ -1,6 +1,6 @@
-use Rattle.std.proofs.Common.{◌≡◌, ◌<◌, ◌^◌, ◌∙◌, IsTrue, ap, sym, subst, arith, [], List, ℕ}
+use Rattle.std.proofs.Common.{◌∙◌, IsTrue, ap, sym, subst, arith, [], List, ℕ}
 use Rattle.slee_disk.specs.declared.side.Side.{Side}
-use Rattle.slee_disk.specs.Sides.{Sides, on, other}
+use Rattle.slee_disk.specs.Sides.{on, other}
 use Rattle.slee_disk.proofs.Moments.{tells, on_ok, clean_told, clean_only, clean_look}
 use Rattle.commit_journal.specs.Gate.{IsOpened}
 use Rattle.commit_journal.specs.Blank.{IsBlankOn}

@@ -1,4 +1,4 @@
-use Rattle.std.proofs.Common.{◌≡◌, ◌+◌, length, map, List, ℕ, ◌∷◌, subst}
+use Rattle.std.proofs.Common.{map, List, ℕ, subst}
 use Rattle.commit_journal.specs.Views.{payload_of}
 use Rattle.commit_journal.proofs.Found.{SoFar, goes_on, is_short, ended, found_more}
 use Rattle.commit_journal.proofs.reading.records_of.Goals as goal

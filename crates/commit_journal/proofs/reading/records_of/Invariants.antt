@@ -1,4 +1,4 @@
-use Rattle.std.proofs.Common.{◌≡◌, ◌+◌, ◌++◌, length, map}
+use Rattle.std.proofs.Common.{length, map}
 use Rattle.commit_journal.specs.Views.{payload_of}
 use Rattle.commit_journal.proofs.Found.{SoFar}
 use Rattle.commit_journal.proofs.reading.records_of.Given as goal

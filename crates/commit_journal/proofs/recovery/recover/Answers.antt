@@ -1,7 +1,5 @@
-use Rattle.std.proofs.Common.{◌≡◌, inl, inr, ap, sym, refl, ◌∙◌, subst, ◌+◌, ◌<◌, ◌^◌, length, map, List, ℕ, [], ◌∷◌, Some, Ok, Err, arith}
-use Rattle.slee_disk.specs.Sides.{Sides, on}
-use Rattle.commit_journal.specs.Reading.{payloads_of, with_records, recovered}
-use Rattle.commit_journal.specs.Views.{head_view, IsRecovered, IsCause, kept_found, payload_of, IsFresh}
+use Rattle.std.proofs.Common.{inl, inr, ap, sym, refl, ◌∙◌, subst, ◌+◌, ◌<◌, ◌^◌, length, map, List, ℕ, arith}
+use Rattle.commit_journal.specs.Views.{head_view, IsCause, kept_found, payload_of, IsFresh}
 use Rattle.commit_journal.proofs.Recovers.{if_ok, if_err, reads_wrong, reads_nothing, reads_records, stands_in, header_fits, head_fits, bytes_on, short_on, same_first, both_blank}
 use Rattle.commit_journal.proofs.recovery.recover.Goals as goal
 

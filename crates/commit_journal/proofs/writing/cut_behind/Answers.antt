@@ -1,6 +1,6 @@
 use Rattle.std.proofs.Common.{◌≡◌, ◌+◌, ◌∙◌, take, sym, subst, IsErr, IsTrue}
 use Rattle.slee_disk.specs.declared.side.Side.{Side}
-use Rattle.slee_disk.specs.Sides.{Sides, on, other, Cut, AtSide}
+use Rattle.slee_disk.specs.Sides.{Sides, Cut, AtSide}
 use Rattle.slee_disk.specs.Disk.{Changes}
 use Rattle.slee_disk.proofs.Moments.{reached_look, looks_leave, leaves_then, tells, on_ok, clean_only, clean_look, clean_of, settled_both}
 use Rattle.commit_journal.specs.Kept.{StandsFound, Keeps}

@@ -1,6 +1,6 @@
 use Rattle.std.proofs.Common.{sym, subst, take}
 use Rattle.slee_disk.specs.declared.side.Side.{Side}
-use Rattle.slee_disk.specs.Sides.{Sides, on, other}
+use Rattle.slee_disk.specs.Sides.{on, other}
 use Rattle.slee_disk.proofs.Moments.{leaves_what, on_ok, clean_told}
 use Rattle.commit_journal.specs.Gate.{IsShutOrOpen, IsOpened}
 use Rattle.commit_journal.specs.Kept.{KeepsOrMore}

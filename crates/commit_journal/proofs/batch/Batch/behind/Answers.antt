@@ -1,4 +1,4 @@
-use Rattle.std.proofs.Common.{◌≡◌, ◌≢◌, ◌+◌, ◌-◌, ◌∷◌, [], List, ℕ, length, take, drop, ap, sym, ◌∙◌, subst, arith, length-take, length-drop}
+use Rattle.std.proofs.Common.{◌≡◌, ◌-◌, ◌∷◌, List, ℕ, length, take, drop, ap, sym, ◌∙◌, arith, length-take, length-drop}
 use Rattle.commit_journal.specs.Spelling.{records_size}
 use Rattle.commit_journal.specs.Kept.{batched}
 use Rattle.commit_journal.specs.Batch.{payloads_in}

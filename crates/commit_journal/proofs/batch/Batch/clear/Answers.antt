@@ -1,4 +1,4 @@
-use Rattle.std.proofs.Common.{◌+◌, ◌<◌, length, ap, ◌∙◌, arith}
+use Rattle.std.proofs.Common.{ap, ◌∙◌, arith}
 use Rattle.commit_journal.specs.Batch.{payloads_in}
 use Rattle.commit_journal.proofs.Batches.{emptied, some_bytes, none_is_batch, payloads_in_none}
 use Rattle.commit_journal.proofs.batch.Batch.clear.Goals as goal

@@ -1,4 +1,4 @@
-use Rattle.std.proofs.Common.{◌≡◌, ◌++◌, ◌∷◌, [], List, ℕ, ap, ◌∙◌}
+use Rattle.std.proofs.Common.{◌++◌, ◌∷◌, [], List, ℕ, ap, ◌∙◌}
 use Rattle.commit_journal.specs.Batch.{payloads_in}
 use Rattle.commit_journal.proofs.Batches.{none_is_batch, payloads_in_none}
 use Rattle.commit_journal.proofs.batch.Batch.new.Goals as goal

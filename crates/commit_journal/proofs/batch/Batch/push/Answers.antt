@@ -1,8 +1,6 @@
-use Rattle.std.proofs.Common.{◌≡◌, ◌<◌, ◌-◌, ◌++◌, ◌∷◌, [], List, ℕ, length, set, ap, sym, ◌∙◌, arith}
+use Rattle.std.proofs.Common.{◌≡◌, ◌<◌, ◌-◌, ◌++◌, ◌∷◌, [], List, ℕ, length, set, ap, ◌∙◌, arith}
 use Rattle.std.proofs.lemmas.List.{set-append_left}
 use Rattle.commit_journal.specs.Spelling.{text}
-use Rattle.commit_journal.specs.Kept.{batched}
-use Rattle.commit_journal.specs.Batch.{payloads_in}
 use Rattle.commit_journal.proofs.Batches.{some_bytes, more_in, more_is_batch, more_payloads}
 use Rattle.commit_journal.proofs.batch.Batch.push.Goals as goal
 

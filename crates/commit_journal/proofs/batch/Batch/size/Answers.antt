@@ -1,4 +1,4 @@
-use Rattle.std.proofs.Common.{◌≡◌, ◌+◌, ◌-◌, length, ap, ◌∙◌, arith}
+use Rattle.std.proofs.Common.{◌≡◌, ◌-◌, length, ap, ◌∙◌, arith}
 use Rattle.commit_journal.specs.Spelling.{records_size}
 use Rattle.commit_journal.specs.Batch.{payloads_in}
 use Rattle.commit_journal.proofs.Batches.{some_bytes}

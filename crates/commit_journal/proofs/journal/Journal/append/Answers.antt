@@ -1,7 +1,5 @@
-use Rattle.std.proofs.Common.{◌≡◌, ap, sym, refl, ◌∙◌, ◌+◌, ◌<◌, ◌≤◌, length, List, ℕ, [], ◌∷◌, ◌++◌, arith}
-use Rattle.commit_journal.specs.declared.stage.Stage.TheVariants.{Ready}
+use Rattle.std.proofs.Common.{ap, refl, ◌∙◌, arith}
 use Rattle.commit_journal.specs.declared.fault.AppendFault.TheVariants as AppendFault
-use Rattle.commit_journal.specs.Spelling.{records_size, size}
 use Rattle.commit_journal.proofs.Sound.{size_with, sound_more, only_error}
 use Rattle.commit_journal.proofs.journal.Journal.append.Goals as goal
 

@@ -1,14 +1,11 @@
-use Rattle.std.proofs.Common.{◌≡◌, ◌≢◌, inl, inr, ap, sym, refl, ◌∙◌, subst, ◌+◌, ◌<◌, ◌≤◌, ◌^◌, IsTrue, List, ℕ, [], ◌∷◌, ◌++◌, length, arith}
-use Rattle.slee_disk.specs.Sides.{Sides}
+use Rattle.std.proofs.Common.{◌≡◌, inl, inr, ap, sym, refl, ◌∙◌, subst, ◌≤◌, List, ℕ, [], ◌∷◌, ◌++◌, length, arith}
 use Rattle.slee_disk.proofs.Moments.{leaves_what, clean_told}
 use Rattle.commit_journal.specs.declared.stage.Stage.{Stage}
-use Rattle.commit_journal.specs.declared.stage.Stage.TheVariants as stages
 use Rattle.commit_journal.specs.Spelling.{header, size}
-use Rattle.commit_journal.specs.Reading.{Kept}
-use Rattle.commit_journal.specs.Kept.{Keeps, StandsOrBegun}
-use Rattle.commit_journal.specs.Journal.{View, kept_by, IsSound}
+use Rattle.commit_journal.specs.Kept.{StandsOrBegun}
+use Rattle.commit_journal.specs.Journal.{kept_by, IsSound}
 use Rattle.commit_journal.proofs.Sound.{runs, sound_seen}
-use Rattle.commit_journal.proofs.Begins.{idle_leaves, clean_images, found_in, same_payloads, keeps_on, whole_on, same_kept, cut_sound, cut_leaves, stands_begun, head_fits, is_header, begun_stands, begun_image, begun_sound, blank_payloads}
+use Rattle.commit_journal.proofs.Begins.{idle_leaves, clean_images, found_in, same_payloads, keeps_on, whole_on, same_kept, cut_sound, head_fits, is_header, begun_stands, begun_image, begun_sound, blank_payloads}
 use Rattle.commit_journal.proofs.Rewrites.{spelled_here}
 use Rattle.commit_journal.proofs.Bytes.{written_on, cut_size}
 use Rattle.commit_journal.proofs.journal.Journal.begin.Goals as goal

@@ -1,9 +1,9 @@
-use Rattle.std.proofs.Common.{◌≡◌, ◌≢◌, ap, sym, refl, ◌∙◌, subst, ◌+◌, ◌<◌, IsTrue, List, ℕ, [], ◌∷◌, ◌++◌, arith}
-use Rattle.slee_disk.proofs.Moments.{leaves_what, clean_told}
-use Rattle.commit_journal.specs.Kept.{StandsOrMore, with_more}
-use Rattle.commit_journal.specs.Journal.{View, kept_by}
+use Rattle.std.proofs.Common.{ap, refl, [], arith}
+use Rattle.slee_disk.proofs.Moments.{clean_told}
+use Rattle.commit_journal.specs.Kept.{with_more}
+use Rattle.commit_journal.specs.Journal.{kept_by}
 use Rattle.commit_journal.proofs.Writes.{stands_ends}
-use Rattle.commit_journal.proofs.Sound.{runs, not_so, whole_in, flushed_whole, sound_seen, ready_if, clean_stands, nothing_done, as_ready, flushed_payloads, flushed_seen, flushed_sound, same_view}
+use Rattle.commit_journal.proofs.Sound.{runs, not_so, whole_in, flushed_whole, sound_seen, ready_if, clean_stands, nothing_done, flushed_payloads, flushed_seen, flushed_sound, same_view}
 use Rattle.commit_journal.proofs.Bytes.{written_on}
 use Rattle.commit_journal.proofs.journal.Journal.flush.Goals as goal
 

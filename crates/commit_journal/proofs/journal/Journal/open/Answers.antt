@@ -1,4 +1,3 @@
-use Rattle.std.proofs.Common.{◌≡◌, refl}
 use Rattle.commit_journal.proofs.Opens.{fresh_runs, opened_sound, opened_as, opened_seen, opened_records}
 use Rattle.commit_journal.proofs.journal.Journal.open.Goals as goal
 

@@ -1,11 +1,10 @@
-use Rattle.std.proofs.Common.{◌≡◌, ◌≢◌, IsTrue, inl, ap, sym, refl, ◌∙◌, subst, List, ℕ, [], ◌∷◌, ◌++◌, arith}
+use Rattle.std.proofs.Common.{◌≡◌, ◌≢◌, IsTrue, ap, sym, refl, ◌∙◌, subst, List, ℕ, []}
 use Rattle.slee_disk.specs.Sides.{other}
 use Rattle.slee_disk.specs.Disk.{LeavesOnly}
 use Rattle.slee_disk.proofs.Moments.{clean_told, on_ok, tells}
 use Rattle.commit_journal.specs.declared.stage.Stage.TheVariants.{Ready}
 use Rattle.commit_journal.specs.Kept.{StandsOrRenewed, with_more, side_renewed}
 use Rattle.commit_journal.specs.Written.{IsWritten, IsUntouched}
-use Rattle.commit_journal.specs.Journal.{View}
 use Rattle.commit_journal.proofs.Sound.{runs, sound_seen, ready_if, nothing_done}
 use Rattle.commit_journal.proofs.Renewals.{moved, renewed_idle}
 use Rattle.commit_journal.proofs.Bytes.{beside_ready}

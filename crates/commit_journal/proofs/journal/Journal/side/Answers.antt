@@ -1,4 +1,3 @@
-use Rattle.std.proofs.Common.{◌≡◌, ap, ◌∙◌}
 use Rattle.commit_journal.proofs.Sizes.{length-stands}
 use Rattle.commit_journal.proofs.journal.Journal.side.Goals as goal
 

@@ -1,13 +1,13 @@
-use Rattle.std.proofs.Common.{◌≡◌, ap, sym, refl, ◌∙◌, subst, ◌<◌, ◌≤◌, ◌^◌, length, IsTrue, List, ℕ, [], ◌∷◌, ◌++◌, arith}
+use Rattle.std.proofs.Common.{◌≡◌, ap, refl, subst, ◌<◌, ◌≤◌, ◌^◌, length, IsTrue, [], ◌∷◌, ◌++◌, arith}
 use Rattle.slee_disk.specs.declared.side.Side.{Side}
-use Rattle.slee_disk.specs.Sides.{Sides, on, other}
+use Rattle.slee_disk.specs.Sides.{on, other}
 use Rattle.slee_disk.specs.Disk.{LeavesOnly}
 use Rattle.slee_disk.proofs.Moments.{clean_told}
 use Rattle.commit_journal.specs.Spelling.{header, size}
 use Rattle.commit_journal.specs.Gate.{IsOpened}
 use Rattle.commit_journal.specs.Rewriting.{IsRewritten}
 use Rattle.commit_journal.specs.Kept.{renewed, side_renewed, generation_renewed}
-use Rattle.commit_journal.specs.Journal.{View, kept_by}
+use Rattle.commit_journal.specs.Journal.{kept_by}
 use Rattle.commit_journal.proofs.Sound.{runs}
 use Rattle.commit_journal.proofs.Renewals.{moved, new_head_fits, switched_stands, switched_sound, switched_seen, switched_whole, switched_kept, switched_leaves, view_kept}
 use Rattle.commit_journal.proofs.Rewrites.{spelled_here}

@@ -1,0 +1,247 @@
+#!/usr/bin/env python3
+"""Deployments and the first fault of each, worked out by hand from docs/FORMATS.md, and a check that the definitions of
+slee_descriptor say the same. Usage: deployment_rows.py RUNDEFS [ROOT], where RUNDEFS is the folder of a program that
+evaluates definitions (module `rundefs`); with no fault the answer is None."""
+import sys
+
+
+def item(key, **members):
+    return {"key": key, "name": key, "vendor": "t", "version": "1", **members}
+
+
+def on(event, **members):
+    return {"event": event, "on": "", **members}
+
+
+def deployment(events=(), profiles=(), tables=None, blocks=(), services=()):
+    return {"events": list(events), "profiles": list(profiles), "tables": tables or {},
+            "blocks": list(blocks), "services": list(services)}
+
+
+def block_with(**members):
+    return deployment(events=[item("ping", fields={"addr": "text", "n": "int"})], blocks=[item("b", **members)])
+
+
+LONG = "k" * 64
+PING = item("ping")
+
+ROWS = [
+    ("nothing", deployment(), None),
+    ("prepaid", deployment(
+        events=[{"key": "invite", "name": "Invite", "vendor": "demo", "version": "1.0", "fields": {"addr": "text"}}],
+        profiles=[item("account", attributes={"seconds": "int"})], tables={"accounts": "account"},
+        blocks=[item("call", fields={"who": "text"}, events=[
+            on("invite", initial=["activity"]), on("timer"), on("activity-end")])],
+        services=[item("prepaid", root="call", active=True)]), None),
+    # keys and components
+    ("key of 64 bytes", deployment(events=[item(LONG)]), None),
+    ("key twice", deployment(events=[PING, item("ping", version="2")]), "/events/1/key repeated"),
+    ("first key that stands twice", deployment(events=[item("a"), item("b"), item("b", version="2"), item("a", version="3")]),
+     "/events/2/key repeated"),
+    ("one key in two lists", deployment(events=[item("a")], blocks=[item("a")], profiles=[item("a")],
+                                        services=[item("a", root="a")]), None),
+    ("event with the key timer", deployment(events=[item("timer")]), "/events/0/key repeated"),
+    ("block with the key timer", deployment(blocks=[item("timer")]), None),
+    ("empty name", deployment(events=[item("a", name="")]), "/events/0/name range"),
+    ("name of 256 bytes", deployment(events=[item("a", name="n" * 256)]), None),
+    ("name of 257 bytes", deployment(events=[item("a", name="n" * 257)]), "/events/0/name range"),
+    ("empty vendor", deployment(profiles=[item("a", vendor="")]), "/profiles/0/vendor range"),
+    ("version of 257 bytes", deployment(blocks=[item("a", version="v" * 257)]), "/blocks/0/version range"),
+    ("component twice", deployment(events=[item("a", name="x"), item("b", name="x")]), "/events/1/version repeated"),
+    ("component twice in two lists", deployment(events=[item("a")], blocks=[item("b", name="a")]), None),
+    ("components that differ in the vendor", deployment(events=[item("a", name="x"), item("b", name="x", vendor="u")]), None),
+    ("components with one text in all", deployment(events=[item("a", name="x", vendor="yz"), item("b", name="xy", vendor="z")]), None),
+    ("component of a later key fault", deployment(services=[item("s", root="b"), item("s", root="b")], blocks=[item("b")]),
+     "/services/1/key repeated"),
+    ("range of a name before a component that stands twice", deployment(blocks=[item("a", name=""), item("b", name="")]),
+     "/blocks/0/name range"),
+    # profiles and tables
+    ("attribute of a profile that is an activity", deployment(profiles=[item("p", attributes={"a": "int", "z": "activity"})]),
+     "/profiles/0/attributes/z range"),
+    ("attribute of a profile that is a timer", deployment(profiles=[item("p", attributes={"a": "timer", "b": "activity"})]),
+     "/profiles/0/attributes/a range"),
+    ("unique attribute twice", deployment(profiles=[item("p", attributes={"a": "int"}, unique=["a", "a"])]), None),
+    ("unique attribute that isn't there", deployment(profiles=[item("p", attributes={"a": "int"}, unique=["a", "b"])]),
+     "/profiles/0/unique/1 unknown-name"),
+    ("unique attribute of another profile", deployment(profiles=[item("p", attributes={"a": "int"}), item("q", unique=["a"])]),
+     "/profiles/1/unique/0 unknown-name"),
+    ("type before unique", deployment(profiles=[item("p", attributes={"a": "timer"}, unique=["b"])]), "/profiles/0/attributes/a range"),
+    ("table of no profile", deployment(tables={"t": "p"}), "/tables/t unknown-name"),
+    ("second table of no profile", deployment(profiles=[item("p")], tables={"a": "p", "b": "q", "c": "r"}), "/tables/b unknown-name"),
+    ("tables of one profile", deployment(profiles=[item("p")], tables={"a": "p", "b": "p"}), None),
+    ("table of a block's key", deployment(blocks=[item("p")], tables={"a": "p"}), "/tables/a unknown-name"),
+    # fields, attributes, aliases
+    ("fields of all types", block_with(fields={"a": "activity", "b": "bool", "c": "int", "d": "text", "e": "timer"}), None),
+    ("event field that is a timer", deployment(events=[item("a", fields={"t": "timer", "u": "activity"})]), None),
+    ("alias of no attribute", block_with(attributes={"a": "int"}, aliases={"b": "x"}), "/blocks/0/aliases/b unknown-name"),
+    ("alias of a field", block_with(fields={"a": "int"}, aliases={"a": "x"}), "/blocks/0/aliases/a unknown-name"),
+    ("alias of two types in one block", block_with(attributes={"a": "int", "b": "text"}, aliases={"a": "x", "b": "x"}),
+     "/blocks/0/aliases/b alias"),
+    ("alias of two types in two blocks", deployment(blocks=[
+        item("b", attributes={"a": "int"}, aliases={"a": "x"}), item("c", attributes={"a": "text"}, aliases={"a": "x"})]),
+     "/blocks/1/aliases/a alias"),
+    ("alias of one type in two blocks", deployment(blocks=[
+        item("b", attributes={"a": "int"}, aliases={"a": "x"}), item("c", attributes={"z": "int"}, aliases={"z": "x"})]), None),
+    ("alias of the first type of three", deployment(blocks=[
+        item("b", attributes={"a": "int"}, aliases={"a": "x"}), item("c", attributes={"a": "int"}, aliases={"a": "x"}),
+        item("d", attributes={"a": "bool"}, aliases={"a": "x"})]), "/blocks/2/aliases/a alias"),
+    ("alias with the name of an attribute", block_with(attributes={"a": "int", "x": "text"}, aliases={"a": "x"}), None),
+    # relations and methods
+    ("relation to a later block", deployment(blocks=[item("b", relations={"r": {"block": "c"}}), item("c")]), None),
+    ("relation to its own block", block_with(relations={"r": {"block": "b", "priority": -128}}), None),
+    ("relation to no block", block_with(relations={"r": {"block": "b"}, "s": {"block": "d", "priority": 127}}),
+     "/blocks/0/relations/s/block unknown-name"),
+    ("method without parameters", block_with(methods={"m": {"do": ""}}), None),
+    ("parameter twice", block_with(methods={"a": {"do": ""}, "m": {"params": [
+        {"name": "x", "type": "int"}, {"name": "y", "type": "int"}, {"name": "x", "type": "text"}], "do": ""}}),
+     "/blocks/0/methods/m/params/2/name repeated"),
+    ("parameters of two methods", block_with(methods={"a": {"params": [{"name": "x", "type": "int"}], "do": ""},
+                                                      "b": {"params": [{"name": "x", "type": "int"}], "do": ""}}), None),
+    # events of a block
+    ("event that isn't there", block_with(events=[on("ping"), on("pong")]), "/blocks/0/events/1/event unknown-name"),
+    ("event that is no name", block_with(events=[on("no name")]), "/blocks/0/events/0/event unknown-name"),
+    ("built-in events", block_with(events=[on(e) for e in (
+        "activity-end", "timer", "service-started", "profile-added", "profile-updated", "profile-removed")]), None),
+    ("event twice", block_with(events=[on("timer"), on("ping"), on("timer")]), "/blocks/0/events/2/event repeated"),
+    ("event in two blocks", deployment(events=[PING], blocks=[item("b", events=[on("ping")]), item("c", events=[on("ping")])]), None),
+    ("initial by no variable", block_with(events=[on("ping", initial=[])]), None),
+    ("initial by all variables", block_with(events=[on("ping", initial=["event", "activity", "address", "event-type", "custom"],
+                                                       custom={"rule": "whole", "field": "addr"})]), None),
+    ("word that is no variable", block_with(events=[on("ping", initial=["activity", "name"])]), "/blocks/0/events/0/initial/1 range"),
+    ("variable twice", block_with(events=[on("ping", initial=["event", "activity", "event"])]), "/blocks/0/events/0/initial/2 repeated"),
+    ("no variable, then one twice", block_with(events=[on("ping", initial=["x", "event", "event"])]), "/blocks/0/events/0/initial/0 range"),
+    ("initial end of an activity", block_with(events=[on("activity-end", initial=["x", "x"])]), "/blocks/0/events/0/initial range"),
+    ("initial timer", block_with(events=[on("timer", initial=["activity"])]), None),
+    ("custom without its rule", block_with(events=[on("ping", initial=["custom"])]), "/blocks/0/events/0/custom missing"),
+    ("rule without custom", block_with(events=[on("ping", initial=["activity"], custom={"rule": "x", "field": "x"})]),
+     "/blocks/0/events/0/custom range"),
+    ("rule of an event that isn't initial", block_with(events=[on("ping", custom={"rule": "whole", "field": "addr"})]),
+     "/blocks/0/events/0/custom range"),
+    ("rule that isn't there", block_with(events=[on("ping", initial=["custom"], custom={"rule": "half", "field": "x"})]),
+     "/blocks/0/events/0/custom/rule range"),
+    ("field of a rule that isn't there", block_with(events=[on("ping", initial=["custom"], custom={"rule": "digits3", "field": "x"})]),
+     "/blocks/0/events/0/custom/field unknown-name"),
+    ("field of a rule that is no text", block_with(events=[on("ping", initial=["custom"], custom={"rule": "scheme", "field": "n"})]),
+     "/blocks/0/events/0/custom/field range"),
+    ("row of a built-in event", block_with(events=[on("profile-added", initial=["custom"], custom={"rule": "screened", "field": "row"})]), None),
+    ("timer of a built-in event", block_with(events=[on("timer", initial=["custom"], custom={"rule": "whole", "field": "which"})]),
+     "/blocks/0/events/0/custom/field range"),
+    ("variable twice before the rule", block_with(events=[on("ping", initial=["custom", "custom"])]), "/blocks/0/events/0/initial/1 repeated"),
+    # services
+    ("root that isn't there", deployment(services=[item("a", root="b")]), "/services/0/root unknown-name"),
+    ("roots at both ends", deployment(blocks=[item("b")], services=[item("a", root="b", priority=-128), item("c", root="b", priority=127)]), None),
+    ("root of an event's key", deployment(events=[item("b")], services=[item("a", root="b")]), "/services/0/root unknown-name"),
+    # which of two faults
+    ("profile before block", deployment(profiles=[item("p", unique=["x"])], blocks=[item("b", aliases={"a": "x"})]),
+     "/profiles/0/unique/0 unknown-name"),
+    ("table before block", deployment(tables={"t": "p"}, blocks=[item("b", name="")]), "/tables/t unknown-name"),
+    ("alias before relation before event", block_with(aliases={"a": "x"}, relations={"r": {"block": "x"}}, events=[on("x")]),
+     "/blocks/0/aliases/a unknown-name"),
+    ("relation before event", block_with(relations={"r": {"block": "x"}}, events=[on("x")], methods={"m": {
+        "params": [{"name": "x", "type": "int"}, {"name": "x", "type": "int"}], "do": ""}}), "/blocks/0/relations/r/block unknown-name"),
+    ("event before method", block_with(events=[on("x")], methods={"m": {
+        "params": [{"name": "x", "type": "int"}, {"name": "x", "type": "int"}], "do": ""}}), "/blocks/0/events/0/event unknown-name"),
+    ("later block's key before an earlier service", deployment(blocks=[item("b"), item("b")], services=[item("s", root="x")]),
+     "/blocks/1/key repeated"),
+    ("relation to a block with faults of its own", deployment(blocks=[item("b", relations={"r": {"block": "c"}}), item("c", name="")]),
+     "/blocks/1/name range"),
+]
+
+KIND = {"int": "Int", "text": "Text", "bool": "Bool", "activity": "Activity", "timer": "Timer"}
+BAD = {"Missing": "missing", "Repeated": "repeated", "UnknownName": "unknown-name", "Range": "range", "Alias": "alias"}
+
+
+class Builder:
+    """Parts as the definitions see them."""
+
+    def __init__(self, rundefs, root):
+        self.rundefs = rundefs
+        self.world = rundefs.load(root)
+        found = {word: self.world.variant("slee_value.kind.Kind", name) for word, name in KIND.items()}
+        self.kinds = {word: getattr(kind, "value", kind) for word, kind in found.items()}
+
+    def record(self, kind_of_row, /, **fields):
+        return self.world.record(f"slee_descriptor.parts.{kind_of_row}", **fields)
+
+    def text(self, s):
+        return self.rundefs.codes(s)
+
+    def kind(self, word):
+        return self.kinds[word]
+
+    def fields(self, members):
+        return tuple(self.rundefs.Tup((self.text(n), self.kind(k))) for n, k in sorted(members.items()))
+
+    def option(self, value, make):
+        return self.rundefs.NONE if value is None else self.rundefs.SOME(make(value))
+
+    def head(self, x):
+        ids = self.world.record("slee_value.component.ComponentId", name=self.text(x["name"]), vendor=self.text(x["vendor"]),
+                                version=self.text(x["version"]))
+        return {"key": self.text(x["key"]), "id": ids}
+
+    def script(self, _):
+        return ()
+
+    def block_event(self, h):
+        return self.record(
+            "BlockEvent", event=self.text(h["event"]),
+            initial=self.option(h.get("initial"), lambda ws: tuple(self.text(w) for w in ws)),
+            custom=self.option(h.get("custom"), lambda c: self.record("CustomRule", rule=self.text(c["rule"]), field=self.text(c["field"]))),
+            mask=h.get("mask", False), on=self.script(h["on"]))
+
+    def method(self, name, m):
+        params = tuple(self.rundefs.Tup((self.text(p["name"]), self.kind(p["type"]))) for p in m.get("params", []))
+        return self.record("Method", name=self.text(name), params=params, returns=self.option(m.get("returns"), self.kind),
+                           body=self.script(m["do"]))
+
+    def block(self, b):
+        names = sorted(b.get("aliases", {}).items())
+        relations = sorted(b.get("relations", {}).items())
+        return self.record(
+            "Block", **self.head(b), fields=self.fields(b.get("fields", {})), attributes=self.fields(b.get("attributes", {})),
+            aliases=tuple(self.rundefs.Tup((self.text(a), self.text(x))) for a, x in names),
+            relations=tuple(self.record("Relation", name=self.text(n), block=self.text(r["block"]), priority=r.get("priority", 0))
+                            for n, r in relations),
+            events=tuple(self.block_event(h) for h in b.get("events", [])),
+            methods=tuple(self.method(n, m) for n, m in sorted(b.get("methods", {}).items())),
+            exception=self.option(b.get("exception"), self.script), rolled_back=self.option(b.get("rolled_back"), self.script),
+            remove=self.option(b.get("remove"), self.script))
+
+    def parts(self, d):
+        return self.record(
+            "Parts",
+            events=tuple(self.record("EventType", **self.head(e), fields=self.fields(e.get("fields", {}))) for e in d["events"]),
+            profiles=tuple(self.record("ProfileSpec", **self.head(p), attributes=self.fields(p.get("attributes", {})),
+                                       unique=tuple(self.text(u) for u in p.get("unique", []))) for p in d["profiles"]),
+            tables=tuple(self.record("Table", name=self.text(n), profile=self.text(p)) for n, p in sorted(d["tables"].items())),
+            blocks=tuple(self.block(b) for b in d["blocks"]),
+            services=tuple(self.record("Service", **self.head(s), root=self.text(s["root"]), priority=s.get("priority", 0),
+                                       active=s.get("active", False)) for s in d["services"]))
+
+
+def answer(fault):
+    if fault.con.name == "None":
+        return None
+    found = fault.args[0]
+    return bytes(found.path).decode() + " " + BAD[found.kind.con.name]
+
+
+def main():
+    sys.path.insert(0, sys.argv[1])
+    import rundefs
+    root = sys.argv[2] if len(sys.argv) > 2 else "."
+    builder = Builder(rundefs, root)
+    fault_of = builder.world.eval("slee_descriptor.specs.Tables.parts_fault")
+    wrong = 0
+    for name, row, wanted in ROWS:
+        found = rundefs.deep(lambda row=row: answer(fault_of(builder.parts(row))))
+        if found != wanted:
+            wrong += 1
+            print(f"{name}: {found}, and by hand {wanted}")
+    print(f"{len(ROWS)} rows, {wrong} differ")
+    sys.exit(1 if wrong else 0)
+
+
+if __name__ == "__main__":
+    main()

@@ -1,0 +1,11 @@
+//! Tests of values, effects, signal lines and histories, by their public calls.
+#![tactic(auto)]
+
+#[cfg(test)]
+mod effects;
+#[cfg(test)]
+mod histories;
+#[cfg(test)]
+mod signal_lines;
+#[cfg(test)]
+mod values;
