@@ -3,8 +3,8 @@
 
     python3 bench/fuzz_scripts.py [COUNT] [SEED]
 
-It makes COUNT scripts from the grammar, spoils most of them a little, and asks both what each is; each good one has to be
-printed, read and printed again alike. Build the program first: cd crates/lang_rows && rt run < stdin
+It makes COUNT scripts from the grammar, spoils most of them a little, and asks both what each is and how a good one is laid
+out; each good one has to be printed, read and printed again alike. Build the program first: cd crates/lang_rows && rt run < stdin
 """
 import os
 import random
@@ -17,7 +17,7 @@ PROGRAM = os.path.join(HERE, "..", "crates", "lang_rows", "out", "lang_rows")
 ONE = ("text", "len", "active", "attached", "bound", "lookup", "has_timer")
 NAMED = ("table", "count", "priority")
 CONSTANTS = ("true", "false", "none", "now", "activity", "failure")
-VERBS = ("end", "cancel", "unbind", "emit", "return", "throw")
+VERBS = ("end", "cancel", "unbind", "emit", "return", "throw", "suspend", "resume")
 WORDS = set(ONE + NAMED + CONSTANTS + VERBS) | set(
     "masked attr profile has_profile self event or and not let if else while for in activities create as remove attach to "
     "detach from mask on unmask fire null timer at every times keep all last bind usage call rollback".split()
@@ -246,7 +246,30 @@ class Reader:
             before = self.text[:place]
             return f"{before.count(10) + 1}:{place - (before.rfind(10) + 1) + 1} {kind}"
         letters = {"word": "w", "name": "w", "int": "i", "text": "t", "sign": "s"}
-        return f"script {self.count} {''.join(letters[kind] for kind, _, _ in self.tokens)} again"
+        head = f"script {self.count} {''.join(letters[kind] for kind, _, _ in self.tokens)} again"
+        return "\n".join([head] + ["  | " + line for line in laid_out([(kind, text) for kind, text, _ in self.tokens])])
+
+
+CALLED = ONE + NAMED + ("masked", "attr", "profile", "has_profile")
+
+
+def laid_out(tokens):
+    """The lines of a script's text: no blank before . ; , : and ), none behind ( and ., none between a function and its (."""
+    words = [text if kind in ("word", "sign") else "" for kind, text in tokens]
+    lines, line, depth = [], "", 0
+    for at, (_, text) in enumerate(tokens):
+        before, here = (words[at - 1] if at else None), words[at]
+        if before is None or here in (".", ";", ",", ":", ")") and here or before in ("(", "."):
+            line += text
+        elif before in CALLED and here == "(":
+            line += text
+        elif before in (";", "{") or here == "}" or (before == "}" and here != "else"):
+            lines.append(line)
+            line = "  " * (depth - (here == "}")) + text
+        else:
+            line += " " + text
+        depth += (here == "{") - (here == "}")
+    return lines + [line] if tokens else []
 
 
 NAMES = ("x", "leg", "ends", "selfish", "a" * 64, "count_of")
@@ -317,7 +340,12 @@ def main():
     done = subprocess.run([PROGRAM], input="\n%\n".join(texts).encode(), capture_output=True)
     if done.returncode != 0:
         sys.exit(f"reading ended with {done.returncode}")
-    answers = done.stdout.decode().splitlines()
+    answers = []
+    for line in done.stdout.decode().split("\n")[:-1]:
+        if line.startswith("  | "):
+            answers[-1] += "\n" + line
+        else:
+            answers.append(line)
     wrong = 0
     kinds = {}
     for text, answer in zip(texts, answers, strict=True):

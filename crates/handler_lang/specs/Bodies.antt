@@ -10,6 +10,7 @@ use Rattle.handler_lang.specs.declared.statement.BlockWord.TheVariants as words
 use Rattle.script_expression.specs.declared.refusal.ReadError.{ReadError}
 use Rattle.script_expression.specs.declared.refusal.ReadError.TheVariants as errors
 use Rattle.script_expression.specs.Takes.{begins}
+use Rattle.script_tree.specs.Spelling.{braced, spell_statements}
 use Rattle.script_tree.specs.Tree as tree
 use Rattle.script_tree.specs.Tree.{Statements}
 use Rattle.script_tree.specs.Grammar.{Part, Item, Faulty, verdict, stmt_after, Stmts, ABlock, Block, Making, make}
@@ -22,6 +23,7 @@ starts_stmt (token ∷ ts) = begins (stmt_after token)
 -- statements were taken, so many of them
 pub record TookStmts (more : List Part) (d : ℕ) (ts : List Lexeme) (body : Statements) (good : Bool) (rest : List Lexeme) : Type 0 where
   pub shorter : length rest ≤ length ts
+  pub spelled : ts ≡ spell_statements body ++ rest
   pub good_one : IsTrue good
   pub goes_on : (ps : List Part) (is : List Item) → verdict (Stmts ∷ ps) (ABlock tree.Nothing ∷ is) d ts ≡ verdict (more ++ ps) (ABlock body ∷ is) d rest
 
@@ -33,6 +35,7 @@ FailStmts d ts (errors.Misfit f) = (ps : List Part) (is : List Item) → verdict
 -- a block was taken, whatever is made of it
 pub record TookBlock (d : ℕ) (ts : List Lexeme) (body : Statements) (good : Bool) (rest : List Lexeme) : Type 0 where
   pub shorter : length rest < length ts
+  pub spelled : ts ≡ braced (spell_statements body) ++ rest
   pub good_one : IsTrue good
   pub room : IsTrue (nat_le (d + 1) 64)
   pub goes_on : (m : Making) (ps : List Part) (is : List Item) → verdict (Block m ∷ ps) is d ts ≡ verdict ps (make m (ABlock body ∷ is)) d rest

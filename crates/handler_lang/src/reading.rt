@@ -1,66 +1,67 @@
-ghost use Rattle.std.specs.Prelude.{◌≡◌, ◌≤◌, ◌-◌, ℕ, length, slice_get, MatchResult, Ok};
-ghost use Rattle.script_tree.specs.Grammar.{script_of, Fine, Faulty};
+ghost use Rattle.std.specs.Prelude.{◌≡◌, ◌≤◌, ◌-◌, length, IfOk, MatchResult, Ok};
+ghost use Rattle.script_tree.specs.Grammar.{script_of, Faulty};
 ghost use Rattle.script_tree.specs.Lexer.{lexemes_of};
-ghost use Rattle.script_tree.specs.Reading.{script_read, IsFault};
+ghost use Rattle.script_tree.specs.Reading.{script_read, IsFault, Writes};
 ghost use Rattle.script_tree.specs.Script.{tree_of_script};
-ghost use Rattle.handler_lang.specs.Parts.{IsMisfit, start_at};
+ghost use Rattle.script_tree.specs.Tree.{statements_of};
+ghost use Rattle.handler_lang.specs.Parts.{IsMisfit, IsWhole, Refuses};
 
 use crate::statement::statements;
 use script_expression::{ReadError, unexpected};
-use script_tree::{Lexemes, Misfit, Script, SyntaxFault, Token, fault_at, lex, lexemes};
-use slee_value::NoMemory;
+use script_tree::{Lexemes, Misfit, Script, Stmt, SyntaxFault, fault_in, lexemes, place_of_token};
+use slee_value::{NoMemory, Text};
 use std::alloc::Global;
 
 /// The script that a text is, or the first token that can't continue one.
-#[tactic(auto, using(crate::proofs::Whole::parsed))]
+#[tactic(auto, using(crate::proofs::Whole::parsed, crate::proofs::Whole::written, crate::proofs::Whole::refuses))]
 pub fn parse(alloc: Global, text: &str) -> Result<Script, SyntaxFault>
-    ensures { MatchResult result (λ x. script_read text.now ≡ Ok (tree_of_script x)) (λ e. IsFault (script_read text.now) e) }
+    ensures written { MatchResult result (λ x. Writes text.now (tree_of_script x)) (λ e. Refuses text.now e) }
+    ensures kept { IfOk result (λ x. x.text ≡ text.now) }
+    ensures read { MatchResult result (λ x. script_read text.now ≡ Ok (tree_of_script x)) (λ e. IsFault (script_read text.now) e) }
 {
     let lexemes = match lexemes(alloc, text) {
         Ok(lexemes) => lexemes,
         Err(NoMemory) => return Err(SyntaxFault::NoMemory),
     };
     match script(alloc, &lexemes) {
-        Ok(script) => Ok(script),
+        Ok(statements) => with_text(alloc, statements, text),
         Err(ReadError::NoMemory) => Err(SyntaxFault::NoMemory),
-        Err(ReadError::Misfit(misfit)) => Err(misfit_in(alloc, text, misfit)),
+        Err(ReadError::Misfit(misfit)) => Err(misfit_in(alloc, text, lexemes.len(), misfit)),
     }
 }
 
-/// The fault of a text whose tokens don't fit. Only now are the places of its tokens looked up.
+/// The script with its text.
+fn with_text(alloc: Global, statements: Vec<Stmt>, text: &str) -> Result<Script, SyntaxFault>
+    requires { Writes text.now (statements_of statements.items) }
+    ensures { MatchResult result (λ x. (x.statements.items ≡ statements.items) × (x.text ≡ text.now)) (λ e. e ≡ SyntaxFault.NoMemory) }
+{
+    match Text::from_str(alloc, text) {
+        Ok(text) => Ok(Script::new(statements, text)),
+        Err(NoMemory) => Err(SyntaxFault::NoMemory),
+    }
+}
+
+/// The fault of a text with so many tokens that don't fit. Only now its place is looked up.
 #[tactic(auto, using(crate::proofs::Whole::misread))]
-fn misfit_in(alloc: Global, text: &str, misfit: Misfit) -> SyntaxFault
-    requires { script_of (lexemes_of text.now) ≡ Faulty misfit }
+fn misfit_in(alloc: Global, text: &str, count: usize, misfit: Misfit) -> SyntaxFault
+    requires misfit { script_of (lexemes_of text.now) ≡ Faulty misfit }
+    requires count { count ≡ length (lexemes_of text.now) }
     ensures { IsFault (script_read text.now) result }
 {
-    match lex(alloc, text) {
-        Ok(lexed) => fault_at(
-            text,
-            start_of(&lexed.tokens, misfit.left, text.len()),
-            misfit.kind,
-        ),
+    match place_of_token(alloc, text, count.saturating_sub(misfit.left)) {
+        Ok(place) => fault_in(place, misfit.kind),
         Err(NoMemory) => SyntaxFault::NoMemory,
     }
 }
 
-/// The script that tokens are.
+/// The statements of the script that tokens are.
 #[tactic(auto, using(crate::proofs::Whole::script_fine, crate::proofs::Whole::script_left, crate::proofs::Whole::script_fails))]
-fn script(alloc: Global, ts: Lexemes) -> Result<Script, ReadError>
-    ensures { MatchResult result (λ x. script_of ts.now ≡ Fine (tree_of_script x)) (IsMisfit (script_of ts.now)) }
+fn script(alloc: Global, ts: Lexemes) -> Result<Vec<Stmt>, ReadError>
+    ensures { MatchResult result (λ x. IsWhole ts.now (statements_of x.items)) (IsMisfit (script_of ts.now)) }
 {
     let (list, rest) = statements(alloc, ts, 0)?;
     if !rest.is_empty() {
         return Err(unexpected(rest));
     }
-    Ok(Script::new(list))
-}
-
-/// Where the token begins with which so many are left, or the text ends.
-fn start_of(tokens: &[Token], left: usize, end: usize) -> usize
-    ensures { result ≡ start_at (slice_get tokens.now (length tokens.now - left)) end }
-{
-    match tokens.get(tokens.len().saturating_sub(left)) {
-        Some(token) => token.start,
-        None => end,
-    }
+    Ok(list)
 }

@@ -1,7 +1,7 @@
 ghost use Rattle.std.specs.Prelude.{◌≡◌, ◌≤◌, ◌<◌, ◌+◌, ◌∷◌, [], length, true, MatchResult, MatchOption};
 ghost use Rattle.script_tree.specs.declared.lexeme.Lexeme.{Lexeme as ALexeme};
 ghost use Rattle.script_tree.specs.Grammar.{Stmt as AStmt, AStatement, stmt_fixed, stmt_after};
-ghost use Rattle.script_tree.specs.Spelling.{statement_fits, statements_fit};
+ghost use Rattle.script_tree.specs.Spelling.{fixed, statement_fits, statements_fit};
 ghost use Rattle.script_expression.specs.Takes.{Begun, Took, Fails, begins};
 ghost use Rattle.handler_lang.specs.Bodies.{TookStmts, FailStmts, TookBlock, FailsBlock, starts_stmt, block_word_at, block_word_in};
 ghost use Rattle.script_tree.specs.Tree.{statement_of, statements_of};
@@ -136,7 +136,7 @@ fn branch<'a>(
     depth: u32,
 ) -> Result<(Stmt, Lexemes<'a>), ReadError>
     requires deep { depth ≤ 64 }
-    requires begun { Begun AStmt (stmt_fixed Fixed.If) depth ts.now behind.now }
+    requires begun { Begun AStmt (fixed Fixed.If) depth ts.now behind.now }
     ensures { MatchResult result (λ x. Took AStmt [] depth ts.now (AStatement (statement_of x.0) ∷ []) (statement_fits depth (statement_of x.0)) x.1.now) (λ e. Fails AStmt depth ts.now e) }
 {
     let (test, rest) = expression(alloc, behind, depth)?;
@@ -157,7 +157,7 @@ fn repeat<'a>(
     depth: u32,
 ) -> Result<(Stmt, Lexemes<'a>), ReadError>
     requires deep { depth ≤ 64 }
-    requires begun { Begun AStmt (stmt_fixed Fixed.While) depth ts.now behind.now }
+    requires begun { Begun AStmt (fixed Fixed.While) depth ts.now behind.now }
     ensures { MatchResult result (λ x. Took AStmt [] depth ts.now (AStatement (statement_of x.0) ∷ []) (statement_fits depth (statement_of x.0)) x.1.now) (λ e. Fails AStmt depth ts.now e) }
 {
     let (test, rest) = expression(alloc, behind, depth)?;
@@ -174,7 +174,7 @@ fn walk<'a>(
     depth: u32,
 ) -> Result<(Stmt, Lexemes<'a>), ReadError>
     requires deep { depth ≤ 64 }
-    requires begun { Begun AStmt (stmt_fixed Fixed.For) depth ts.now behind.now }
+    requires begun { Begun AStmt (fixed Fixed.For) depth ts.now behind.now }
     ensures { MatchResult result (λ x. Took AStmt [] depth ts.now (AStatement (statement_of x.0) ∷ []) (statement_fits depth (statement_of x.0)) x.1.now) (λ e. Fails AStmt depth ts.now e) }
 {
     let (name, rest) = name(alloc, behind, depth)?;

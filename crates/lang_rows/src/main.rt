@@ -1,5 +1,5 @@
 //! Reads scripts from standard input, with a line `%` between them, and prints what each is: how many statements it has,
-//! the kinds of its tokens and that it is printed, read and printed alike; or its first fault. With a number behind its name it reads the whole input as one script
+//! the kinds of its tokens, that it is printed, read and printed alike, and how it is printed; or its first fault. With a number behind its name it reads the whole input as one script
 //! so many times, for bench/parse.py, and prints how many statements it read in all.
 #![tactic(auto)]
 

@@ -35,7 +35,7 @@ fn print_row(rt: &HostRuntime, row: &str) -> Result<(), Trouble> {
     }
 }
 
-/// A script's statements, counted, a letter for each token, and whether it is printed, read and printed alike.
+/// A script's statements, counted, a letter for each token, whether it is printed, read and printed alike, and its text.
 fn print_script(rt: &HostRuntime, script: &Script, row: &str) -> Result<(), Trouble> {
     let list = tokens(rt.alloc(), row)?;
     let mut letters = String::new(rt.alloc());
@@ -46,6 +46,9 @@ fn print_script(rt: &HostRuntime, script: &Script, row: &str) -> Result<(), Trou
     let again = printed(rt, &parse(rt.alloc(), &text)?)?;
     let verdict = if again == text { "again" } else { "other" };
     println!(rt; "script {} {letters} {verdict}", script.statements().len())?;
+    for line in text.lines() {
+        println!(rt; "  | {line}")?;
+    }
     Ok(())
 }
 

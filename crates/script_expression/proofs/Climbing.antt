@@ -1,5 +1,5 @@
 -- An expression is read from its first operand on, and then level by level: the table goes the same way.
-use Rattle.std.proofs.Common.{◌≡◌, ◌≤◌, ◌<◌, ◌+◌, ◌-◌, ℕ, zero, suc, List, [], ◌∷◌, ◌++◌, length, Some, None, Bool, true, false, ◌&&◌, refl, sym, ap, ◌∙◌, arith}
+use Rattle.std.proofs.Common.{◌≡◌, ◌≤◌, ◌<◌, ◌+◌, ◌-◌, ℕ, zero, suc, List, [], ◌∷◌, ◌++◌, length, Some, None, Bool, true, false, ◌&&◌, refl, sym, ap, ◌∙◌, arith, append_assoc}
 use Rattle.std.specs.Prelude.{nat_le, nat_lt, ◌==◌, if◌then◌else◌}
 use Rattle.std.proofs.lemmas.Bool.Decides.{nat_tests}
 use Rattle.script_tree.specs.declared.symbol.Operator.{Operator}
@@ -13,7 +13,7 @@ use Rattle.script_tree.specs.declared.tree.Prefix.TheVariants as prefixes
 use Rattle.script_expression.specs.declared.refusal.ReadError.{ReadError}
 use Rattle.script_expression.specs.declared.refusal.ReadError.TheVariants as errors
 use Rattle.script_tree.specs.Tree.{Expression, Unary, Binary}
-use Rattle.script_tree.specs.Spelling.{depth_at, fits, prefix_level, chain_level, left_level}
+use Rattle.script_tree.specs.Spelling.{fits, prefix_level, chain_level, left_level, spell_expression}
 use Rattle.script_tree.specs.Grammar.{Part, Item, Make, Prefixing, Operating, Level, More, ATree, verdict, again, level_of}
 use Rattle.script_expression.specs.Takes.{fits_at, prefix_at, prefix_in, operator_at, operator_in, Took, Fails}
 use Rattle.script_expression.specs.Levels.{mores, joining_at, joining, next_level, prefix_up_to, prefix_next, TookOperand, TookChain, FailsChain}
@@ -207,6 +207,7 @@ plain_operand n d ts rest a h took = record {
   order = omega arith;
   took = record {
     shorter = took.shorter;
+    spelled = took.spelled;
     good_one = took.good_one;
     goes_on = λ ps i. down (n - 0) n 0 ps i d ts (omega arith) (λ k lt le. no_prefix_in n k ts h le) ∙ took.goes_on (mores (n - 0) 0 ++ ps) i;
   };
@@ -233,6 +234,7 @@ prefixed_operand n d ts behind rest op first a b h e took same =
       order = own.0;
       took = record {
         shorter = one.shorter;
+        spelled = one.spelled;
         good_one = fits_unchained p d (Unary op b) one.good_one;
         goes_on = λ ps i. to_prefix n d ts behind op first h e ps i ∙ one.goes_on (mores (n - p) p ++ ps) i ∙ skip_more p (mores (n - p) p ++ ps) (ATree (Unary op b) ∷ i) d rest (none_of_prefix op rest);
       };
@@ -255,17 +257,18 @@ prefixed_fails n d ts behind op first error h e f =
 
 -- nothing was taken yet
 pub no_chain : (n d : ℕ) (ts : List Lexeme) (a : Expression) → TookChain (More n ∷ []) n (chain_level n) d ts a a ts
-no_chain n d ts a = record { shorter = omega arith; good_one = λ h. h; goes_on = λ ps i. refl }
+no_chain n d ts a = record { shorter = omega arith; spelled = refl; good_one = λ h. h; goes_on = λ ps i. refl }
 
 -- one operator more, with its right operand
 pub chain_more : (n m d : ℕ) (more : List Part) (ts mid behind rest : List Lexeme) (op : Operator) (a b c : Expression) → TookChain (More n ∷ []) n (chain_level n) d ts a b mid → mid ≡ t.Symbol (s.Operator op) ∷ behind → level_of op ≡ n → Took (Level (n - 1)) [] d behind (ATree c ∷ []) (fits_at (n - 1) d c) rest → m ≡ n → more ≡ again n → TookChain more n m d ts a (Binary op b c) rest
 chain_more n m d more ts mid behind rest op a b c left is on right at many =
     let le : nat_le (level_of op) m ≡ true = ap (λ i. nat_le i m) on ∙ ap (nat_le n) at ∙ le_self n in
-    let fine_c : fits (depth_at (level_of op - 1) c d) c ≡ true = ap (λ i. fits (depth_at (i - 1) c d) c) on ∙ right.good_one in
+    let fine_c : fits_at (level_of op - 1) d c ≡ true = ap (λ i. fits_at (i - 1) d c) on ∙ right.good_one in
     record {
       shorter = omega (arith, ap length is, left.shorter, right.shorter);
+      spelled = left.spelled ∙ ap (λ l. spell_expression b ++ l) (is ∙ ap (λ l. t.Symbol (s.Operator op) ∷ l) right.spelled) ∙ sym (append_assoc (spell_expression b) (t.Symbol (s.Operator op) ∷ spell_expression c) rest);
       good_one = λ h.
-          let fine_b : fits (depth_at (left_level op) b d) b ≡ true = ap (λ i. fits (depth_at (chain_level i) b d) b) on ∙ left.good_one h in
+          let fine_b : fits_at (left_level op) d b ≡ true = ap (λ i. fits_at (chain_level i) d b) on ∙ left.good_one h in
           rw le (and_join _ _ fine_b fine_c);
       goes_on = λ ps i. left.goes_on ps i ∙ ap (verdict (More n ∷ ps) (ATree b ∷ i) d) is ∙ operates n ps (ATree b ∷ i) d op behind on
           ∙ right.goes_on (Make (Operating op) ∷ (again n ++ ps)) (ATree b ∷ i) ∙ made (Operating op) (again n ++ ps) (ATree c ∷ ATree b ∷ i) d rest
@@ -276,6 +279,7 @@ chain_more n m d more ts mid behind rest op a b c left is on right at many =
 pub chain_ends : (n d : ℕ) (ts rest : List Lexeme) (a b : Expression) → TookChain (More n ∷ []) n (chain_level n) d ts a b rest → operator_in n rest ≡ None → TookChain [] n n d ts a b rest
 chain_ends n d ts rest a b took none = record {
   shorter = took.shorter;
+  spelled = took.spelled;
   good_one = λ h. fits_unchained n d b (took.good_one h);
   goes_on = λ ps i. took.goes_on ps i ∙ skip_more n ps (ATree b ∷ i) d rest none;
 }
@@ -303,6 +307,7 @@ climbed n m k d ts mid rest a b left next right =
       order = p.1.0;
       took = record {
         shorter = omega (arith, left.took.shorter, right.shorter);
+        spelled = left.took.spelled ∙ right.spelled;
         good_one = right.good_one (fits_weaker m (chain_level k) d a below left.took.good_one);
         goes_on = λ ps i. to_next n m k d ts mid a left next ps i ∙ right.goes_on (mores (n - k) k ++ ps) i;
       };
@@ -316,6 +321,7 @@ climb_fails n m k d ts mid a (errors.Misfit misfit) left next f = λ ps i. to_ne
 pub climb_ends : (n m d : ℕ) (ts rest : List Lexeme) (a : Expression) → TookOperand n m d ts a rest → next_level m n rest ≡ None → Took (Level n) [] d ts (ATree a ∷ []) (fits_at n d a) rest
 climb_ends n m d ts rest a took none = record {
   shorter = took.took.shorter;
+  spelled = took.took.spelled;
   good_one = fits_weaker m n d a took.order took.took.good_one;
   goes_on = λ ps i. took.took.goes_on ps i ∙ past (n - m) m ps (ATree a ∷ i) d rest (λ k lt le. next_none m n rest none k lt (omega (arith, le, took.order)));
 }

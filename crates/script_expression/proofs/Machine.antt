@@ -60,11 +60,11 @@ begun_at Stops ps is d token ts h k = cc
 begun_at (Goes qs js) ps is d token ts h k = rw h refl
 
 -- a statement begins with its first token
-pub stmt_begun : (token : Lexeme) (d : ℕ) (ts behind : List Lexeme) → ts ≡ token ∷ behind → turn token ≡ Stays → begins (stmt_after token) ≡ true → Begun Stmt (stmt_after token) d ts behind
+pub stmt_begun : (token : Lexeme) (d : ℕ) (ts behind : List Lexeme) → ts ≡ token ∷ behind → turn token ≡ Stays → begins (stmt_after token) ≡ true → Begun Stmt token d ts behind
 unfolding verdict
-stmt_begun token d ts behind e h k = record { shorter = omega (arith, ap length e); goes_on = λ ps is. ap (verdict (Stmt ∷ ps) is d) e ∙ begun_at (stmt_after token) ps is d token behind h k }
+stmt_begun token d ts behind e h k = record { shorter = omega (arith, ap length e); spelled = e; goes_on = λ ps is. ap (verdict (Stmt ∷ ps) is d) e ∙ begun_at (stmt_after token) ps is d token behind h k }
 
 -- and so does an expression without operators
-pub prim_begun : (token : Lexeme) (d : ℕ) (ts behind : List Lexeme) → ts ≡ token ∷ behind → turn token ≡ Stays → begins (prim_after token) ≡ true → Begun (Level 0) (prim_after token) d ts behind
+pub prim_begun : (token : Lexeme) (d : ℕ) (ts behind : List Lexeme) → ts ≡ token ∷ behind → turn token ≡ Stays → begins (prim_after token) ≡ true → Begun (Level 0) token d ts behind
 unfolding verdict
-prim_begun token d ts behind e h k = record { shorter = omega (arith, ap length e); goes_on = λ ps is. ap (verdict (Level 0 ∷ ps) is d) e ∙ begun_at (prim_after token) ps is d token behind h k }
+prim_begun token d ts behind e h k = record { shorter = omega (arith, ap length e); spelled = e; goes_on = λ ps is. ap (verdict (Level 0 ∷ ps) is d) e ∙ begun_at (prim_after token) ps is d token behind h k }

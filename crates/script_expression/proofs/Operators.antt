@@ -10,14 +10,12 @@ use Rattle.script_tree.specs.declared.symbol.Symbol.TheVariants as s
 use Rattle.script_tree.specs.declared.lexeme.Lexeme.{Lexeme}
 use Rattle.script_tree.specs.declared.lexeme.Lexeme.TheVariants as t
 use Rattle.script_tree.specs.declared.fault.SyntaxBad.TheVariants as bad
-use Rattle.script_tree.specs.declared.tree.Leaf.{Leaf as ALeaf}
-use Rattle.script_tree.specs.declared.tree.Leaf.TheVariants as l
 use Rattle.script_tree.specs.declared.tree.Prefix.{Prefix}
 use Rattle.script_tree.specs.declared.tree.Prefix.TheVariants as prefixes
 use Rattle.script_expression.specs.declared.refusal.ReadError.TheVariants as errors
-use Rattle.script_tree.specs.Tree.{Expression, Leaf, Unary, Binary, Ask}
-use Rattle.script_tree.specs.Spelling.{level, depth_at, leaf_fits, fits, prefix_level, chain_level, left_level}
-use Rattle.script_tree.specs.Grammar.{Part, Item, Next, Stops, Goes, Make, Prefixing, Operating, Level, More, ATree, One, prim_fixed, verdict, verdict_at, goes_on, then_parts, prefix_after, level_after, more_after, again, level_of, turn, Stays}
+use Rattle.script_tree.specs.Tree.{Expression, Unary, Group}
+use Rattle.script_tree.specs.Spelling.{level, fits, prefix_level, chain_level, prefix_token, spell_expression}
+use Rattle.script_tree.specs.Grammar.{Part, Item, Next, Stops, Goes, Make, Grouping, Prefixing, Operating, Level, More, ATree, One, prim_fixed, verdict, verdict_at, goes_on, then_parts, prefix_after, level_after, more_after, again, level_of, turn, Stays}
 use Rattle.script_expression.specs.Takes.{fits_at, prefix_at, prefix_in, operator_at, operator_in, Took, Turned, Fails, kind_at}
 use Rattle.script_expression.proofs.Machine.{made, refuse}
 
@@ -99,7 +97,6 @@ operates n ps is d op ts h =
     let e : (level_of op == n) ≡ true = grind (arith, nat_tests, h) in
     rw e refl
 
--- fewer brackets do no harm
 pub and_split : (a b : Bool) → (a && b) ≡ true → (a ≡ true) × (b ≡ true)
 and_split true b h = (refl, h)
 and_split false b h = cc
@@ -107,53 +104,12 @@ and_split false b h = cc
 pub and_join : (a b : Bool) → a ≡ true → b ≡ true → (a && b) ≡ true
 and_join a b h k = rw (h, k) refl
 
-le_less : (d n : ℕ) → nat_le (d + 1) n ≡ true → nat_le d n ≡ true
-le_less d n h = grind (arith, nat_tests)
-
-leaf_less : (d : ℕ) (y : ALeaf) → leaf_fits (d + 1) y ≡ true → leaf_fits d y ≡ true
-leaf_less d (l.Constant n) h = le_less d 64 h
-leaf_less d (l.Int n) h = let p = and_split _ _ h in and_join _ _ p.0 (le_less d 64 p.1)
-leaf_less d (l.Text n) h = let p = and_split _ _ h in and_join _ _ p.0 (le_less d 64 p.1)
-leaf_less d (l.Variable n) h = let p = and_split _ _ h in and_join _ _ p.0 (le_less d 64 p.1)
-leaf_less d (l.Field n) h = let p = and_split _ _ h in and_join _ _ p.0 (le_less d 64 p.1)
-leaf_less d (l.EventField n) h = let p = and_split _ _ h in and_join _ _ p.0 (le_less d 64 p.1)
-leaf_less d (l.Table n) h = let p = and_split _ _ h in and_join _ _ p.0 (le_less (d + 1) 64 p.1)
-leaf_less d (l.Count n) h = let p = and_split _ _ h in and_join _ _ p.0 (le_less (d + 1) 64 p.1)
-leaf_less d (l.Priority n) h = let p = and_split _ _ h in and_join _ _ p.0 (le_less (d + 1) 64 p.1)
-
-less_by : (b : Bool) (d : ℕ) (f : ℕ → Bool) → ((d : ℕ) → f (d + 1) ≡ true → f d ≡ true) → f (if b then d + 1 else d + 1 + 1) ≡ true → f (if b then d else d + 1) ≡ true
-less_by true d f h e = h d e
-less_by false d f h e = h (d + 1) e
-
-pub fits_less : (a : Expression) (d : ℕ) → fits (d + 1) a ≡ true → fits d a ≡ true
-fits_less (Leaf y) d h = leaf_less d y h
-fits_less (Unary op a) d h = less_by (nat_le (level a) (prefix_level op - 1)) d (λ d. fits d a) (fits_less a) h
-fits_less (Binary op a b) d h =
-    let p = and_split _ _ h in
-    and_join _ _ (less_by (nat_le (level a) (left_level op)) d (λ d. fits d a) (fits_less a) p.0)
-    (less_by (nat_le (level b) (level_of op - 1)) d (λ d. fits d b) (fits_less b) p.1)
-fits_less (Ask query a) d h =
-    let p = and_split _ _ h in
-    and_join _ _ p.0 (fits_less a (d + 1) p.1)
-
--- in brackets, any expression
-pub fits_in_brackets : (a : Expression) (d : ℕ) → fits (d + 1) a ≡ true → fits_at 0 d a ≡ true
-fits_in_brackets a d h = in_brackets_by (nat_le (level a) 0) d (λ d. fits d a) h (fits_less a d h)
-  where
-    in_brackets_by : (b : Bool) (d : ℕ) (f : ℕ → Bool) → f (d + 1) ≡ true → f d ≡ true → f (if b then d else d + 1) ≡ true
-    in_brackets_by true d f h k = k
-    in_brackets_by false d f h k = h
-
-weaker_by : (b c : Bool) (d : ℕ) (f : ℕ → Bool) → (b ≡ true → c ≡ true) → (f (d + 1) ≡ true → f d ≡ true) → f (if b then d else d + 1) ≡ true → f (if c then d else d + 1) ≡ true
-weaker_by true true d f h k e = e
-weaker_by true false d f h k e = cc (h refl)
-weaker_by false true d f h k e = k e
-weaker_by false false d f h k e = e
-
 -- where a level may stand, a lower one may
 pub fits_weaker : (n m d : ℕ) (a : Expression) → n ≤ m → fits_at n d a ≡ true → fits_at m d a ≡ true
 fits_weaker n m d a h e =
-    weaker_by (nat_le (level a) n) (nat_le (level a) m) d (λ d. fits d a) (λ p. grind (arith, nat_tests)) (fits_less a d) e
+    let p = and_split (nat_le (level a) n) (fits d a) e in
+    let le : nat_le (level a) m ≡ true = grind (arith, nat_tests, h, p.0) in
+    and_join (nat_le (level a) m) (fits d a) le p.1
 
 pub fits_unchained : (n d : ℕ) (a : Expression) → fits_at (chain_level n) d a ≡ true → fits_at n d a ≡ true
 fits_unchained n d a e = fits_weaker (chain_level n) n d a (grind (arith, nat_tests)) e
@@ -182,6 +138,20 @@ level_of_prefix n (t.Name y) op h = cc
 level_of_prefix n (t.Text y) op h = cc
 level_of_prefix n t.Bad op h = cc
 
+-- and it is that token
+pub prefix_is : (n : ℕ) (token : Lexeme) (op : Prefix) → prefix_at n token ≡ Some op → token ≡ prefix_token op
+prefix_is n (t.Symbol (s.Fixed x.Not)) op h = ap prefix_token (prefix_level_by (n == 6) prefixes.Not op h).1
+prefix_is n (t.Symbol (s.Fixed _)) op h = cc
+prefix_is n (t.Symbol (s.Operator o.Minus)) op h = ap prefix_token (prefix_level_by (n == 1) prefixes.Negative op h).1
+prefix_is n (t.Symbol (s.Operator _)) op h = cc
+prefix_is n (t.Symbol (s.Constant y)) op h = cc
+prefix_is n (t.Symbol (s.Function y)) op h = cc
+prefix_is n (t.Symbol (s.Verb y)) op h = cc
+prefix_is n (t.Int y) op h = cc
+prefix_is n (t.Name y) op h = cc
+prefix_is n (t.Text y) op h = cc
+prefix_is n t.Bad op h = cc
+
 pub le_self : (n : ℕ) → nat_le n n ≡ true
 le_self n = grind (arith, nat_tests)
 
@@ -191,9 +161,10 @@ unary_took n d ts behind rest op first a b h e is took same =
     let at : prefix_at n first ≡ Some op = ap (prefix_in n) (sym is) ∙ e in
     let p = level_of_prefix n first op at in
     let le : nat_le (prefix_level op) (chain_level n) ≡ true = ap (λ m. nat_le m (chain_level n)) p.0 ∙ ap (nat_le n) p.1 ∙ le_self n in
-    let fine : fits (depth_at (prefix_level op - 1) b d) b ≡ true = ap (λ m. fits (depth_at (m - 1) b d) b) p.0 ∙ ap (λ c. fits (depth_at (n - 1) c d) c) same ∙ took.good_one in
+    let fine : fits_at (prefix_level op - 1) d b ≡ true = ap (λ m. fits_at (m - 1) d b) p.0 ∙ ap (fits_at (n - 1) d) same ∙ took.good_one in
     record {
       shorter = omega (arith, ap length is, took.shorter);
+      spelled = is ∙ ap (λ y. y ∷ behind) (prefix_is n first op at) ∙ ap (λ l. prefix_token op ∷ l) (took.spelled ∙ ap (λ c. spell_expression c ++ rest) (sym same));
       good_one = rw le fine;
       goes_on = λ ps i. ap (verdict (Level n ∷ ps) i d) is ∙ prefixed n ps i d first behind op h at ∙ took.goes_on (Make (Prefixing op) ∷ More n ∷ ps) i
           ∙ made (Prefixing op) (More n ∷ ps) (ATree a ∷ i) d rest ∙ ap (λ c. verdict (More n ∷ ps) (ATree (Unary op c) ∷ i) d rest) (sym same);
@@ -220,7 +191,7 @@ pub not_five : (n : ℕ) → (n ≡ 5 → ⊥) → (chain_level n ≡ n) × (Mor
 not_five n h = let e : (n == 5) ≡ false = grind (arith, nat_tests) in (rw e refl, rw e refl)
 
 -- an expression in brackets
-pub group_opens : (d : ℕ) (ts behind : List Lexeme) → ts ≡ t.Symbol (s.Fixed x.OpenRound) ∷ behind → d < 64 → (ps : List Part) (is : List Item) → verdict (Level 0 ∷ ps) is d ts ≡ verdict (Level 8 ∷ One x.CloseRound ∷ ps) is (d + 1) behind
+pub group_opens : (d : ℕ) (ts behind : List Lexeme) → ts ≡ t.Symbol (s.Fixed x.OpenRound) ∷ behind → d < 64 → (ps : List Part) (is : List Item) → verdict (Level 0 ∷ ps) is d ts ≡ verdict (Level 8 ∷ Make Grouping ∷ One x.CloseRound ∷ ps) is (d + 1) behind
 unfolding verdict
 group_opens d ts behind is lt = λ ps i.
     let e : nat_le 64 d ≡ false = grind (arith, nat_tests) in
@@ -230,10 +201,14 @@ pub group_deep : (d : ℕ) (ts behind : List Lexeme) → ts ≡ t.Symbol (s.Fixe
 unfolding verdict
 group_deep d ts behind is at = λ ps i. rw (is, at, add-one) refl
 
-pub group_took : (d : ℕ) (ts behind mid rest : List Lexeme) (a : Expression) → ts ≡ t.Symbol (s.Fixed x.OpenRound) ∷ behind → d < 64 → Took (Level 8) [] (d + 1) behind (ATree a ∷ []) (fits (d + 1) a) mid → Turned x.CloseRound (d + 1) d mid rest → Took (Level 0) [] d ts (ATree a ∷ []) (fits_at 0 d a) rest
-group_took d ts behind mid rest a is lt took turned =
+pub group_took : (d : ℕ) (ts behind mid rest : List Lexeme) (a b : Expression) → ts ≡ t.Symbol (s.Fixed x.OpenRound) ∷ behind → d < 64 → Took (Level 8) [] (d + 1) behind (ATree a ∷ []) (fits (d + 1) a) mid → Turned x.CloseRound (d + 1) d mid rest → b ≡ a → Took (Level 0) [] d ts (ATree (Group b) ∷ []) (fits_at 0 d (Group b)) rest
+group_took d ts behind mid rest a b is lt took turned same =
+    let close = t.Symbol (s.Fixed x.CloseRound) in
     record {
       shorter = omega (arith, ap length is, took.shorter, turned.shorter);
-      good_one = fits_in_brackets a d took.good_one;
-      goes_on = λ ps i. group_opens d ts behind is lt ps i ∙ took.goes_on (One x.CloseRound ∷ ps) i ∙ turned.goes_on ps (ATree a ∷ i);
+      spelled = is
+          ∙ ap (λ l. t.Symbol (s.Fixed x.OpenRound) ∷ l) (took.spelled ∙ ap (λ l. spell_expression a ++ l) turned.spelled ∙ ap (λ c. spell_expression c ++ close ∷ rest) (sym same) ∙ sym (append_assoc (spell_expression b) (close ∷ []) rest));
+      good_one = ap (fits (d + 1)) same ∙ took.good_one;
+      goes_on = λ ps i. group_opens d ts behind is lt ps i ∙ took.goes_on (Make Grouping ∷ One x.CloseRound ∷ ps) i ∙ made Grouping (One x.CloseRound ∷ ps) (ATree a ∷ i) (d + 1) mid
+          ∙ turned.goes_on ps (ATree (Group a) ∷ i) ∙ ap (λ c. verdict ps (ATree (Group c) ∷ i) d rest) (sym same);
     }

@@ -9,7 +9,7 @@ use Rattle.script_tree.specs.declared.lexeme.Lexeme.TheVariants as t
 use Rattle.script_tree.specs.declared.tree.Prefix.{Prefix}
 use Rattle.script_tree.specs.declared.tree.Prefix.TheVariants as prefixes
 use Rattle.script_tree.specs.Tree.{Expression}
-use Rattle.script_tree.specs.Spelling.{chain_level}
+use Rattle.script_tree.specs.Spelling.{chain_level, spell_expression}
 use Rattle.script_tree.specs.Grammar.{Part, Level, More, Item, ATree, Faulty, verdict, level_of}
 use Rattle.script_expression.specs.declared.refusal.ReadError.{ReadError}
 use Rattle.script_expression.specs.declared.refusal.ReadError.TheVariants as errors
@@ -57,6 +57,7 @@ pub record TookOperand (n m d : ℕ) (ts : List Lexeme) (a : Expression) (rest :
 -- operators of level n were taken behind an expression, with their right operands; further ones may follow
 pub record TookChain (more : List Part) (n m d : ℕ) (ts : List Lexeme) (a b : Expression) (rest : List Lexeme) : Type 0 where
   pub shorter : length rest ≤ length ts
+  pub spelled : spell_expression a ++ ts ≡ spell_expression b ++ rest
   pub good_one : fits_at (chain_level n) d a ≡ true → fits_at m d b ≡ true
   pub goes_on : (ps : List Part) (is : List Item) → verdict (More n ∷ ps) (ATree a ∷ is) d ts ≡ verdict (more ++ ps) (ATree b ∷ is) d rest
 

@@ -1,5 +1,5 @@
 -- What a reader of a part of the grammar answers.
-use Rattle.std.specs.Prelude.{◌≡◌, ◌≤◌, ◌<◌, ℕ, Bool, IsTrue, true, false, List, [], ◌∷◌, ◌++◌, length, Option, Some, None, ◌==◌, if◌then◌else◌}
+use Rattle.std.specs.Prelude.{◌≡◌, ◌≤◌, ◌<◌, ℕ, Bool, IsTrue, true, false, ◌&&◌, nat_le, List, [], ◌∷◌, ◌++◌, length, Option, Some, None, ◌==◌, if◌then◌else◌}
 use Rattle.script_tree.specs.declared.symbol.Fixed.{Fixed}
 use Rattle.script_tree.specs.declared.symbol.Operator.{Operator}
 use Rattle.script_tree.specs.declared.symbol.Symbol.{Symbol}
@@ -13,17 +13,33 @@ use Rattle.script_expression.specs.declared.refusal.ReadError.{ReadError}
 use Rattle.script_expression.specs.declared.refusal.ReadError.TheVariants as errors
 use Rattle.script_tree.specs.Numbers.{is_fixed}
 use Rattle.script_tree.specs.Tree.{Expression}
-use Rattle.script_tree.specs.Grammar.{Part, Level, Make, Item, Next, Stops, Goes, One, Faulty, verdict, kind_of, prefix_of, level_of, ATree, Making, make}
-use Rattle.script_tree.specs.Spelling.{depth_at, fits}
+use Rattle.script_tree.specs.Grammar.{Part, Level, Make, Item, AName, AText, AWho, AnOver, ATree, AStatement, ABlock, Next, Stops, Goes, One, Faulty, verdict, after, kind_of, prefix_of, level_of, Making, make}
+use Rattle.script_tree.specs.Spelling.{level, fits, spell_who, spell_over, spell_expression, spell_statement, spell_statements}
 
 -- the fault stands within the part, whatever follows it
 abbrev pub Fails : Part → ℕ → List Lexeme → ReadError → Type 0
 Fails part d ts errors.NoMemory = Unit {0}
 Fails part d ts (errors.Misfit f) = (ps : List Part) (is : List Item) → verdict (part ∷ ps) is d ts ≡ Faulty f
 
+-- how an item is spelled
+abbrev pub spell_item : Item → List Lexeme
+spell_item (AName n) = t.Name n ∷ []
+spell_item (AText n) = t.Text n ∷ []
+spell_item (AWho who) = spell_who who
+spell_item (AnOver over) = spell_over over
+spell_item (ATree a) = spell_expression a
+spell_item (AStatement y) = spell_statement y
+spell_item (ABlock ys) = spell_statements ys
+
+-- how the item that was read is spelled
+abbrev pub spell_read : List Item → List Lexeme
+spell_read [] = []
+spell_read (item ∷ is) = spell_item item
+
 -- a part was taken: these items are read in its place, and the further parts are still to come
 pub record Took (part : Part) (more : List Part) (d : ℕ) (ts : List Lexeme) (read : List Item) (good : Bool) (rest : List Lexeme) : Type 0 where
   pub shorter : length rest < length ts
+  pub spelled : ts ≡ spell_read read ++ rest
   pub good_one : IsTrue good
   pub goes_on : (ps : List Part) (is : List Item) → verdict (part ∷ ps) is d ts ≡ verdict (more ++ ps) (read ++ is) d rest
 
@@ -43,13 +59,15 @@ begins Stops = false
 begins (Goes qs js) = true
 
 -- the first token of a part was taken
-pub record Begun (part : Part) (next : Next) (d : ℕ) (ts behind : List Lexeme) : Type 0 where
+pub record Begun (part : Part) (first : Lexeme) (d : ℕ) (ts behind : List Lexeme) : Type 0 where
   pub shorter : length behind < length ts
-  pub goes_on : (ps : List Part) (is : List Item) → verdict (part ∷ ps) is d ts ≡ verdict (parts_of next ++ ps) (items_of next ++ is) d behind
+  pub spelled : ts ≡ first ∷ behind
+  pub goes_on : (ps : List Part) (is : List Item) → verdict (part ∷ ps) is d ts ≡ verdict (parts_of (after part first) ++ ps) (items_of (after part first) ++ is) d behind
 
 -- a sign that changes how many brackets are open
 pub record Turned (y : Fixed) (d e : ℕ) (ts rest : List Lexeme) : Type 0 where
   pub shorter : length rest < length ts
+  pub spelled : ts ≡ t.Symbol (s.Fixed y) ∷ rest
   pub inside : d ≤ 64
   pub outside : e ≤ 64
   pub goes_on : (ps : List Part) (is : List Item) → verdict (One y ∷ ps) is d ts ≡ verdict ps is e rest
@@ -61,7 +79,7 @@ kind_at (t ∷ ts) = kind_of t
 
 -- whether an expression fits where this level may stand
 abbrev pub fits_at : ℕ → ℕ → Expression → Bool
-fits_at n d a = fits (depth_at n a d) a
+fits_at n d a = nat_le (level a) n && fits d a
 
 -- what stands before an operand of a level, and what joins operands of a level
 abbrev pub prefix_at : ℕ → Lexeme → Option Prefix
@@ -93,9 +111,10 @@ abbrev pub starts : Fixed → List Lexeme → Bool
 starts y [] = false
 starts y (token ∷ ts) = is_fixed y token
 
--- parts were taken: what is read changes the items so, and further parts are still to come
-pub record TookAll (parts more : List Part) (d e : ℕ) (ts : List Lexeme) (set : List Item → List Item) (good : Bool) (rest : List Lexeme) : Type 0 where
+-- parts were taken, with these tokens: what is read changes the items so, and further parts are still to come
+pub record TookAll (parts more : List Part) (d e : ℕ) (ts tokens : List Lexeme) (set : List Item → List Item) (good : Bool) (rest : List Lexeme) : Type 0 where
   pub shorter : length rest ≤ length ts
+  pub spelled : ts ≡ tokens ++ rest
   pub good_one : IsTrue good
   pub goes_on : (ps : List Part) (is : List Item) → verdict (parts ++ ps) is d ts ≡ verdict (more ++ ps) (set is) e rest
 
@@ -107,6 +126,7 @@ FailsAll parts d ts (errors.Misfit f) = (ps : List Part) (is : List Item) → ve
 -- an expression was taken, with a word or sign behind it, whether or not a thing is made of the expression before that
 pub record TookBefore (y : Fixed) (d : ℕ) (ts : List Lexeme) (a : Expression) (good : Bool) (rest : List Lexeme) : Type 0 where
   pub shorter : length rest < length ts
+  pub spelled : ts ≡ spell_expression a ++ t.Symbol (s.Fixed y) ∷ rest
   pub good_one : IsTrue good
   pub goes_on : (ps : List Part) (is : List Item) → verdict (Level 8 ∷ One y ∷ ps) is d ts ≡ verdict ps (ATree a ∷ is) d rest
   pub makes : (m : Making) (ps : List Part) (is : List Item) → verdict (Level 8 ∷ Make m ∷ One y ∷ ps) is d ts ≡ verdict ps (make m (ATree a ∷ is)) d rest

@@ -6,7 +6,7 @@ ghost use Rattle.script_tree.specs.Grammar.{Level, More, ATree, turn_of, Stays};
 ghost use Rattle.script_tree.specs.Spelling.{fits};
 ghost use Rattle.script_expression.specs.Levels.{TookOperand, TookChain, FailsChain};
 ghost use Rattle.script_expression.specs.Takes.{Begun, Took, TookBefore, Fails, FailsBefore, fits_at};
-ghost use Rattle.script_expression.specs.Queries.{word_next};
+ghost use Rattle.script_expression.specs.Queries.{word_token};
 ghost use Rattle.script_tree.specs.Tree.{tree_of, binary_of, joined};
 
 use crate::named::{count, event_field, field, priority, table};
@@ -226,7 +226,7 @@ fn group<'a>(
     }
     let (e, rest) = expression(alloc, behind, depth + 1)?;
     let rest = close(rest, Fixed::CloseRound, depth)?;
-    Ok((e, rest))
+    Ok((Expr::Group(Box::new(alloc, e)?), rest))
 }
 
 /// A function of an expression.
@@ -239,7 +239,7 @@ fn query<'a>(
     depth: u32,
 ) -> Result<(Expr, Lexemes<'a>), ReadError>
     requires deep { depth ≤ 64 }
-    requires begun { Begun (Level 0) (word_next word) depth ts.now behind.now }
+    requires begun { Begun (Level 0) (word_token word) depth ts.now behind.now }
     ensures { MatchResult result (λ x. Took (Level 0) [] depth ts.now (ATree (tree_of x.0) ∷ []) (fits_at 0 depth (tree_of x.0)) x.1.now) (λ e. Fails (Level 0) depth ts.now e) }
 {
     let (head, inner) = query_head(alloc, ts, word, behind, depth)?;

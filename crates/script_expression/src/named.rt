@@ -1,5 +1,6 @@
 ghost use Rattle.std.specs.Prelude.{◌≡◌, ◌≤◌, ◌<◌, ◌+◌, ◌∷◌, [], length, true, MatchResult};
-ghost use Rattle.script_tree.specs.Grammar.{Level, ATree, prim_fixed};
+ghost use Rattle.script_tree.specs.Grammar.{Level, ATree};
+ghost use Rattle.script_tree.specs.Spelling.{fixed};
 ghost use Rattle.script_expression.specs.Takes.{Begun, Took, Fails, fits_at};
 ghost use Rattle.script_tree.specs.Tree.{tree_of};
 
@@ -18,7 +19,7 @@ pub fn field<'a>(
     depth: u32,
 ) -> Result<(Expr, Lexemes<'a>), ReadError>
     requires deep { depth ≤ 64 }
-    requires begun { Begun (Level 0) (prim_fixed Fixed.Own) depth ts.now behind.now }
+    requires begun { Begun (Level 0) (fixed Fixed.Own) depth ts.now behind.now }
     ensures { MatchResult result (λ x. Took (Level 0) [] depth ts.now (ATree (tree_of x.0) ∷ []) (fits_at 0 depth (tree_of x.0)) x.1.now) (λ e. Fails (Level 0) depth ts.now e) }
 {
     let rest = want(behind, Fixed::Dot, depth)?;
@@ -35,7 +36,7 @@ pub fn event_field<'a>(
     depth: u32,
 ) -> Result<(Expr, Lexemes<'a>), ReadError>
     requires deep { depth ≤ 64 }
-    requires begun { Begun (Level 0) (prim_fixed Fixed.Event) depth ts.now behind.now }
+    requires begun { Begun (Level 0) (fixed Fixed.Event) depth ts.now behind.now }
     ensures { MatchResult result (λ x. Took (Level 0) [] depth ts.now (ATree (tree_of x.0) ∷ []) (fits_at 0 depth (tree_of x.0)) x.1.now) (λ e. Fails (Level 0) depth ts.now e) }
 {
     let rest = want(behind, Fixed::Dot, depth)?;
@@ -51,7 +52,7 @@ pub fn table<'a>(
     depth: u32,
 ) -> Result<(Expr, Lexemes<'a>), ReadError>
     requires deep { depth ≤ 64 }
-    requires begun { Begun (Level 0) (prim_fixed Fixed.Table) depth ts.now behind.now }
+    requires begun { Begun (Level 0) (fixed Fixed.Table) depth ts.now behind.now }
     ensures { MatchResult result (λ x. Took (Level 0) [] depth ts.now (ATree (tree_of x.0) ∷ []) (fits_at 0 depth (tree_of x.0)) x.1.now) (λ e. Fails (Level 0) depth ts.now e) }
 {
     let inner = open(behind, Fixed::OpenRound, depth)?;
@@ -68,7 +69,7 @@ pub fn count<'a>(
     depth: u32,
 ) -> Result<(Expr, Lexemes<'a>), ReadError>
     requires deep { depth ≤ 64 }
-    requires begun { Begun (Level 0) (prim_fixed Fixed.Count) depth ts.now behind.now }
+    requires begun { Begun (Level 0) (fixed Fixed.Count) depth ts.now behind.now }
     ensures { MatchResult result (λ x. Took (Level 0) [] depth ts.now (ATree (tree_of x.0) ∷ []) (fits_at 0 depth (tree_of x.0)) x.1.now) (λ e. Fails (Level 0) depth ts.now e) }
 {
     let inner = open(behind, Fixed::OpenRound, depth)?;
@@ -85,7 +86,7 @@ pub fn priority<'a>(
     depth: u32,
 ) -> Result<(Expr, Lexemes<'a>), ReadError>
     requires deep { depth ≤ 64 }
-    requires begun { Begun (Level 0) (prim_fixed Fixed.Priority) depth ts.now behind.now }
+    requires begun { Begun (Level 0) (fixed Fixed.Priority) depth ts.now behind.now }
     ensures { MatchResult result (λ x. Took (Level 0) [] depth ts.now (ATree (tree_of x.0) ∷ []) (fits_at 0 depth (tree_of x.0)) x.1.now) (λ e. Fails (Level 0) depth ts.now e) }
 {
     let inner = open(behind, Fixed::OpenRound, depth)?;

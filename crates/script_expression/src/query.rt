@@ -1,9 +1,11 @@
-ghost use Rattle.std.specs.Prelude.{◌≡◌, ◌≤◌, ◌<◌, ◌+◌, ◌∷◌, ◌++◌, [], length, MatchResult};
+ghost use Rattle.std.specs.Prelude.{◌≡◌, ◌≤◌, ◌<◌, ◌+◌, ◌∷◌, ◌++◌, [], length, IfOk, MatchResult};
 ghost use Rattle.script_tree.specs.Grammar as g;
 ghost use Rattle.script_tree.specs.Grammar.{Level, One, AName, AText};
 ghost use Rattle.script_tree.specs.Words.{is_identifier, is_literal};
+ghost use Rattle.script_tree.specs.Spelling.{fixed};
+ghost use Rattle.script_tree.specs.declared.lexeme.Lexeme.TheVariants as t;
 ghost use Rattle.script_expression.specs.Takes.{Begun, TookAll, Fails, FailsAll};
-ghost use Rattle.script_expression.specs.Queries.{TookHead, TookTail, FailsTail, TookNamed, FailsNamed, word_next, word_parts, parts_behind, items_before, head_fits};
+ghost use Rattle.script_expression.specs.Queries.{tokens_inside, word_of, TookHead, TookTail, FailsTail, TookNamed, FailsNamed, word_token, word_parts, parts_behind, items_before, head_fits};
 
 use crate::refusal::ReadError;
 use crate::take::{close, name, open, text, want};
@@ -39,7 +41,7 @@ pub fn query_head<'a>(
     depth: u32,
 ) -> Result<(QueryHead, Lexemes<'a>), ReadError>
     requires deep { depth ≤ 64 }
-    requires begun { Begun (Level 0) (word_next word) depth ts.now behind.now }
+    requires begun { Begun (Level 0) (word_token word) depth ts.now behind.now }
     ensures { MatchResult result (λ x. TookHead depth ts.now x.0 x.1.now) (λ e. Fails (Level 0) depth ts.now e) }
 {
     let inner = open(behind, Fixed::OpenRound, depth)?;
@@ -55,7 +57,8 @@ fn inside(
     depth: u32,
 ) -> Result<(QueryHead, Lexemes), ReadError>
     requires { depth ≤ 64 }
-    ensures { MatchResult result (λ x. TookAll (word_parts word) (Level 8 ∷ parts_behind x.0) depth depth ts.now (λ is. items_before x.0 ++ is) (head_fits x.0) x.1.now) (λ e. FailsAll (word_parts word) depth ts.now e) }
+    ensures word { IfOk result (λ x. word_of x.0 ≡ word) }
+    ensures inside { MatchResult result (λ x. TookAll (word_parts word) (Level 8 ∷ parts_behind x.0) depth depth ts.now (tokens_inside x.0) (λ is. items_before x.0 ++ is) (head_fits x.0) x.1.now) (λ e. FailsAll (word_parts word) depth ts.now e) }
 {
     match word {
         QueryWord::Plain(function) => Ok((QueryHead::Plain(function), ts)),
@@ -78,7 +81,7 @@ fn inside(
 /// `TEXT ,`
 fn text_and_comma(alloc: Global, ts: Lexemes, depth: u32) -> Result<(Literal, Lexemes), ReadError>
     requires { depth ≤ 64 }
-    ensures { MatchResult result (λ x. TookAll (g.Text ∷ One Fixed.Comma ∷ []) [] depth depth ts.now (λ is. AText x.0 ∷ is) (is_literal x.0) x.1.now) (λ e. FailsAll (g.Text ∷ One Fixed.Comma ∷ []) depth ts.now e) }
+    ensures { MatchResult result (λ x. TookAll (g.Text ∷ One Fixed.Comma ∷ []) [] depth depth ts.now (t.Text x.0 ∷ fixed Fixed.Comma ∷ []) (λ is. AText x.0 ∷ is) (is_literal x.0) x.1.now) (λ e. FailsAll (g.Text ∷ One Fixed.Comma ∷ []) depth ts.now e) }
 {
     let (text, rest) = text(alloc, ts, depth)?;
     let rest = want(rest, Fixed::Comma, depth)?;
@@ -92,7 +95,7 @@ fn name_and_comma(
     depth: u32,
 ) -> Result<(Identifier, Lexemes), ReadError>
     requires { depth ≤ 64 }
-    ensures { MatchResult result (λ x. TookAll (g.Name ∷ One Fixed.Comma ∷ []) [] depth depth ts.now (λ is. AName x.0 ∷ is) (is_identifier x.0) x.1.now) (λ e. FailsAll (g.Name ∷ One Fixed.Comma ∷ []) depth ts.now e) }
+    ensures { MatchResult result (λ x. TookAll (g.Name ∷ One Fixed.Comma ∷ []) [] depth depth ts.now (t.Name x.0 ∷ fixed Fixed.Comma ∷ []) (λ is. AName x.0 ∷ is) (is_identifier x.0) x.1.now) (λ e. FailsAll (g.Name ∷ One Fixed.Comma ∷ []) depth ts.now e) }
 {
     let (name, rest) = name(alloc, ts, depth)?;
     let rest = want(rest, Fixed::Comma, depth)?;

@@ -1,5 +1,5 @@
 -- Parts of a statement that may be left out, and lists of fields and arguments.
-use Rattle.std.specs.Prelude.{◌≡◌, ◌<◌, ℕ, Bool, IsTrue, List, [], ◌∷◌, length, Option, Some, None, Box}
+use Rattle.std.specs.Prelude.{◌≡◌, ◌<◌, ℕ, Bool, true, false, IsTrue, List, [], ◌∷◌, ◌++◌, length, Option, Some, None, Box}
 use Rattle.script_tree.specs.declared.symbol.Fixed.{Fixed}
 use Rattle.script_tree.specs.declared.symbol.Fixed.TheVariants as x
 use Rattle.script_tree.specs.declared.symbol.Symbol.TheVariants as s
@@ -11,12 +11,14 @@ use Rattle.slee_value.specs.declared.keep.Keep.{Keep}
 use Rattle.slee_value.specs.declared.keep.Keep.TheVariants as keeps
 use Rattle.script_tree.specs.declared.symbol.Constant.{Constant}
 use Rattle.script_tree.specs.declared.symbol.Constant.TheVariants as c
+use Rattle.script_tree.specs.Spelling.{fixed, spell_field}
 use Rattle.script_tree.specs.Tree.{Bytes, Expression, tree_of}
 use Rattle.script_tree.specs.Grammar.{Part, Name, Level, Make, WithField, Item, One, verdict, AText, AName, ATree, for_service, with_field, with_argument, with_result, repeated, kept}
 
 -- a field of an event that is fired was taken
 pub record TookField (d : ℕ) (ts : List Lexeme) (f : Bytes × Expression) (good : Bool) (rest : List Lexeme) : Type 0 where
   pub shorter : length rest < length ts
+  pub spelled : ts ≡ spell_field f ++ rest
   pub good_one : IsTrue good
   pub goes_on : (ps : List Part) (is : List Item) → verdict (Name ∷ One x.Colon ∷ Level 8 ∷ Make WithField ∷ ps) is d ts ≡ verdict ps (with_field (ATree f.1 ∷ AName f.0 ∷ is)) d rest
 
@@ -76,3 +78,18 @@ repeat_in (Some r) = Some (tree_of r.value.period, tree_of r.value.times)
 abbrev pub keep_in : List Lexeme → Option Keep
 keep_in [] = None
 keep_in (token ∷ ts) = keep_at token
+
+-- whether a list has an item
+abbrev pub has_some : {A : Type 0} → List A → Bool
+has_some [] = false
+has_some (x ∷ xs) = true
+
+-- each further field behind a comma
+abbrev pub spell_further : List (Bytes × Expression) → List Lexeme
+spell_further [] = []
+spell_further (f ∷ more) = fixed x.Comma ∷ (spell_field f ++ spell_further more)
+
+-- fields, without the brackets round them
+abbrev pub spell_list : List (Bytes × Expression) → List Lexeme
+spell_list [] = []
+spell_list (f ∷ more) = spell_field f ++ spell_further more

@@ -1,9 +1,9 @@
-ghost use Rattle.std.specs.Prelude.{◌≡◌, ◌≤◌, ◌<◌, ◌+◌, ◌∷◌, [], length, true, map, MatchResult};
+ghost use Rattle.std.specs.Prelude.{◌≡◌, ◌≤◌, ◌<◌, ◌+◌, ◌∷◌, ◌++◌, ◌&&◌, [], length, true, map, MatchResult};
 ghost use Rattle.std.specs.List.{list_all};
-ghost use Rattle.script_tree.specs.Grammar.{Stmt as AStmt, AStatement, stmt_fixed, Arguments, MoreResult, One, Level, Make, WithArgument, NextArgument};
-ghost use Rattle.script_tree.specs.Spelling.{fits, statement_fits, option_fits};
+ghost use Rattle.script_tree.specs.Grammar.{Stmt as AStmt, AStatement, Arguments, MoreResult, One, Level, Make, WithArgument, NextArgument};
+ghost use Rattle.script_tree.specs.Spelling.{fixed, spell_arguments, spell_result, fits, statement_fits, option_fits};
 ghost use Rattle.script_expression.specs.Takes.{Begun, Took, Fails, TookAll, FailsAll};
-ghost use Rattle.script_options.specs.Options.{with_arguments, result_set};
+ghost use Rattle.script_options.specs.Options.{has_some, with_arguments, result_set};
 ghost use Rattle.script_tree.specs.Tree.{statement_of, tree_of};
 ghost use Rattle.script_tree.specs.Words.{is_identifier};
 
@@ -19,7 +19,7 @@ pub fn call<'a>(
     depth: u32,
 ) -> Result<(Stmt, Lexemes<'a>), ReadError>
     requires deep { depth ≤ 64 }
-    requires begun { Begun AStmt (stmt_fixed Fixed.Call) depth ts.now behind.now }
+    requires begun { Begun AStmt (fixed Fixed.Call) depth ts.now behind.now }
     ensures { MatchResult result (λ x. Took AStmt [] depth ts.now (AStatement (statement_of x.0) ∷ []) (statement_fits depth (statement_of x.0)) x.1.now) (λ e. Fails AStmt depth ts.now e) }
 {
     let (child, rest) = name(alloc, behind, depth)?;
@@ -38,7 +38,7 @@ pub fn call<'a>(
 /// The arguments of a call, and the bracket behind them.
 fn arguments(alloc: Global, ts: Lexemes, depth: u32) -> Result<(Vec<Expr>, Lexemes), ReadError>
     requires { depth < 64 }
-    ensures { MatchResult result (λ x. TookAll (Arguments ∷ One Fixed.CloseRound ∷ []) [] (depth + 1) depth ts.now (with_arguments (map tree_of x.0.items)) (list_all (fits (depth + 1)) (map tree_of x.0.items)) x.1.now) (λ e. FailsAll (Arguments ∷ One Fixed.CloseRound ∷ []) (depth + 1) ts.now e) }
+    ensures { MatchResult result (λ x. TookAll (Arguments ∷ One Fixed.CloseRound ∷ []) [] (depth + 1) depth ts.now (spell_arguments (map tree_of x.0.items) ++ fixed Fixed.CloseRound ∷ []) (with_arguments (map tree_of x.0.items)) (list_all (fits (depth + 1)) (map tree_of x.0.items)) x.1.now) (λ e. FailsAll (Arguments ∷ One Fixed.CloseRound ∷ []) (depth + 1) ts.now e) }
 {
     let Some(after) = behind_word(ts, Fixed::CloseRound) else {
         let (list, rest) = argument_list(alloc, ts, depth + 1)?;
@@ -51,7 +51,7 @@ fn arguments(alloc: Global, ts: Lexemes, depth: u32) -> Result<(Vec<Expr>, Lexem
 /// An argument and more of them, each behind a comma.
 fn argument_list(alloc: Global, ts: Lexemes, depth: u32) -> Result<(Vec<Expr>, Lexemes), ReadError>
     requires { depth ≤ 64 }
-    ensures { MatchResult result (λ x. TookAll (Level 8 ∷ Make WithArgument ∷ NextArgument ∷ []) [] depth depth ts.now (with_arguments (map tree_of x.0.items)) (list_all (fits depth) (map tree_of x.0.items)) x.1.now) (λ e. FailsAll (Level 8 ∷ Make WithArgument ∷ NextArgument ∷ []) depth ts.now e) }
+    ensures { MatchResult result (λ x. TookAll (Level 8 ∷ Make WithArgument ∷ NextArgument ∷ []) [] depth depth ts.now (spell_arguments (map tree_of x.0.items)) (with_arguments (map tree_of x.0.items)) (has_some (map tree_of x.0.items) && list_all (fits depth) (map tree_of x.0.items)) x.1.now) (λ e. FailsAll (Level 8 ∷ Make WithArgument ∷ NextArgument ∷ []) depth ts.now e) }
 {
     let (first, mut rest) = expression(alloc, ts, depth)?;
     let mut list = Vec::new(alloc);
@@ -71,7 +71,7 @@ fn returned(
     depth: u32,
 ) -> Result<(Option<Identifier>, Lexemes), ReadError>
     requires { depth ≤ 64 }
-    ensures { MatchResult result (λ x. TookAll (MoreResult ∷ []) [] depth depth ts.now (result_set x.0) (option_fits is_identifier x.0) x.1.now) (λ e. Fails MoreResult depth ts.now e) }
+    ensures { MatchResult result (λ x. TookAll (MoreResult ∷ []) [] depth depth ts.now (spell_result x.0) (result_set x.0) (option_fits is_identifier x.0) x.1.now) (λ e. Fails MoreResult depth ts.now e) }
 {
     let Some(behind) = behind_word(ts, Fixed::As) else {
         return Ok((None, ts));

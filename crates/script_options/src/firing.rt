@@ -1,10 +1,10 @@
-ghost use Rattle.std.specs.Prelude.{◌≡◌, ◌≤◌, ◌<◌, ◌+◌, ◌∷◌, [], length, true, map, MatchResult};
+ghost use Rattle.std.specs.Prelude.{◌≡◌, ◌≤◌, ◌<◌, ◌+◌, ◌∷◌, ◌&&◌, [], length, true, map, MatchResult};
 ghost use Rattle.std.specs.List.{list_all};
-ghost use Rattle.script_tree.specs.Grammar.{Stmt as AStmt, AStatement, stmt_fixed, MoreService, MoreFields, NextField, WithField, One, Level, Make};
+ghost use Rattle.script_tree.specs.Grammar.{Stmt as AStmt, AStatement, MoreService, MoreFields, NextField, WithField, One, Level, Make};
 ghost use Rattle.script_tree.specs.Grammar as g;
-ghost use Rattle.script_tree.specs.Spelling.{statement_fits, field_fits, option_fits};
+ghost use Rattle.script_tree.specs.Spelling.{fixed, spell_service, spell_fields, statement_fits, field_fits, option_fits};
 ghost use Rattle.script_expression.specs.Takes.{Begun, Took, Fails, TookAll, FailsAll};
-ghost use Rattle.script_options.specs.Options.{TookField, with_service, with_fields};
+ghost use Rattle.script_options.specs.Options.{TookField, has_some, spell_list, with_service, with_fields};
 ghost use Rattle.script_tree.specs.Tree.{statement_of, field_of};
 ghost use Rattle.script_tree.specs.Words.{is_literal};
 
@@ -22,7 +22,7 @@ pub fn fire<'a>(
     depth: u32,
 ) -> Result<(Stmt, Lexemes<'a>), ReadError>
     requires deep { depth ≤ 64 }
-    requires begun { Begun AStmt (stmt_fixed Fixed.Fire) depth ts.now behind.now }
+    requires begun { Begun AStmt (fixed Fixed.Fire) depth ts.now behind.now }
     ensures { MatchResult result (λ x. Took AStmt [] depth ts.now (AStatement (statement_of x.0) ∷ []) (statement_fits depth (statement_of x.0)) x.1.now) (λ e. Fails AStmt depth ts.now e) }
 {
     let (event, rest) = text(alloc, behind, depth)?;
@@ -40,7 +40,7 @@ pub fn fire<'a>(
 /// `for TEXT`, where it comes.
 fn service(alloc: Global, ts: Lexemes, depth: u32) -> Result<(Option<Literal>, Lexemes), ReadError>
     requires { depth ≤ 64 }
-    ensures { MatchResult result (λ x. TookAll (MoreService ∷ []) [] depth depth ts.now (with_service x.0) (option_fits is_literal x.0) x.1.now) (λ e. Fails MoreService depth ts.now e) }
+    ensures { MatchResult result (λ x. TookAll (MoreService ∷ []) [] depth depth ts.now (spell_service x.0) (with_service x.0) (option_fits is_literal x.0) x.1.now) (λ e. Fails MoreService depth ts.now e) }
 {
     let Some(behind) = behind_word(ts, Fixed::For) else {
         return Ok((None, ts));
@@ -52,7 +52,7 @@ fn service(alloc: Global, ts: Lexemes, depth: u32) -> Result<(Option<Literal>, L
 /// `{ NAME: e, .. }`, where it comes.
 fn fields(alloc: Global, ts: Lexemes, depth: u32) -> Result<(Vec<FieldValue>, Lexemes), ReadError>
     requires { depth ≤ 64 }
-    ensures { MatchResult result (λ x. TookAll (MoreFields ∷ []) [] depth depth ts.now (with_fields (map field_of x.0.items)) (list_all (field_fits (depth + 1)) (map field_of x.0.items)) x.1.now) (λ e. Fails MoreFields depth ts.now e) }
+    ensures { MatchResult result (λ x. TookAll (MoreFields ∷ []) [] depth depth ts.now (spell_fields (map field_of x.0.items)) (with_fields (map field_of x.0.items)) (list_all (field_fits (depth + 1)) (map field_of x.0.items)) x.1.now) (λ e. Fails MoreFields depth ts.now e) }
 {
     let Some(inner) = behind_word(ts, Fixed::OpenCurly) else {
         return Ok((Vec::new(alloc), ts));
@@ -72,7 +72,7 @@ fn field_list(
     depth: u32,
 ) -> Result<(Vec<FieldValue>, Lexemes), ReadError>
     requires { depth ≤ 64 }
-    ensures { MatchResult result (λ x. TookAll (g.Name ∷ One Fixed.Colon ∷ Level 8 ∷ Make WithField ∷ NextField ∷ []) [] depth depth ts.now (with_fields (map field_of x.0.items)) (list_all (field_fits depth) (map field_of x.0.items)) x.1.now) (λ e. FailsAll (g.Name ∷ One Fixed.Colon ∷ Level 8 ∷ Make WithField ∷ NextField ∷ []) depth ts.now e) }
+    ensures { MatchResult result (λ x. TookAll (g.Name ∷ One Fixed.Colon ∷ Level 8 ∷ Make WithField ∷ NextField ∷ []) [] depth depth ts.now (spell_list (map field_of x.0.items)) (with_fields (map field_of x.0.items)) (has_some (map field_of x.0.items) && list_all (field_fits depth) (map field_of x.0.items)) x.1.now) (λ e. FailsAll (g.Name ∷ One Fixed.Colon ∷ Level 8 ∷ Make WithField ∷ NextField ∷ []) depth ts.now e) }
 {
     let (first, mut rest) = field(alloc, ts, depth)?;
     let mut list = Vec::new(alloc);

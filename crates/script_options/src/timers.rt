@@ -1,7 +1,7 @@
 ghost use Rattle.std.specs.Prelude.{◌≡◌, ◌≢◌, ◌≤◌, ◌<◌, ◌+◌, ◌∷◌, [], length, true, Err, MatchResult, MatchOption, IfOk};
 ghost use Rattle.script_tree.specs.declared.lexeme.Lexeme.{Lexeme as ALexeme};
-ghost use Rattle.script_tree.specs.Grammar.{Stmt as AStmt, AStatement, stmt_fixed, MoreRepeat, MoreKeep, KeepWord};
-ghost use Rattle.script_tree.specs.Spelling.{statement_fits, option_fits, repeat_fits};
+ghost use Rattle.script_tree.specs.Grammar.{Stmt as AStmt, AStatement, MoreRepeat, MoreKeep, KeepWord};
+ghost use Rattle.script_tree.specs.Spelling.{fixed, spell_repeat, spell_keep, keep_token, statement_fits, option_fits, repeat_fits};
 ghost use Rattle.script_options.specs.Options.{keep_in};
 ghost use Rattle.script_expression.specs.Takes.{Begun, Took, Fails, TookAll};
 ghost use Rattle.script_options.specs.Options.{repeat_set, keep_set, keep_at, repeat_in};
@@ -22,7 +22,7 @@ pub fn timer<'a>(
     depth: u32,
 ) -> Result<(Stmt, Lexemes<'a>), ReadError>
     requires deep { depth ≤ 64 }
-    requires begun { Begun AStmt (stmt_fixed Fixed.Timer) depth ts.now behind.now }
+    requires begun { Begun AStmt (fixed Fixed.Timer) depth ts.now behind.now }
     ensures { MatchResult result (λ x. Took AStmt [] depth ts.now (AStatement (statement_of x.0) ∷ []) (statement_fits depth (statement_of x.0)) x.1.now) (λ e. Fails AStmt depth ts.now e) }
 {
     let (name, rest) = name(alloc, behind, depth)?;
@@ -49,7 +49,7 @@ fn repeat(
     depth: u32,
 ) -> Result<(Option<Box<Repeat>>, Lexemes), ReadError>
     requires { depth ≤ 64 }
-    ensures { MatchResult result (λ x. TookAll (MoreRepeat ∷ []) [] depth depth ts.now (repeat_set (repeat_in x.0)) (option_fits (repeat_fits depth) (repeat_in x.0)) x.1.now) (λ e. Fails MoreRepeat depth ts.now e) }
+    ensures { MatchResult result (λ x. TookAll (MoreRepeat ∷ []) [] depth depth ts.now (spell_repeat (repeat_in x.0)) (repeat_set (repeat_in x.0)) (option_fits (repeat_fits depth) (repeat_in x.0)) x.1.now) (λ e. Fails MoreRepeat depth ts.now e) }
 {
     let Some(behind) = behind_word(ts, Fixed::Every) else {
         return Ok((None, ts));
@@ -82,7 +82,7 @@ fn unboxed(repeat: Option<Box<Repeat>>) -> Option<Repeat>
 /// `keep` and its word, where it comes.
 fn keep(ts: Lexemes, depth: u32) -> Result<(Option<Keep>, Lexemes), ReadError>
     requires { depth ≤ 64 }
-    ensures read { MatchResult result (λ x. TookAll (MoreKeep ∷ []) [] depth depth ts.now (keep_set x.0) true x.1.now) (λ e. Fails MoreKeep depth ts.now e) }
+    ensures read { MatchResult result (λ x. TookAll (MoreKeep ∷ []) [] depth depth ts.now (spell_keep x.0) (keep_set x.0) true x.1.now) (λ e. Fails MoreKeep depth ts.now e) }
     ensures memory { result ≢ Err ReadError.NoMemory }
 {
     let Some(behind) = behind_word(ts, Fixed::Keep) else {
@@ -95,7 +95,7 @@ fn keep(ts: Lexemes, depth: u32) -> Result<(Option<Keep>, Lexemes), ReadError>
 /// `all`, `last` or `none`.
 fn keep_word(ts: Lexemes, depth: u32) -> Result<(Keep, Lexemes), ReadError>
     requires { depth ≤ 64 }
-    ensures read { MatchResult result (λ x. TookAll (KeepWord ∷ []) [] depth depth ts.now (keep_set (Some x.0)) true x.1.now) (λ e. Fails KeepWord depth ts.now e) }
+    ensures read { MatchResult result (λ x. TookAll (KeepWord ∷ []) [] depth depth ts.now (keep_token x.0 ∷ []) (keep_set (Some x.0)) true x.1.now) (λ e. Fails KeepWord depth ts.now e) }
     ensures memory { result ≢ Err ReadError.NoMemory }
 {
     let Some((keep, rest)) = keep_in(ts) else {

@@ -1,5 +1,5 @@
 -- An expression as it is spelled is read as that expression.
-use Rattle.std.proofs.Common.{◌≡◌, ◌≤◌, ◌+◌, ◌-◌, ℕ, List, [], ◌∷◌, ◌++◌, Bool, true, false, cond, ◌&&◌, refl, ap, ◌∙◌, arith, append_assoc}
+use Rattle.std.proofs.Common.{◌≡◌, ◌≤◌, ◌+◌, ◌-◌, ℕ, List, [], ◌∷◌, ◌++◌, Bool, true, false, ◌&&◌, refl, ap, ◌∙◌, arith, append_assoc}
 use Rattle.std.specs.Prelude.{nat_le}
 use Rattle.std.proofs.lemmas.Bool.Decides.{nat_tests}
 use Rattle.script_tree.specs.declared.symbol.Operator.{Operator}
@@ -15,8 +15,8 @@ use Rattle.script_tree.specs.declared.tree.Prefix.TheVariants as prefixes
 use Rattle.script_tree.specs.declared.tree.Query.{Query}
 use Rattle.script_tree.specs.declared.tree.Query.TheVariants as q
 use Rattle.script_tree.specs.Words.{is_identifier, is_literal, is_number}
-use Rattle.script_tree.specs.Tree.{Expression, Leaf, Unary, Binary, Ask}
-use Rattle.script_tree.specs.Spelling.{fixed, level, prefix_level, chain_level, left_level, at_level, spell_leaf, before_asked, behind_asked, spell_expression, depth_at, leaf_fits, query_fits, fits}
+use Rattle.script_tree.specs.Tree.{Expression, Leaf, Unary, Binary, Ask, Group}
+use Rattle.script_tree.specs.Spelling.{fixed, level, prefix_level, chain_level, left_level, spell_leaf, before_asked, behind_asked, spell_expression, leaf_fits, query_fits, fits}
 use Rattle.script_tree.specs.Grammar.{Part, Item, AName, AText, ATree, Make, Asking, AskingMasked, AskingAttribute, AskingProfile, AskingHasProfile, TableOf, CountOf, PriorityOf, Name, Text, Level, One, verdict, level_of}
 use Rattle.script_print.proofs.Levels.{runs, lasts, lasts_less, made, skip_runs, opens, prefixed, ends_at, operated, opened, closed, grouped}
 
@@ -40,18 +40,17 @@ leaf_depth d (l.Table n) h = let e = le_is (d + 1) 64 (and_parts (is_identifier 
 leaf_depth d (l.Count n) h = let e = le_is (d + 1) 64 (and_parts (is_identifier n) (nat_le (d + 1) 64) h).1 in omega arith
 leaf_depth d (l.Priority n) h = let e = le_is (d + 1) 64 (and_parts (is_identifier n) (nat_le (d + 1) 64) h).1 in omega arith
 
-deeper : (b : Bool) (d : ℕ) → cond b d (d + 1) ≤ 64 → d ≤ 64
-deeper true d h = h
-deeper false d h = omega (arith, h)
-
 pub depth_fits : (a : Expression) (d : ℕ) → fits d a ≡ true → d ≤ 64
 depth_fits (Leaf y) d h = leaf_depth d y h
-depth_fits (Unary op a) d h = deeper (nat_le (level a) (prefix_level op - 1)) d (depth_fits a (depth_at (prefix_level op - 1) a d) h)
+depth_fits (Unary op a) d h = depth_fits a d (and_parts (nat_le (level a) (prefix_level op - 1)) (fits d a) h).1
 depth_fits (Binary op a b) d h =
-    let p = and_parts (fits (depth_at (left_level op) a d) a) (fits (depth_at (level_of op - 1) b d) b) h in
-    deeper (nat_le (level a) (left_level op)) d (depth_fits a (depth_at (left_level op) a d) p.0)
+    let p = and_parts (nat_le (level a) (left_level op) && fits d a) (nat_le (level b) (level_of op - 1) && fits d b) h in
+    depth_fits a d (and_parts (nat_le (level a) (left_level op)) (fits d a) p.0).1
 depth_fits (Ask query a) d h =
     let e = depth_fits a (d + 1) (and_parts (query_fits query) (fits (d + 1) a) h).1 in
+    omega arith
+depth_fits (Group a) d h =
+    let e = depth_fits a (d + 1) h in
     omega arith
 
 operator_bound : (op : Operator) → level_of op ≤ 8
@@ -74,6 +73,7 @@ level_bound (Leaf y) = omega arith
 level_bound (Unary op a) = prefix_bound op
 level_bound (Binary op a b) = operator_bound op
 level_bound (Ask query a) = omega arith
+level_bound (Group a) = omega arith
 
 -- ---- what is to be shown of an expression
 
@@ -88,16 +88,12 @@ pub whole : (a : Expression) → Again a → (ps : List Part) (is : List Item) (
 whole a again ps is d rest f h =
     again 8 ps is d rest (level_bound a) f (lasts_less (ends_at (level a)) 9 rest (ends_bound (level a) (level_bound a)) h) ∙ skip_runs 8 9 ps (ATree a ∷ is) d rest (omega arith) h
 
--- an operand, in brackets where it needs them
-operand_by : (b : Bool) (m n d : ℕ) (a : Expression) (rest : List Lexeme) (ps : List Part) (is : List Item) → nat_le (level a) m ≡ b → m ≤ n → Again a → fits (cond b d (d + 1)) a ≡ true → (level a ≤ m → lasts (ends_at (level a)) rest ≡ true) → verdict (Level n ∷ ps) is d (cond b (spell_expression a) (fixed x.OpenRound ∷ (spell_expression a ++ fixed x.CloseRound ∷ [])) ++ rest) ≡ verdict (runs n ps) (ATree a ∷ is) d rest
-operand_by true m n d a rest ps is e le again f h = let small = le_is (level a) m e in again n ps is d rest (omega arith) f (h small)
-operand_by false m n d a rest ps is e le again f h =
-    ap (λ ts. verdict (Level n ∷ ps) is d (fixed x.OpenRound ∷ ts)) (append_assoc (spell_expression a) (fixed x.CloseRound ∷ []) rest)
-    ∙ grouped n a ps is d (spell_expression a) rest (depth_fits a (d + 1) f)
-    (λ ps is. again 8 ps is (d + 1) (fixed x.CloseRound ∷ rest) (level_bound a) f refl)
-
-operand : (m n d : ℕ) (a : Expression) (rest : List Lexeme) (ps : List Part) (is : List Item) → m ≤ n → Again a → fits (depth_at m a d) a ≡ true → (level a ≤ m → lasts (ends_at (level a)) rest ≡ true) → verdict (Level n ∷ ps) is d (at_level m a (spell_expression a) ++ rest) ≡ verdict (runs n ps) (ATree a ∷ is) d rest
-operand m n d a rest ps is le again f h = operand_by (nat_le (level a) m) m n d a rest ps is refl le again f h
+-- an operand of a level that may stand there
+operand : (m n d : ℕ) (a : Expression) (rest : List Lexeme) (ps : List Part) (is : List Item) → m ≤ n → Again a → (nat_le (level a) m && fits d a) ≡ true → (level a ≤ m → lasts (ends_at (level a)) rest ≡ true) → verdict (Level n ∷ ps) is d (spell_expression a ++ rest) ≡ verdict (runs n ps) (ATree a ∷ is) d rest
+operand m n d a rest ps is le again f h =
+    let p = and_parts (nat_le (level a) m) (fits d a) f in
+    let small = le_is (level a) m p.0 in
+    again n ps is d rest (omega (arith, small, le)) p.1 (h small)
 
 -- ---- expressions without operators
 
@@ -184,13 +180,13 @@ expression (Leaf y) = λ n ps is d rest le f h. leaf_opens y n ps is d rest ∙ 
 expression (Unary op a) = λ n ps is d rest le f h.
     let k = prefix_level op in
     let ends = lasts_less k (ends_at k) rest (ends_self k) h in
-    prefixed n op a ps is d (at_level (k - 1) a (spell_expression a) ++ rest) rest le ends
+    prefixed n op a ps is d (spell_expression a ++ rest) rest le ends
     (λ ps is. operand (k - 1) (k - 1) d a rest ps is (omega arith) (expression a) f (λ small. lasts_less (ends_at (level a)) k rest (ends_below (level a) k small) ends))
 expression (Binary op a b) = λ n ps is d rest le f h.
     let k = level_of op in
-    let left = at_level (left_level op) a (spell_expression a) in
-    let right = at_level (k - 1) b (spell_expression b) in
-    let p = and_parts (fits (depth_at (left_level op) a d) a) (fits (depth_at (k - 1) b d) b) f in
+    let left = spell_expression a in
+    let right = spell_expression b in
+    let p = and_parts (nat_le (level a) (left_level op) && fits d a) (nat_le (level b) (k - 1) && fits d b) f in
     let chain = chain_below k in
     ap (verdict (Level n ∷ ps) is d) (append_assoc left (t.Symbol (s.Operator op) ∷ right) rest)
     ∙ operand (left_level op) n d a (t.Symbol (s.Operator op) ∷ (right ++ rest)) ps is (omega (arith, chain, le)) (expression a) p.0 (λ small. is_le (ends_at (level a)) k (ends_left (level a) k small))
@@ -201,6 +197,9 @@ expression (Ask query a) = λ n ps is d rest le f h.
     ap (verdict (Level n ∷ ps) is d) (append_assoc (before_asked query) (spell_expression a ++ behind_asked query) rest ∙ ap (λ ts. before_asked query ++ ts) (append_assoc (spell_expression a) (behind_asked query) rest))
     ∙ asked_opens query n ps is d (spell_expression a ++ (behind_asked query ++ rest))
     ∙ asked query a (runs n ps) is d rest (depth_fits a (d + 1) p.1) (λ ps is rest h. whole a (expression a) ps is (d + 1) rest p.1 h)
+expression (Group a) = λ n ps is d rest le f h.
+    ap (λ ts. verdict (Level n ∷ ps) is d (fixed x.OpenRound ∷ ts)) (append_assoc (spell_expression a) (fixed x.CloseRound ∷ []) rest)
+    ∙ grouped n a ps is d (spell_expression a) rest (depth_fits a (d + 1) f) (λ ps is. expression a 8 ps is (d + 1) (fixed x.CloseRound ∷ rest) (level_bound a) f (lasts_less (ends_at (level a)) 9 (fixed x.CloseRound ∷ rest) (ends_bound (level a) (level_bound a)) refl))
 
 -- an expression with something behind it that is no operator
 pub again : (a : Expression) (ps : List Part) (is : List Item) (d : ℕ) (rest : List Lexeme) → fits d a ≡ true → lasts 9 rest ≡ true → verdict (Level 8 ∷ ps) is d (spell_expression a ++ rest) ≡ verdict ps (ATree a ∷ is) d rest

@@ -10,9 +10,9 @@ use Rattle.script_tree.specs.declared.lexeme.Lexeme.{Lexeme}
 use Rattle.script_tree.specs.declared.lexeme.Lexeme.TheVariants as t
 use Rattle.script_tree.specs.declared.tree.Prefix.{Prefix}
 use Rattle.script_tree.specs.declared.tree.Prefix.TheVariants as prefixes
-use Rattle.script_tree.specs.Tree.{Expression, Unary, Binary}
+use Rattle.script_tree.specs.Tree.{Expression, Unary, Binary, Group}
 use Rattle.script_tree.specs.Spelling.{fixed, prefix_level, prefix_token}
-use Rattle.script_tree.specs.Grammar.{Part, Item, ATree, Next, Stops, Goes, Make, Prefixing, Operating, Level, More, One, verdict, verdict_at, make, goes_on, then_parts, prefix_after, level_after, more_after, more_symbol, again, level_of, turn, Stays}
+use Rattle.script_tree.specs.Grammar.{Part, Item, ATree, Next, Stops, Goes, Make, Grouping, Prefixing, Operating, Level, More, One, verdict, verdict_at, make, goes_on, then_parts, prefix_after, level_after, more_after, more_symbol, again, level_of, turn, Stays}
 
 -- the operators of the levels up to this one
 abbrev pub runs : ℕ → List Part → List Part
@@ -211,15 +211,16 @@ pub closed : (ps : List Part) (is : List Item) (d : ℕ) (ts : List Lexeme) → 
 unfolding verdict
 closed ps is d ts = let e : d + 1 - 1 ≡ d = omega arith in ap (λ n. verdict ps is n ts) e
 
-group_opens : (ps : List Part) (is : List Item) (d : ℕ) (ts : List Lexeme) → d + 1 ≤ 64 → verdict (Level 0 ∷ ps) is d (fixed x.OpenRound ∷ ts) ≡ verdict (Level 8 ∷ One x.CloseRound ∷ ps) is (d + 1) ts
+group_opens : (ps : List Part) (is : List Item) (d : ℕ) (ts : List Lexeme) → d + 1 ≤ 64 → verdict (Level 0 ∷ ps) is d (fixed x.OpenRound ∷ ts) ≡ verdict (Level 8 ∷ Make Grouping ∷ One x.CloseRound ∷ ps) is (d + 1) ts
 unfolding verdict
 group_opens ps is d ts le = let e : nat_le 64 d ≡ false = grind (arith, nat_tests) in rw e refl
 
 -- an expression in brackets
-pub grouped : (n : ℕ) (a : Expression) (ps : List Part) (is : List Item) (d : ℕ) (ts rest : List Lexeme) → d + 1 ≤ 64 → Operand 8 a (d + 1) (ts ++ fixed x.CloseRound ∷ rest) (fixed x.CloseRound ∷ rest) → verdict (Level n ∷ ps) is d (fixed x.OpenRound ∷ (ts ++ fixed x.CloseRound ∷ rest)) ≡ verdict (runs n ps) (ATree a ∷ is) d rest
+pub grouped : (n : ℕ) (a : Expression) (ps : List Part) (is : List Item) (d : ℕ) (ts rest : List Lexeme) → d + 1 ≤ 64 → Operand 8 a (d + 1) (ts ++ fixed x.CloseRound ∷ rest) (fixed x.CloseRound ∷ rest) → verdict (Level n ∷ ps) is d (fixed x.OpenRound ∷ (ts ++ fixed x.CloseRound ∷ rest)) ≡ verdict (runs n ps) (ATree (Group a) ∷ is) d rest
 grouped n a ps is d ts rest le reads =
     opens n ps is d (fixed x.OpenRound) (ts ++ fixed x.CloseRound ∷ rest) (λ n other. refl)
     ∙ group_opens (runs n ps) is d (ts ++ fixed x.CloseRound ∷ rest) le
-    ∙ reads (One x.CloseRound ∷ runs n ps) is
-    ∙ skip_runs 8 9 (One x.CloseRound ∷ runs n ps) (ATree a ∷ is) (d + 1) (fixed x.CloseRound ∷ rest) (omega arith) refl
-    ∙ closed (runs n ps) (ATree a ∷ is) d rest
+    ∙ reads (Make Grouping ∷ One x.CloseRound ∷ runs n ps) is
+    ∙ skip_runs 8 9 (Make Grouping ∷ One x.CloseRound ∷ runs n ps) (ATree a ∷ is) (d + 1) (fixed x.CloseRound ∷ rest) (omega arith) refl
+    ∙ made Grouping (One x.CloseRound ∷ runs n ps) (ATree a ∷ is) (d + 1) (fixed x.CloseRound ∷ rest)
+    ∙ closed (runs n ps) (ATree (Group a) ∷ is) d rest

@@ -1,5 +1,3 @@
-pub mod Rows
-pub mod Chains
 pub mod Printed
 pub mod Spelled
 pub mod Levels
@@ -8,3 +6,5 @@ pub mod Statements
 pub mod Activities
 pub mod Scripts
 pub mod Texts
+pub mod Refused
+pub mod Indents

@@ -26,7 +26,9 @@ use Rattle.script_tree.specs.declared.lexeme.Quote.{Quote}
 use Rattle.script_tree.specs.Tree.{Bytes}
 use Rattle.script_tree.specs.Words.{reserved, is_identifier, is_literal, is_number, is_byte_of_text, quoted, quoted_byte}
 use Rattle.script_tree.specs.Lexer.{Spot, lexed, lexeme_of, unless_bad, is_blank, starts_token, cut, word_cut, word_lexeme, number_cut, number_lexeme, digits_value, text_cut, quote_of, with_byte, sign_cut}
-use Rattle.script_tree.specs.Reading.{lexeme_text, gap, ends_line, spaced, can_be_written}
+use Rattle.script_print.specs.declared.manner.Manner.{Manner}
+use Rattle.script_print.specs.declared.manner.Manner.TheVariants as m
+use Rattle.script_print.specs.Layout.{lexeme_text, manner, is_tight, ends_line, nesting, margin, indent, gap, behind, laid_out, can_be_written}
 use Rattle.script_tree.proofs.Lexing.{token_first, one_blank}
 
 and_parts : (a b : Bool) → (a && b) ≡ true → (a ≡ true) × (b ≡ true)
@@ -45,39 +47,17 @@ at_false : {A : Type 0} (a : Bool) (x y : A) → a ≡ false → cond a x y ≡ 
 at_false true x y h = absurd cc
 at_false false x y h = refl
 
--- a token whose text is cut off as that token, whatever stands behind the blank after it
-pub record Clean (y : Lexeme) : Type 0 where
-  pub starts : (rest : Bytes) → starts_token (lexeme_text y ++ gap y ∷ rest) ≡ true
-  pub cut_is : (rest : Bytes) → cut (lexeme_text y ++ gap y ∷ rest) ≡ record { lexeme = y; size = length (lexeme_text y) }
+-- a byte behind which no token goes on
+pub record Stop (g : ℕ) : Type 0 where
+  pub name : is_byte_of_name g ≡ false
+  pub digit : is_digit g ≡ false
+  pub equal : (g == 61) ≡ false
+  pub plus : (g == 43) ≡ false
 
--- ---- words and signs
-
-operator_clean : (y : Operator) → Clean (t.Symbol (s.Operator y))
-operator_clean o.Or = record { starts = λ rest. refl; cut_is = λ rest. refl }
-operator_clean _ = record { starts = λ rest. refl; cut_is = λ rest. refl }
-
-constant_clean : (y : Constant) → Clean (t.Symbol (s.Constant y))
-constant_clean k.True = record { starts = λ rest. refl; cut_is = λ rest. refl }
-constant_clean _ = record { starts = λ rest. refl; cut_is = λ rest. refl }
-
-function_clean : (y : Function) → Clean (t.Symbol (s.Function y))
-function_clean f.Text = record { starts = λ rest. refl; cut_is = λ rest. refl }
-function_clean _ = record { starts = λ rest. refl; cut_is = λ rest. refl }
-
-verb_clean : (y : Verb) → Clean (t.Symbol (s.Verb y))
-verb_clean v.End = record { starts = λ rest. refl; cut_is = λ rest. refl }
-verb_clean _ = record { starts = λ rest. refl; cut_is = λ rest. refl }
-
-fixed_clean : (y : Fixed) → Clean (t.Symbol (s.Fixed y))
-fixed_clean x.OpenRound = record { starts = λ rest. refl; cut_is = λ rest. refl }
-fixed_clean _ = record { starts = λ rest. refl; cut_is = λ rest. refl }
-
-symbol_clean : (y : Symbol) → Clean (t.Symbol y)
-symbol_clean (s.Operator y) = operator_clean y
-symbol_clean (s.Constant y) = constant_clean y
-symbol_clean (s.Function y) = function_clean y
-symbol_clean (s.Verb y) = verb_clean y
-symbol_clean (s.Fixed y) = fixed_clean y
+-- a token whose text is cut off as that token before such a byte
+pub record Clean (g : ℕ) (y : Lexeme) : Type 0 where
+  pub starts : (rest : Bytes) → starts_token (lexeme_text y ++ g ∷ rest) ≡ true
+  pub cut_is : (rest : Bytes) → cut (lexeme_text y ++ g ∷ rest) ≡ record { lexeme = y; size = length (lexeme_text y) }
 
 -- ---- runs
 
@@ -107,9 +87,25 @@ letter_in_name b h = or_left (is_letter b) (is_digit b || b == 95) h
     or_left true c h = refl
     or_left false c h = absurd cc
 
-name_clean : (n : Bytes) → is_identifier n ≡ true → Clean (t.Name n)
-name_clean [] h = absurd cc
-name_clean (b ∷ bs) h =
+abbrev first_letter : Bytes → Bool
+first_letter [] = false
+first_letter (b ∷ bs) = is_letter b
+
+-- a run of bytes of a name that is one word
+word_clean : (g : ℕ) (y : Lexeme) → Stop g → first_letter (lexeme_text y) ≡ true → list_all is_byte_of_name (lexeme_text y) ≡ true → word_cut (lexeme_text y) ≡ record { lexeme = y; size = length (lexeme_text y) } → Clean g y
+word_clean g y stop first all word = record { starts = λ rest. (cut_by (lexeme_text y) rest first all).0; cut_is = λ rest. (cut_by (lexeme_text y) rest first all).1 ∙ word }
+  where
+    cut_by : (bs rest : Bytes) → first_letter bs ≡ true → list_all is_byte_of_name bs ≡ true → (starts_token (bs ++ g ∷ rest) ≡ true) × (cut (bs ++ g ∷ rest) ≡ word_cut bs)
+    cut_by [] rest first all = absurd cc
+    cut_by (b ∷ bs) rest first all = (
+      letter_starts b (bs ++ g ∷ rest) first,
+      at_true (is_letter b) (word_cut (take_while is_byte_of_name (b ∷ (bs ++ g ∷ rest)))) (cond (is_digit b) (number_cut (take_while is_digit (b ∷ (bs ++ g ∷ rest)))) (cond (b == 34) (text_cut (quote_of false (bs ++ g ∷ rest))) (sign_cut b (bs ++ g ∷ rest)))) first
+          ∙ ap word_cut (run_again is_byte_of_name (b ∷ bs) g rest all stop.name),
+    )
+
+name_clean : (g : ℕ) (n : Bytes) → Stop g → is_identifier n ≡ true → Clean g (t.Name n)
+name_clean g [] stop h = absurd cc
+name_clean g (b ∷ bs) stop h =
     let parts = and_parts (is_name (b ∷ bs)) (not (is_some (reserved (b ∷ bs)))) h in
     let first = and_parts (is_letter b) (list_all is_byte_of_name bs && nat_le (length (b ∷ bs)) 64) parts.0 in
     let more = and_parts (list_all is_byte_of_name bs) (nat_le (length (b ∷ bs)) 64) first.1 in
@@ -117,12 +113,7 @@ name_clean (b ∷ bs) h =
     let word : word_cut (b ∷ bs) ≡ record { lexeme = t.Name (b ∷ bs); size = length (b ∷ bs) } =
     ap (λ r. let c : Cut = record { lexeme = word_lexeme r (b ∷ bs); size = length (b ∷ bs) } in c) (no_word (reserved (b ∷ bs)) parts.1)
     ∙ ap (λ y. let c : Cut = record { lexeme = y; size = length (b ∷ bs) } in c) (at_true (nat_le (length (b ∷ bs)) 64) (t.Name (b ∷ bs)) t.Bad more.1) in
-    record {
-      starts = λ rest. letter_starts b (bs ++ 32 ∷ rest) first.0;
-      cut_is = λ rest.
-          at_true (is_letter b) (word_cut (take_while is_byte_of_name (b ∷ (bs ++ 32 ∷ rest)))) (cond (is_digit b) (number_cut (take_while is_digit (b ∷ (bs ++ 32 ∷ rest)))) (cond (b == 34) (text_cut (quote_of false (bs ++ 32 ∷ rest))) (sign_cut b (bs ++ 32 ∷ rest)))) first.0
-          ∙ ap word_cut (run_again is_byte_of_name (b ∷ bs) 32 rest all refl) ∙ word;
-    }
+    word_clean g (t.Name (b ∷ bs)) stop first.0 all word
 
 -- ---- numbers
 
@@ -175,26 +166,26 @@ digit_starts b bs h = grind (arith, nat_tests)
 no_letter : (b : ℕ) → is_digit b ≡ true → is_letter b ≡ false
 no_letter b h = grind (arith, nat_tests)
 
-digits_cut : (ds : Bytes) (n : ℕ) (rest : Bytes) → Digits n ds → (nat_le (length ds) 1 || not (slice_index ds 0 == 48)) ≡ true → is_number n ≡ true → (starts_token (ds ++ 32 ∷ rest) ≡ true) × (cut (ds ++ 32 ∷ rest) ≡ record { lexeme = t.Int n; size = length ds })
-digits_cut [] n rest d z h = absurd (omega (arith, d.some))
-digits_cut (b ∷ bs) n rest d z h =
+digits_cut : (g : ℕ) (ds : Bytes) (n : ℕ) (rest : Bytes) → Stop g → Digits n ds → (nat_le (length ds) 1 || not (slice_index ds 0 == 48)) ≡ true → is_number n ≡ true → (starts_token (ds ++ g ∷ rest) ≡ true) × (cut (ds ++ g ∷ rest) ≡ record { lexeme = t.Int n; size = length ds })
+digits_cut g [] n rest stop d z h = absurd (omega (arith, d.some))
+digits_cut g (b ∷ bs) n rest stop d z h =
     let parts = and_parts (is_digit b) (list_all is_digit bs) d.digits in
     let number : is_number (digits_value 0 (b ∷ bs)) ≡ true = ap is_number d.value ∙ h in
     let both = and_both (nat_le (length (b ∷ bs)) 1 || not (b == 48)) (is_number (digits_value 0 (b ∷ bs))) z number in
     let inner = at_true ((nat_le (length (b ∷ bs)) 1 || not (b == 48)) && is_number (digits_value 0 (b ∷ bs))) (Some (digits_value 0 (b ∷ bs))) None both ∙ ap Some d.value in (
-      digit_starts b (bs ++ 32 ∷ rest) parts.0,
-      at_false (is_letter b) (word_cut (take_while is_byte_of_name (b ∷ (bs ++ 32 ∷ rest)))) (cond (is_digit b) (number_cut (take_while is_digit (b ∷ (bs ++ 32 ∷ rest)))) (cond (b == 34) (text_cut (quote_of false (bs ++ 32 ∷ rest))) (sign_cut b (bs ++ 32 ∷ rest)))) (no_letter b parts.0)
-          ∙ at_true (is_digit b) (number_cut (take_while is_digit (b ∷ (bs ++ 32 ∷ rest)))) (cond (b == 34) (text_cut (quote_of false (bs ++ 32 ∷ rest))) (sign_cut b (bs ++ 32 ∷ rest))) parts.0
-          ∙ ap number_cut (run_again is_digit (b ∷ bs) 32 rest d.digits refl)
+      digit_starts b (bs ++ g ∷ rest) parts.0,
+      at_false (is_letter b) (word_cut (take_while is_byte_of_name (b ∷ (bs ++ g ∷ rest)))) (cond (is_digit b) (number_cut (take_while is_digit (b ∷ (bs ++ g ∷ rest)))) (cond (b == 34) (text_cut (quote_of false (bs ++ g ∷ rest))) (sign_cut b (bs ++ g ∷ rest)))) (no_letter b parts.0)
+          ∙ at_true (is_digit b) (number_cut (take_while is_digit (b ∷ (bs ++ g ∷ rest)))) (cond (b == 34) (text_cut (quote_of false (bs ++ g ∷ rest))) (sign_cut b (bs ++ g ∷ rest))) parts.0
+          ∙ ap number_cut (run_again is_digit (b ∷ bs) g rest d.digits stop.digit)
           ∙ ap (λ r. let c : Cut = record { lexeme = number_lexeme r; size = length (b ∷ bs) } in c) inner,
     )
 
-int_clean : (n : ℕ) → is_number n ≡ true → Clean (t.Int n)
-int_clean n h =
+int_clean : (g n : ℕ) → Stop g → is_number n ≡ true → Clean g (t.Int n)
+int_clean g n stop h =
     let small : n < 2 ^ 64 = below n h in
     let d = digits_of_decimal n small in
     let z = no_zero n small in
-    record { starts = λ rest. (digits_cut (decimal n) n rest d z h).0; cut_is = λ rest. (digits_cut (decimal n) n rest d z h).1 }
+    record { starts = λ rest. (digits_cut g (decimal n) n rest stop d z h).0; cut_is = λ rest. (digits_cut g (decimal n) n rest stop d z h).1 }
   where
     below : (n : ℕ) → is_number n ≡ true → n < 2 ^ 64
     below n h = grind (arith, nat_tests)
@@ -224,44 +215,67 @@ quote_again (x ∷ xs) rest h =
     ∙ ap (with_byte x (length (quoted_byte x))) (quote_again xs rest parts.1)
     ∙ ap (λ n. Some (let q : Quote = record { text = x ∷ xs; size = n } in q)) (sym (length-append (quoted_byte x) (quoted xs)))
 
-text_clean : (xs : Bytes) → is_literal xs ≡ true → Clean (t.Text xs)
-text_clean xs h =
+text_clean : (g : ℕ) (xs : Bytes) → is_literal xs ≡ true → Clean g (t.Text xs)
+text_clean g xs h =
     let parts = and_parts (list_all is_byte_of_text xs) (nat_le (length (quoted xs)) 4096) h in
     let size : length (quoted xs) + 2 ≡ length (34 ∷ (quoted xs ++ 34 ∷ [])) = omega (arith, length-append (quoted xs) (34 ∷ [])) in
     record {
       starts = λ rest. refl;
       cut_is = λ rest.
-          ap (λ bs. text_cut (quote_of false bs)) (append_assoc (quoted xs) (34 ∷ []) (32 ∷ rest)) ∙ ap text_cut (quote_again xs (32 ∷ rest) parts.0)
+          ap (λ bs. text_cut (quote_of false bs)) (append_assoc (quoted xs) (34 ∷ []) (g ∷ rest)) ∙ ap text_cut (quote_again xs (g ∷ rest) parts.0)
           ∙ at_true (nat_le (length (quoted xs)) 4096) (let c : Cut = record { lexeme = t.Text xs; size = length (quoted xs) + 2 } in c) (let c : Cut = record { lexeme = t.Bad; size = 1 } in c) parts.1
           ∙ ap (λ n. let c : Cut = record { lexeme = t.Text xs; size = n } in c) size;
     }
 
+-- ---- words and signs
+
+operator_clean : (g : ℕ) (y : Operator) → Stop g → Clean g (t.Symbol (s.Operator y))
+operator_clean g o.Or stop = word_clean g _ stop refl refl refl
+operator_clean g o.And stop = word_clean g _ stop refl refl refl
+operator_clean g o.Less stop = record { starts = λ rest. refl; cut_is = λ rest. rw stop.equal refl }
+operator_clean g o.Greater stop = record { starts = λ rest. refl; cut_is = λ rest. rw stop.equal refl }
+operator_clean g o.Plus stop = record { starts = λ rest. refl; cut_is = λ rest. rw stop.plus refl }
+operator_clean g _ stop = record { starts = λ rest. refl; cut_is = λ rest. refl }
+
+constant_clean : (g : ℕ) (y : Constant) → Stop g → Clean g (t.Symbol (s.Constant y))
+constant_clean g k.True stop = word_clean g _ stop refl refl refl
+constant_clean g _ stop = word_clean g _ stop refl refl refl
+
+function_clean : (g : ℕ) (y : Function) → Stop g → Clean g (t.Symbol (s.Function y))
+function_clean g f.Text stop = word_clean g _ stop refl refl refl
+function_clean g _ stop = word_clean g _ stop refl refl refl
+
+verb_clean : (g : ℕ) (y : Verb) → Stop g → Clean g (t.Symbol (s.Verb y))
+verb_clean g v.End stop = word_clean g _ stop refl refl refl
+verb_clean g _ stop = word_clean g _ stop refl refl refl
+
+fixed_clean : (g : ℕ) (y : Fixed) → Stop g → Clean g (t.Symbol (s.Fixed y))
+fixed_clean g x.OpenRound stop = record { starts = λ rest. refl; cut_is = λ rest. refl }
+fixed_clean g x.CloseRound stop = record { starts = λ rest. refl; cut_is = λ rest. refl }
+fixed_clean g x.OpenCurly stop = record { starts = λ rest. refl; cut_is = λ rest. refl }
+fixed_clean g x.CloseCurly stop = record { starts = λ rest. refl; cut_is = λ rest. refl }
+fixed_clean g x.Dot stop = record { starts = λ rest. refl; cut_is = λ rest. refl }
+fixed_clean g x.Comma stop = record { starts = λ rest. refl; cut_is = λ rest. refl }
+fixed_clean g x.Colon stop = record { starts = λ rest. refl; cut_is = λ rest. refl }
+fixed_clean g x.Semicolon stop = record { starts = λ rest. refl; cut_is = λ rest. refl }
+fixed_clean g x.Assign stop = record { starts = λ rest. refl; cut_is = λ rest. rw stop.equal refl }
+fixed_clean g _ stop = word_clean g _ stop refl refl refl
+
+symbol_clean : (g : ℕ) (y : Symbol) → Stop g → Clean g (t.Symbol y)
+symbol_clean g (s.Operator y) stop = operator_clean g y stop
+symbol_clean g (s.Constant y) stop = constant_clean g y stop
+symbol_clean g (s.Function y) stop = function_clean g y stop
+symbol_clean g (s.Verb y) stop = verb_clean g y stop
+symbol_clean g (s.Fixed y) stop = fixed_clean g y stop
+
 -- ---- all tokens
 
-clean : (y : Lexeme) → can_be_written y ≡ true → Clean y
-clean (t.Int n) h = int_clean n h
-clean (t.Name n) h = name_clean n h
-clean (t.Text xs) h = text_clean xs h
-clean (t.Symbol y) h = symbol_clean y
-clean t.Bad h = absurd cc
-
-gap_fixed : (y : Fixed) → is_blank (gap (t.Symbol (s.Fixed y))) ≡ true
-gap_fixed y = by_test (ends_line y)
-  where
-    by_test : (a : Bool) → is_blank (cond a 10 32) ≡ true
-    by_test true = refl
-    by_test false = refl
-
-gap_blank : (y : Lexeme) → is_blank (gap y) ≡ true
-gap_blank (t.Symbol (s.Fixed y)) = gap_fixed y
-gap_blank (t.Symbol (s.Operator y)) = refl
-gap_blank (t.Symbol (s.Constant y)) = refl
-gap_blank (t.Symbol (s.Function y)) = refl
-gap_blank (t.Symbol (s.Verb y)) = refl
-gap_blank (t.Int n) = refl
-gap_blank (t.Name n) = refl
-gap_blank (t.Text n) = refl
-gap_blank t.Bad = refl
+clean : (g : ℕ) (y : Lexeme) → Stop g → can_be_written y ≡ true → Clean g y
+clean g (t.Int n) stop h = int_clean g n stop h
+clean g (t.Name n) stop h = name_clean g n stop h
+clean g (t.Text xs) stop h = text_clean g xs h
+clean g (t.Symbol y) stop h = symbol_clean g y stop
+clean g t.Bad stop h = absurd cc
 
 unless_good : (y : Lexeme) (spots : List Spot) → can_be_written y ≡ true → unless_bad y spots ≡ spots
 unless_good (t.Int n) spots h = refl
@@ -270,17 +284,167 @@ unless_good (t.Text n) spots h = refl
 unless_good (t.Symbol y) spots h = refl
 unless_good t.Bad spots h = absurd cc
 
-pub tokens_again : (ts : List Lexeme) (at : ℕ) → list_all can_be_written ts ≡ true → map lexeme_of (lexed at 0 (flat_map spaced ts)) ≡ ts
-tokens_again [] at h = refl
-tokens_again (y ∷ ys) at h =
-    let parts = and_parts (can_be_written y) (list_all can_be_written ys) h in
-    let rest = flat_map spaced ys in
+-- bytes that are read as these tokens, wherever they stand
+abbrev Read : Bytes → List Lexeme → Type 0
+Read bs ts = (at : ℕ) → map lexeme_of (lexed at 0 bs) ≡ ts
+
+-- a token, and what is read behind it
+cut_first : (y : Lexeme) (rest : Bytes) (ts : List Lexeme) → can_be_written y ≡ true → starts_token (lexeme_text y ++ rest) ≡ true → cut (lexeme_text y ++ rest) ≡ record { lexeme = y; size = length (lexeme_text y) } → Read rest ts → Read (lexeme_text y ++ rest) (y ∷ ts)
+cut_first y rest ts h starts cut_is reads = λ at.
     let n = length (lexeme_text y) in
     let c : Cut = record { lexeme = y; size = n } in
-    let one = clean y parts.0 in
-    let whole : spaced y ++ rest ≡ lexeme_text y ++ gap y ∷ rest = append_assoc (lexeme_text y) (gap y ∷ []) rest in
-    let first = token_first (lexeme_text y ++ gap y ∷ rest) at c (one.starts rest) (one.cut_is rest) in
-    let behind : drop n (lexeme_text y ++ gap y ∷ rest) ≡ gap y ∷ rest = drop_at (lexeme_text y) (gap y ∷ rest) n refl in
-    ap (λ bs. map lexeme_of (lexed at 0 bs)) whole ∙ ap (map lexeme_of) first
-    ∙ ap (λ spots. y ∷ map lexeme_of spots) (unless_good y (lexed (at + n) 0 (drop n (lexeme_text y ++ gap y ∷ rest))) parts.0 ∙ ap (lexed (at + n) 0) behind ∙ one_blank (gap y) rest (at + n) (gap_blank y))
-    ∙ ap (λ l. y ∷ l) (tokens_again ys (at + n + 1) parts.1)
+    let first = token_first (lexeme_text y ++ rest) at c starts cut_is in
+    let there : drop n (lexeme_text y ++ rest) ≡ rest = drop_at (lexeme_text y) rest n refl in
+    ap (map lexeme_of) first
+    ∙ ap (λ spots. y ∷ map lexeme_of spots) (unless_good y (lexed (at + n) 0 (drop n (lexeme_text y ++ rest))) h ∙ ap (lexed (at + n) 0) there)
+    ∙ ap (λ l. y ∷ l) (reads (at + n))
+
+before_stop : (g : ℕ) (y : Lexeme) (rest : Bytes) (ts : List Lexeme) → Stop g → can_be_written y ≡ true → Read (g ∷ rest) ts → Read (lexeme_text y ++ g ∷ rest) (y ∷ ts)
+before_stop g y rest ts stop h reads = let one = clean g y stop h in cut_first y (g ∷ rest) ts h (one.starts rest) (one.cut_is rest) reads
+
+-- blanks
+a_blank : (b : ℕ) (rest : Bytes) (ts : List Lexeme) → is_blank b ≡ true → Read rest ts → Read (b ∷ rest) ts
+a_blank b rest ts h reads = λ at. ap (map lexeme_of) (one_blank b rest at h) ∙ reads (at + 1)
+
+indented : (n : ℕ) (rest : Bytes) (ts : List Lexeme) → Read rest ts → Read (indent n ++ rest) ts
+indented zero rest ts reads = reads
+indented (suc n) rest ts reads = a_blank 32 (32 ∷ (indent n ++ rest)) ts refl (a_blank 32 (indent n ++ rest) ts refl (indented n rest ts reads))
+
+blank_stops : Stop 32
+blank_stops = record { name = refl; digit = refl; equal = refl; plus = refl }
+
+line_stops : Stop 10
+line_stops = record { name = refl; digit = refl; equal = refl; plus = refl }
+
+-- ---- tokens with nothing between them
+
+-- the sign that begins with this byte, whatever stands behind it
+pub record Sign (y : Lexeme) : Type 0 where
+  pub byte : ℕ
+  pub stop : Stop byte
+  pub text : lexeme_text y ≡ byte ∷ []
+
+dot_sign : Sign (t.Symbol (s.Fixed x.Dot))
+dot_sign = record { byte = 46; stop = record { name = refl; digit = refl; equal = refl; plus = refl }; text = refl }
+
+open_sign : Sign (t.Symbol (s.Fixed x.OpenRound))
+open_sign = record { byte = 40; stop = record { name = refl; digit = refl; equal = refl; plus = refl }; text = refl }
+
+close_sign : Sign (t.Symbol (s.Fixed x.CloseRound))
+close_sign = record { byte = 41; stop = record { name = refl; digit = refl; equal = refl; plus = refl }; text = refl }
+
+comma_sign : Sign (t.Symbol (s.Fixed x.Comma))
+comma_sign = record { byte = 44; stop = record { name = refl; digit = refl; equal = refl; plus = refl }; text = refl }
+
+colon_sign : Sign (t.Symbol (s.Fixed x.Colon))
+colon_sign = record { byte = 58; stop = record { name = refl; digit = refl; equal = refl; plus = refl }; text = refl }
+
+semicolon_sign : Sign (t.Symbol (s.Fixed x.Semicolon))
+semicolon_sign = record { byte = 59; stop = record { name = refl; digit = refl; equal = refl; plus = refl }; text = refl }
+
+-- which manners bind to what stands before them
+abbrev binds_front : Manner → Bool
+binds_front m.Dot = true
+binds_front m.Closing = true
+binds_front m.End = true
+binds_front m.Opening = true
+binds_front _ = false
+
+fixed_sign : (y : Fixed) → binds_front (manner (t.Symbol (s.Fixed y))) ≡ true → Sign (t.Symbol (s.Fixed y))
+fixed_sign x.Dot h = dot_sign
+fixed_sign x.OpenRound h = open_sign
+fixed_sign x.CloseRound h = close_sign
+fixed_sign x.Comma h = comma_sign
+fixed_sign x.Colon h = colon_sign
+fixed_sign x.Semicolon h = semicolon_sign
+fixed_sign _ h = absurd cc
+
+front_sign : (y : Lexeme) → binds_front (manner y) ≡ true → Sign y
+front_sign (t.Symbol (s.Fixed y)) h = fixed_sign y h
+front_sign (t.Symbol (s.Operator y)) h = absurd cc
+front_sign (t.Symbol (s.Constant y)) h = absurd cc
+front_sign (t.Symbol (s.Function y)) h = absurd cc
+front_sign (t.Symbol (s.Verb y)) h = absurd cc
+front_sign (t.Int n) h = absurd cc
+front_sign (t.Name n) h = absurd cc
+front_sign (t.Text n) h = absurd cc
+front_sign t.Bad h = absurd cc
+
+-- and which to what stands behind them
+abbrev binds_behind : Manner → Bool
+binds_behind m.Opening = true
+binds_behind m.Dot = true
+binds_behind _ = false
+
+abbrev lone_cut : ℕ → Lexeme → Bytes → Type 0
+lone_cut b y bs = (starts_token (b ∷ bs) ≡ true) × (cut (b ∷ bs) ≡ record { lexeme = y; size = 1 })
+
+open_alone : (bs : Bytes) → lone_cut 40 (t.Symbol (s.Fixed x.OpenRound)) bs
+open_alone [] = (refl, refl)
+open_alone (c ∷ bs) = (refl, refl)
+
+dot_alone : (bs : Bytes) → lone_cut 46 (t.Symbol (s.Fixed x.Dot)) bs
+dot_alone [] = (refl, refl)
+dot_alone (c ∷ bs) = (refl, refl)
+
+fixed_alone : (y : Fixed) (rest : Bytes) (ts : List Lexeme) → binds_behind (manner (t.Symbol (s.Fixed y))) ≡ true → Read rest ts → Read (lexeme_text (t.Symbol (s.Fixed y)) ++ rest) (t.Symbol (s.Fixed y) ∷ ts)
+fixed_alone x.OpenRound rest ts h reads = let p = open_alone rest in cut_first (t.Symbol (s.Fixed x.OpenRound)) rest ts refl p.0 p.1 reads
+fixed_alone x.Dot rest ts h reads = let p = dot_alone rest in cut_first (t.Symbol (s.Fixed x.Dot)) rest ts refl p.0 p.1 reads
+fixed_alone _ rest ts h reads = absurd cc
+
+alone : (y : Lexeme) (rest : Bytes) (ts : List Lexeme) → binds_behind (manner y) ≡ true → Read rest ts → Read (lexeme_text y ++ rest) (y ∷ ts)
+alone (t.Symbol (s.Fixed y)) rest ts h reads = fixed_alone y rest ts h reads
+alone (t.Symbol (s.Operator y)) rest ts h reads = absurd cc
+alone (t.Symbol (s.Constant y)) rest ts h reads = absurd cc
+alone (t.Symbol (s.Function y)) rest ts h reads = absurd cc
+alone (t.Symbol (s.Verb y)) rest ts h reads = absurd cc
+alone (t.Int n) rest ts h reads = absurd cc
+alone (t.Name n) rest ts h reads = absurd cc
+alone (t.Text n) rest ts h reads = absurd cc
+alone t.Bad rest ts h reads = absurd cc
+
+tight_one : (a b : Manner) → is_tight a b ≡ true → binds_front b ≡ false → binds_behind a ≡ true
+tight_one m.Opening _ h k = refl
+tight_one m.Dot _ h k = refl
+tight_one _ m.Dot h k = cc
+tight_one _ m.Closing h k = cc
+tight_one _ m.End h k = cc
+tight_one _ m.Opening h k = cc
+tight_one _ _ h k = cc
+
+-- a token right behind another
+tight : (y z : Lexeme) (rest : Bytes) (ts : List Lexeme) → is_tight (manner y) (manner z) ≡ true → can_be_written y ≡ true → Read (lexeme_text z ++ rest) ts → Read (lexeme_text y ++ (lexeme_text z ++ rest)) (y ∷ ts)
+tight y z rest ts h good reads = by_front (binds_front (manner z)) refl
+  where
+    by_front : (b : Bool) → binds_front (manner z) ≡ b → Read (lexeme_text y ++ (lexeme_text z ++ rest)) (y ∷ ts)
+    by_front true e =
+        let sign = front_sign z e in
+        let is : lexeme_text z ++ rest ≡ sign.byte ∷ rest = ap (λ l. l ++ rest) sign.text in
+        λ at. ap (λ l. map lexeme_of (lexed at 0 (lexeme_text y ++ l))) is
+        ∙ before_stop sign.byte y rest ts sign.stop good (λ at. ap (λ l. map lexeme_of (lexed at 0 l)) (sym is) ∙ reads at) at
+    by_front false e = alone y (lexeme_text z ++ rest) ts (tight_one (manner y) (manner z) h e) reads
+
+-- a token, what stands between, and the next
+spaced : (n : ℕ) (y z : Lexeme) (rest : Bytes) (ts : List Lexeme) → can_be_written y ≡ true → Read (lexeme_text z ++ rest) ts → Read (lexeme_text y ++ (gap n (manner y) (manner z) ++ (lexeme_text z ++ rest))) (y ∷ ts)
+spaced n y z rest ts good reads = by_tight (is_tight (manner y) (manner z)) refl
+  where
+    by_line : (b : Bool) → Read (lexeme_text y ++ (cond b (10 ∷ indent (margin n (manner z))) (32 ∷ []) ++ (lexeme_text z ++ rest))) (y ∷ ts)
+    by_line true = before_stop 10 y (indent (margin n (manner z)) ++ (lexeme_text z ++ rest)) ts line_stops good (a_blank 10 (indent (margin n (manner z)) ++ (lexeme_text z ++ rest)) ts refl (indented (margin n (manner z)) (lexeme_text z ++ rest) ts reads))
+    by_line false = before_stop 32 y (lexeme_text z ++ rest) ts blank_stops good (a_blank 32 (lexeme_text z ++ rest) ts refl reads)
+
+    by_tight : (b : Bool) → is_tight (manner y) (manner z) ≡ b → Read (lexeme_text y ++ (cond b [] (cond (ends_line (manner y) (manner z)) (10 ∷ indent (margin n (manner z))) (32 ∷ [])) ++ (lexeme_text z ++ rest))) (y ∷ ts)
+    by_tight true e = tight y z rest ts e good reads
+    by_tight false e = by_line (ends_line (manner y) (manner z))
+
+all_again : (y : Lexeme) (ts : List Lexeme) (n : ℕ) → can_be_written y ≡ true → list_all can_be_written ts ≡ true → Read (lexeme_text y ++ behind n (manner y) ts) (y ∷ ts)
+all_again y [] n good all = before_stop 10 y [] [] line_stops good (a_blank 10 [] [] refl (λ at. refl))
+all_again y (z ∷ ts) n good all =
+    let p = and_parts (can_be_written z) (list_all can_be_written ts) all in
+    spaced n y z (behind (nesting n (manner z)) (manner z) ts) (z ∷ ts) good (all_again z ts (nesting n (manner z)) p.0 p.1)
+
+-- tokens that are laid out are read as those tokens
+pub tokens_again : (ts : List Lexeme) → list_all can_be_written ts ≡ true → map lexeme_of (lexed 0 0 (laid_out ts)) ≡ ts
+tokens_again [] all = refl
+tokens_again (y ∷ ts) all =
+    let p = and_parts (can_be_written y) (list_all can_be_written ts) all in
+    all_again y ts (nesting 0 (manner y)) p.0 p.1 0

@@ -1,5 +1,5 @@
 -- The spelling of a script has only tokens that can be written.
-use Rattle.std.proofs.Common.{◌≡◌, ◌+◌, ◌-◌, ℕ, Bool, true, false, cond, ◌&&◌, List, [], ◌∷◌, ◌++◌, Option, Some, None, refl}
+use Rattle.std.proofs.Common.{◌≡◌, ◌+◌, ◌-◌, ℕ, Bool, true, false, ◌&&◌, List, [], ◌∷◌, ◌++◌, Option, Some, None, refl}
 use Rattle.std.specs.Prelude.{nat_le}
 use Rattle.std.specs.List.{list_all}
 use Rattle.slee_value.specs.declared.keep.Keep.{Keep}
@@ -19,11 +19,11 @@ use Rattle.script_tree.specs.declared.tree.Who.TheVariants as w
 use Rattle.script_tree.specs.declared.tree.Over.{Over}
 use Rattle.script_tree.specs.declared.tree.Over.TheVariants as v
 use Rattle.script_tree.specs.Words.{is_identifier, is_literal, is_number}
-use Rattle.script_tree.specs.Reading.{can_be_written}
+use Rattle.script_print.specs.Layout.{can_be_written}
 use Rattle.script_tree.specs.Grammar.{level_of}
-use Rattle.script_tree.specs.Tree.{Bytes, Expression, Leaf, Unary, Binary, Ask, Assigning, OnEntities, OnActivities, SettingTimer, Statement, Statements}
+use Rattle.script_tree.specs.Tree.{Bytes, Expression, Leaf, Unary, Binary, Ask, Group, Assigning, OnEntities, OnActivities, SettingTimer, Statement, Statements}
 use Rattle.script_tree.specs.Tree as tree
-use Rattle.script_tree.specs.Spelling.{fixed, at_level, left_level, level, prefix_level, prefix_token, before_asked, behind_asked, spell_leaf, spell_expression, spell_who, spell_over, spell_assigning, spell_priority, spell_more, spell_arguments, spell_result, spell_on_entities, spell_service, spell_field, spell_more_fields, spell_fields, spell_on_activities, spell_repeat, spell_keep, spell_timer, ended, braced, spell_statement, spell_statements, depth_at, leaf_fits, query_fits, fits, option_fits, who_fits, over_fits, assigning_fits, on_entities_fits, field_fits, on_activities_fits, repeat_fits, timer_fits, statement_fits, statements_fit}
+use Rattle.script_tree.specs.Spelling.{fixed, left_level, level, prefix_level, prefix_token, before_asked, behind_asked, spell_leaf, spell_expression, spell_who, spell_over, spell_assigning, spell_priority, spell_more, spell_arguments, spell_result, spell_on_entities, spell_service, spell_field, spell_more_fields, spell_fields, spell_on_activities, spell_repeat, spell_keep, spell_timer, ended, braced, spell_statement, spell_statements, leaf_fits, query_fits, fits, option_fits, who_fits, over_fits, assigning_fits, on_entities_fits, field_fits, on_activities_fits, repeat_fits, timer_fits, statement_fits, statements_fit}
 
 and_parts : (a b : Bool) → (a && b) ≡ true → (a ≡ true) × (b ≡ true)
 and_parts true b h = (refl, h)
@@ -73,22 +73,19 @@ behind (q.Plain f) h = refl
 behind (q.Masked event) h = refl
 behind (q.HasProfile table) h = refl
 
-in_brackets : (a : Bool) (ts : List Lexeme) → Good ts → Good (cond a ts (fixed x.OpenRound ∷ (ts ++ fixed x.CloseRound ∷ [])))
-in_brackets true ts g = g
-in_brackets false ts g = both ts (fixed x.CloseRound ∷ []) g refl
-
 prefix_good : (op : Prefix) (ts : List Lexeme) → Good ts → Good (prefix_token op ∷ ts)
 prefix_good prefixes.Negative ts g = g
 prefix_good prefixes.Not ts g = g
 
 expression : (d : ℕ) (a : Expression) → fits d a ≡ true → Good (spell_expression a)
 expression d (Leaf y) h = leaf d y h
-expression d (Unary op a) h = prefix_good op (at_level (prefix_level op - 1) a (spell_expression a)) (in_brackets (nat_le (level a) (prefix_level op - 1)) (spell_expression a) (expression (depth_at (prefix_level op - 1) a d) a h))
+expression d (Unary op a) h = prefix_good op (spell_expression a) (expression d a (and_parts (nat_le (level a) (prefix_level op - 1)) (fits d a) h).1)
 expression d (Binary op a b) h =
-    let parts = and_parts (fits (depth_at (left_level op) a d) a) (fits (depth_at (level_of op - 1) b d) b) h in
-    both (at_level (left_level op) a (spell_expression a)) (t.Symbol (s.Operator op) ∷ at_level (level_of op - 1) b (spell_expression b))
-    (in_brackets (nat_le (level a) (left_level op)) (spell_expression a) (expression (depth_at (left_level op) a d) a parts.0))
-    (in_brackets (nat_le (level b) (level_of op - 1)) (spell_expression b) (expression (depth_at (level_of op - 1) b d) b parts.1))
+    let parts = and_parts (nat_le (level a) (left_level op) && fits d a) (nat_le (level b) (level_of op - 1) && fits d b) h in
+    both (spell_expression a) (t.Symbol (s.Operator op) ∷ spell_expression b)
+    (expression d a (and_parts (nat_le (level a) (left_level op)) (fits d a) parts.0).1)
+    (expression d b (and_parts (nat_le (level b) (level_of op - 1)) (fits d b) parts.1).1)
+expression d (Group a) h = both (spell_expression a) (fixed x.CloseRound ∷ []) (expression (d + 1) a h) refl
 expression d (Ask query a) h =
     let parts = and_parts (query_fits query) (fits (d + 1) a) h in
     both (before_asked query) (spell_expression a ++ behind_asked query) (before query parts.0) (both (spell_expression a) (behind_asked query) (expression (d + 1) a parts.1) (behind query parts.0))

@@ -1,5 +1,5 @@
 -- A statement without blocks, list it is spelled, is read list that statement.
-use Rattle.std.proofs.Common.{◌≡◌, ◌+◌, ◌-◌, ℕ, List, [], ◌∷◌, ◌++◌, Option, Some, None, Bool, true, false, cond, ◌&&◌, refl, sym, ap, ◌∙◌, append_assoc}
+use Rattle.std.proofs.Common.{◌≡◌, ◌+◌, ◌-◌, ℕ, List, [], ◌∷◌, ◌++◌, Option, Some, None, Bool, true, false, ◌&&◌, refl, sym, ap, ◌∙◌, append_assoc}
 use Rattle.std.specs.Prelude.{nat_le}
 use Rattle.std.specs.List.{list_all}
 use Rattle.std.proofs.lemmas.List.{append-nil}
@@ -15,9 +15,9 @@ use Rattle.script_tree.specs.declared.tree.Query.{Query}
 use Rattle.script_tree.specs.declared.tree.Query.TheVariants as q
 use Rattle.script_tree.specs.Words.{is_identifier}
 use Rattle.script_tree.specs.Tree as tree
-use Rattle.script_tree.specs.Tree.{Bytes, Expression, Leaf, Unary, Binary, Ask, Assigning, OnEntities, OnActivities, SettingTimer, Statement, Statements, add}
-use Rattle.script_tree.specs.Spelling.{fixed, level, left_level, prefix_level, at_level, before_asked, behind_asked, prefix_token, spell_leaf, spell_expression, spell_assigning, spell_more, spell_arguments, spell_result, spell_on_entities, ended, fits, option_fits, assigning_fits, on_entities_fits}
-use Rattle.script_tree.specs.Grammar.{Part, Item, AName, ATree, AStatement, ABlock, Next, Stops, Goes, Make, Adding, Letting, SettingVariable, SettingField, SettingAttribute, Calling, WithArgument, WithPriority, SettingPriority, Name, Level, One, Stmts, NextArgument, Arguments, MoreResult, verdict, verdict_at, goes_on, then_parts, eat, level_after, level_of}
+use Rattle.script_tree.specs.Tree.{Bytes, Expression, Leaf, Unary, Binary, Ask, Group, Assigning, OnEntities, OnActivities, SettingTimer, Statement, Statements, add}
+use Rattle.script_tree.specs.Spelling.{fixed, before_asked, behind_asked, prefix_token, spell_leaf, spell_expression, spell_assigning, spell_more, spell_arguments, spell_result, spell_on_entities, ended, fits, option_fits, assigning_fits, on_entities_fits}
+use Rattle.script_tree.specs.Grammar.{Part, Item, AName, ATree, AStatement, ABlock, Next, Stops, Goes, Make, Adding, Letting, SettingVariable, SettingField, SettingAttribute, Calling, WithArgument, WithPriority, SettingPriority, Name, Level, One, Stmts, NextArgument, Arguments, MoreResult, verdict, verdict_at, goes_on, then_parts, eat, level_after}
 use Rattle.script_print.proofs.Levels.{lasts, made, opened, closed}
 use Rattle.script_print.proofs.Expressions.{and_parts, le_is, depth_fits, again}
 
@@ -109,14 +109,11 @@ starts_asked (q.Attribute name) = refl
 starts_asked (q.Profile table name) = refl
 starts_asked (q.HasProfile table) = refl
 
-starts_operand : (b : Bool) (ts : List Lexeme) → starts ts ≡ true → starts (cond b ts (fixed x.OpenRound ∷ (ts ++ fixed x.CloseRound ∷ []))) ≡ true
-starts_operand true ts h = h
-starts_operand false ts h = refl
-
 starts_expression : (a : Expression) → starts (spell_expression a) ≡ true
 starts_expression (Leaf y) = starts_leaf y
-starts_expression (Unary op a) = starts_prefix op (at_level (prefix_level op - 1) a (spell_expression a))
-starts_expression (Binary op a b) = starts_more (at_level (left_level op) a (spell_expression a)) (t.Symbol (s.Operator op) ∷ at_level (level_of op - 1) b (spell_expression b)) (starts_operand (nat_le (level a) (left_level op)) (spell_expression a) (starts_expression a))
+starts_expression (Unary op a) = starts_prefix op (spell_expression a)
+starts_expression (Binary op a b) = starts_more (spell_expression a) (t.Symbol (s.Operator op) ∷ spell_expression b) (starts_expression a)
+starts_expression (Group a) = refl
 starts_expression (Ask query a) = starts_more (before_asked query) (spell_expression a ++ behind_asked query) (starts_asked query)
 
 first_argument : (next : Next) (ps : List Part) (is : List Item) (other : Next) → begins next ≡ true → goes_on (then_parts next (Make WithArgument ∷ NextArgument ∷ [])) ps is other ≡ goes_on next (Make WithArgument ∷ NextArgument ∷ ps) is Stops

@@ -1,7 +1,11 @@
 //! Laws over the definitions.
-ghost use Rattle.std.specs.Prelude.{◌≡◌, IsTrue, Ok};
+ghost use Rattle.std.specs.Prelude.{◌≡◌, ◌+◌, ◌∷◌, ◌++◌, List, length, IsTrue, Ok};
+ghost use Rattle.script_tree.specs.declared.fault.SyntaxBad.{SyntaxBad};
+ghost use Rattle.script_tree.specs.declared.lexeme.Lexeme.{Lexeme as ALexeme};
+ghost use Rattle.script_tree.specs.Grammar.{script_of, Faulty};
 ghost use Rattle.script_tree.specs.Lexer.{lexemes_of};
-ghost use Rattle.script_tree.specs.Reading.{printed, script_read};
+ghost use Rattle.script_print.specs.Layout.{printed};
+ghost use Rattle.script_tree.specs.Reading.{script_read};
 ghost use Rattle.script_tree.specs.Spelling.{spell_statements, is_script};
 ghost use Rattle.script_tree.specs.Tree.{Bytes, Statements};
 
@@ -23,4 +27,9 @@ pub fn printed_is_read_as_itself()
 /// Scripts that are spelled alike are one script.
 pub fn one_spelling_one_tree()
     ensures { (a b : Statements) → IsTrue (is_script a) → IsTrue (is_script b) → spell_statements a ≡ spell_statements b → a ≡ b }
+{}
+
+/// No script begins with the tokens up to the one at which reading stops.
+pub fn a_refused_token_continues_no_script()
+    ensures { (front : List ALexeme) (token : ALexeme) (rest : List ALexeme) (kind : SyntaxBad) → script_of (front ++ token ∷ rest) ≡ Faulty (record { left = length rest + 1; kind = kind }) → (script : Statements) (more : List ALexeme) → IsTrue (is_script script) → spell_statements script ≡ front ++ token ∷ more → ⊥ }
 {}

@@ -1,6 +1,6 @@
 ghost use Rattle.std.specs.Prelude.{◌≡◌, ◌≤◌, ◌<◌, ◌+◌, ◌∷◌, [], length, true, MatchResult};
-ghost use Rattle.script_tree.specs.Grammar.{Stmt as AStmt, AStatement, stmt_fixed};
-ghost use Rattle.script_tree.specs.Spelling.{statement_fits};
+ghost use Rattle.script_tree.specs.Grammar.{Stmt as AStmt, AStatement};
+ghost use Rattle.script_tree.specs.Spelling.{fixed, statement_fits};
 ghost use Rattle.script_expression.specs.Takes.{Begun, Took, Fails};
 ghost use Rattle.script_tree.specs.Tree.{statement_of};
 
@@ -16,7 +16,7 @@ pub fn attach<'a>(
     depth: u32,
 ) -> Result<(Stmt, Lexemes<'a>), ReadError>
     requires deep { depth ≤ 64 }
-    requires begun { Begun AStmt (stmt_fixed Fixed.Attach) depth ts.now behind.now }
+    requires begun { Begun AStmt (fixed Fixed.Attach) depth ts.now behind.now }
     ensures { MatchResult result (λ x. Took AStmt [] depth ts.now (AStatement (statement_of x.0) ∷ []) (statement_fits depth (statement_of x.0)) x.1.now) (λ e. Fails AStmt depth ts.now e) }
 {
     let (who, rest) = who(alloc, behind, depth)?;
@@ -33,7 +33,7 @@ pub fn detach<'a>(
     depth: u32,
 ) -> Result<(Stmt, Lexemes<'a>), ReadError>
     requires deep { depth ≤ 64 }
-    requires begun { Begun AStmt (stmt_fixed Fixed.Detach) depth ts.now behind.now }
+    requires begun { Begun AStmt (fixed Fixed.Detach) depth ts.now behind.now }
     ensures { MatchResult result (λ x. Took AStmt [] depth ts.now (AStatement (statement_of x.0) ∷ []) (statement_fits depth (statement_of x.0)) x.1.now) (λ e. Fails AStmt depth ts.now e) }
 {
     let (who, rest) = who(alloc, behind, depth)?;
@@ -50,7 +50,7 @@ pub fn mask<'a>(
     depth: u32,
 ) -> Result<(Stmt, Lexemes<'a>), ReadError>
     requires deep { depth ≤ 64 }
-    requires begun { Begun AStmt (stmt_fixed Fixed.Mask) depth ts.now behind.now }
+    requires begun { Begun AStmt (fixed Fixed.Mask) depth ts.now behind.now }
     ensures { MatchResult result (λ x. Took AStmt [] depth ts.now (AStatement (statement_of x.0) ∷ []) (statement_fits depth (statement_of x.0)) x.1.now) (λ e. Fails AStmt depth ts.now e) }
 {
     let (event, rest) = text(alloc, behind, depth)?;
@@ -67,7 +67,7 @@ pub fn unmask<'a>(
     depth: u32,
 ) -> Result<(Stmt, Lexemes<'a>), ReadError>
     requires deep { depth ≤ 64 }
-    requires begun { Begun AStmt (stmt_fixed Fixed.Unmask) depth ts.now behind.now }
+    requires begun { Begun AStmt (fixed Fixed.Unmask) depth ts.now behind.now }
     ensures { MatchResult result (λ x. Took AStmt [] depth ts.now (AStatement (statement_of x.0) ∷ []) (statement_fits depth (statement_of x.0)) x.1.now) (λ e. Fails AStmt depth ts.now e) }
 {
     let (event, rest) = text(alloc, behind, depth)?;
@@ -84,7 +84,7 @@ pub fn null<'a>(
     depth: u32,
 ) -> Result<(Stmt, Lexemes<'a>), ReadError>
     requires deep { depth ≤ 64 }
-    requires begun { Begun AStmt (stmt_fixed Fixed.Null) depth ts.now behind.now }
+    requires begun { Begun AStmt (fixed Fixed.Null) depth ts.now behind.now }
     ensures { MatchResult result (λ x. Took AStmt [] depth ts.now (AStatement (statement_of x.0) ∷ []) (statement_fits depth (statement_of x.0)) x.1.now) (λ e. Fails AStmt depth ts.now e) }
 {
     let rest = want(behind, Fixed::As, depth)?;
@@ -101,7 +101,7 @@ pub fn bind<'a>(
     depth: u32,
 ) -> Result<(Stmt, Lexemes<'a>), ReadError>
     requires deep { depth ≤ 64 }
-    requires begun { Begun AStmt (stmt_fixed Fixed.Bind) depth ts.now behind.now }
+    requires begun { Begun AStmt (fixed Fixed.Bind) depth ts.now behind.now }
     ensures { MatchResult result (λ x. Took AStmt [] depth ts.now (AStatement (statement_of x.0) ∷ []) (statement_fits depth (statement_of x.0)) x.1.now) (λ e. Fails AStmt depth ts.now e) }
 {
     let (key, rest) = boxed_before(alloc, behind, Fixed::To, depth)?;

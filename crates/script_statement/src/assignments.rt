@@ -1,7 +1,7 @@
 ghost use Rattle.std.specs.Prelude.{◌≡◌, ◌≤◌, ◌<◌, ◌+◌, ◌∷◌, [], length, true, MatchResult};
 ghost use Rattle.script_tree.specs.declared.lexeme.Lexeme.TheVariants as t;
-ghost use Rattle.script_tree.specs.Grammar.{Stmt as AStmt, AStatement, stmt_fixed, stmt_after};
-ghost use Rattle.script_tree.specs.Spelling.{statement_fits};
+ghost use Rattle.script_tree.specs.Grammar.{Stmt as AStmt, AStatement, stmt_after};
+ghost use Rattle.script_tree.specs.Spelling.{fixed, statement_fits};
 ghost use Rattle.script_expression.specs.Takes.{Begun, Took, Fails};
 ghost use Rattle.script_tree.specs.Tree.{statement_of};
 
@@ -17,7 +17,7 @@ pub fn new_variable<'a>(
     depth: u32,
 ) -> Result<(Stmt, Lexemes<'a>), ReadError>
     requires deep { depth ≤ 64 }
-    requires begun { Begun AStmt (stmt_fixed Fixed.Let) depth ts.now behind.now }
+    requires begun { Begun AStmt (fixed Fixed.Let) depth ts.now behind.now }
     ensures { MatchResult result (λ x. Took AStmt [] depth ts.now (AStatement (statement_of x.0) ∷ []) (statement_fits depth (statement_of x.0)) x.1.now) (λ e. Fails AStmt depth ts.now e) }
 {
     let (name, rest) = name(alloc, behind, depth)?;
@@ -34,7 +34,7 @@ pub fn field<'a>(
     depth: u32,
 ) -> Result<(Stmt, Lexemes<'a>), ReadError>
     requires deep { depth ≤ 64 }
-    requires begun { Begun AStmt (stmt_fixed Fixed.Own) depth ts.now behind.now }
+    requires begun { Begun AStmt (fixed Fixed.Own) depth ts.now behind.now }
     ensures { MatchResult result (λ x. Took AStmt [] depth ts.now (AStatement (statement_of x.0) ∷ []) (statement_fits depth (statement_of x.0)) x.1.now) (λ e. Fails AStmt depth ts.now e) }
 {
     let rest = want(behind, Fixed::Dot, depth)?;
@@ -52,7 +52,7 @@ pub fn attribute<'a>(
     depth: u32,
 ) -> Result<(Stmt, Lexemes<'a>), ReadError>
     requires deep { depth ≤ 64 }
-    requires begun { Begun AStmt (stmt_fixed Fixed.Attr) depth ts.now behind.now }
+    requires begun { Begun AStmt (fixed Fixed.Attr) depth ts.now behind.now }
     ensures { MatchResult result (λ x. Took AStmt [] depth ts.now (AStatement (statement_of x.0) ∷ []) (statement_fits depth (statement_of x.0)) x.1.now) (λ e. Fails AStmt depth ts.now e) }
 {
     let rest = open(behind, Fixed::OpenRound, depth)?;
@@ -76,7 +76,7 @@ pub fn variable<'a>(
     depth: u32,
 ) -> Result<(Stmt, Lexemes<'a>), ReadError>
     requires deep { depth ≤ 64 }
-    requires begun { Begun AStmt (stmt_after (t.Name name.now)) depth ts.now behind.now }
+    requires begun { Begun AStmt (t.Name name.now) depth ts.now behind.now }
     ensures { MatchResult result (λ x. Took AStmt [] depth ts.now (AStatement (statement_of x.0) ∷ []) (statement_fits depth (statement_of x.0)) x.1.now) (λ e. Fails AStmt depth ts.now e) }
 {
     let name = name.copy(alloc)?;

@@ -1,7 +1,8 @@
 ghost use Rattle.std.specs.Prelude.{◌≡◌, ◌≢◌, ◌≤◌, ◌<◌, ◌+◌, ◌∷◌, [], length, true, Err, MatchResult};
 ghost use Rattle.script_tree.specs.declared.symbol.Symbol.TheVariants as s;
-ghost use Rattle.script_tree.specs.Grammar.{Stmt as AStmt, AStatement, stmt_fixed, stmt_symbol};
-ghost use Rattle.script_tree.specs.Spelling.{statement_fits};
+ghost use Rattle.script_tree.specs.declared.lexeme.Lexeme.TheVariants as t;
+ghost use Rattle.script_tree.specs.Grammar.{Stmt as AStmt, AStatement, stmt_symbol};
+ghost use Rattle.script_tree.specs.Spelling.{fixed, statement_fits};
 ghost use Rattle.script_expression.specs.Takes.{Begun, Took, Fails};
 ghost use Rattle.script_tree.specs.Tree.{statement_of};
 
@@ -18,7 +19,7 @@ pub fn verb<'a>(
     depth: u32,
 ) -> Result<(Stmt, Lexemes<'a>), ReadError>
     requires deep { depth ≤ 64 }
-    requires begun { Begun AStmt (stmt_symbol (s.Verb verb)) depth ts.now behind.now }
+    requires begun { Begun AStmt (t.Symbol (s.Verb verb)) depth ts.now behind.now }
     ensures { MatchResult result (λ x. Took AStmt [] depth ts.now (AStatement (statement_of x.0) ∷ []) (statement_fits depth (statement_of x.0)) x.1.now) (λ e. Fails AStmt depth ts.now e) }
 {
     let (e, rest) = before(alloc, behind, Fixed::Semicolon, depth)?;
@@ -33,7 +34,7 @@ pub fn usage<'a>(
     depth: u32,
 ) -> Result<(Stmt, Lexemes<'a>), ReadError>
     requires deep { depth ≤ 64 }
-    requires begun { Begun AStmt (stmt_fixed Fixed.Usage) depth ts.now behind.now }
+    requires begun { Begun AStmt (fixed Fixed.Usage) depth ts.now behind.now }
     ensures { MatchResult result (λ x. Took AStmt [] depth ts.now (AStatement (statement_of x.0) ∷ []) (statement_fits depth (statement_of x.0)) x.1.now) (λ e. Fails AStmt depth ts.now e) }
 {
     let (name, rest) = name(alloc, behind, depth)?;
@@ -48,7 +49,7 @@ pub fn rollback<'a>(
     depth: u32,
 ) -> Result<(Stmt, Lexemes<'a>), ReadError>
     requires deep { depth ≤ 64 }
-    requires begun { Begun AStmt (stmt_fixed Fixed.Rollback) depth ts.now behind.now }
+    requires begun { Begun AStmt (fixed Fixed.Rollback) depth ts.now behind.now }
     ensures read { MatchResult result (λ x. Took AStmt [] depth ts.now (AStatement (statement_of x.0) ∷ []) (statement_fits depth (statement_of x.0)) x.1.now) (λ e. Fails AStmt depth ts.now e) }
     ensures memory { result ≢ Err ReadError.NoMemory }
 {

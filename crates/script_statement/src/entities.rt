@@ -1,6 +1,6 @@
 ghost use Rattle.std.specs.Prelude.{◌≡◌, ◌≤◌, ◌<◌, ◌+◌, ◌∷◌, [], length, true, MatchResult};
-ghost use Rattle.script_tree.specs.Grammar.{Stmt as AStmt, AStatement, stmt_fixed};
-ghost use Rattle.script_tree.specs.Spelling.{statement_fits};
+ghost use Rattle.script_tree.specs.Grammar.{Stmt as AStmt, AStatement};
+ghost use Rattle.script_tree.specs.Spelling.{fixed, statement_fits};
 ghost use Rattle.script_expression.specs.Takes.{Begun, Took, Fails};
 ghost use Rattle.script_tree.specs.Tree.{statement_of};
 
@@ -16,7 +16,7 @@ pub fn create<'a>(
     depth: u32,
 ) -> Result<(Stmt, Lexemes<'a>), ReadError>
     requires deep { depth ≤ 64 }
-    requires begun { Begun AStmt (stmt_fixed Fixed.Create) depth ts.now behind.now }
+    requires begun { Begun AStmt (fixed Fixed.Create) depth ts.now behind.now }
     ensures { MatchResult result (λ x. Took AStmt [] depth ts.now (AStatement (statement_of x.0) ∷ []) (statement_fits depth (statement_of x.0)) x.1.now) (λ e. Fails AStmt depth ts.now e) }
 {
     let (relation, rest) = name(alloc, behind, depth)?;
@@ -44,7 +44,7 @@ pub fn remove<'a>(
     depth: u32,
 ) -> Result<(Stmt, Lexemes<'a>), ReadError>
     requires deep { depth ≤ 64 }
-    requires begun { Begun AStmt (stmt_fixed Fixed.Remove) depth ts.now behind.now }
+    requires begun { Begun AStmt (fixed Fixed.Remove) depth ts.now behind.now }
     ensures { MatchResult result (λ x. Took AStmt [] depth ts.now (AStatement (statement_of x.0) ∷ []) (statement_fits depth (statement_of x.0)) x.1.now) (λ e. Fails AStmt depth ts.now e) }
 {
     let (child, rest) = name(alloc, behind, depth)?;
@@ -60,7 +60,7 @@ pub fn priority<'a>(
     depth: u32,
 ) -> Result<(Stmt, Lexemes<'a>), ReadError>
     requires deep { depth ≤ 64 }
-    requires begun { Begun AStmt (stmt_fixed Fixed.Priority) depth ts.now behind.now }
+    requires begun { Begun AStmt (fixed Fixed.Priority) depth ts.now behind.now }
     ensures { MatchResult result (λ x. Took AStmt [] depth ts.now (AStatement (statement_of x.0) ∷ []) (statement_fits depth (statement_of x.0)) x.1.now) (λ e. Fails AStmt depth ts.now e) }
 {
     let (child, rest) = name(alloc, behind, depth)?;

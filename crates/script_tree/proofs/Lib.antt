@@ -1,3 +1,4 @@
 pub mod Lexing
+pub mod Places
 pub mod Quoting
 pub mod Rows

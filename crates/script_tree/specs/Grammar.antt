@@ -48,6 +48,7 @@ pub data Making : Type 0 where
   AskingAttribute : Making
   AskingProfile : Making
   AskingHasProfile : Making
+  Grouping : Making
   FieldOf : Making
   EventFieldOf : Making
   TableOf : Making
@@ -112,6 +113,10 @@ asked_profile is = is
 abbrev pub asked_has_profile : List Item → List Item
 asked_has_profile (ATree a ∷ AName table ∷ is) = ATree (tree.Ask (q.HasProfile table) a) ∷ is
 asked_has_profile is = is
+
+abbrev pub grouped : List Item → List Item
+grouped (ATree a ∷ is) = ATree (tree.Group a) ∷ is
+grouped is = is
 
 abbrev pub field_of : List Item → List Item
 field_of (AName name ∷ is) = ATree (tree.Leaf (l.Field name)) ∷ is
@@ -261,6 +266,7 @@ make AskingMasked = asked_masked
 make AskingAttribute = asked_attribute
 make AskingProfile = asked_profile
 make AskingHasProfile = asked_has_profile
+make Grouping = grouped
 make FieldOf = field_of
 make EventFieldOf = event_field_of
 make TableOf = table_of
@@ -394,7 +400,7 @@ level_of o.Divide = 2
 level_of o.Remainder = 2
 
 abbrev pub prim_fixed : Fixed → Next
-prim_fixed x.OpenRound = Goes (Level 8 ∷ One x.CloseRound ∷ []) []
+prim_fixed x.OpenRound = Goes (Level 8 ∷ Make Grouping ∷ One x.CloseRound ∷ []) []
 prim_fixed x.Own = Goes (One x.Dot ∷ Name ∷ Make FieldOf ∷ []) []
 prim_fixed x.Event = Goes (One x.Dot ∷ Name ∷ Make EventFieldOf ∷ []) []
 prim_fixed x.Masked = Goes (One x.OpenRound ∷ Text ∷ One x.Comma ∷ Level 8 ∷ Make AskingMasked ∷ One x.CloseRound ∷ []) []

@@ -1,12 +1,7 @@
--- What a text is read as: its tokens, its script, or its first fault. And the text that a script is printed as.
-use Rattle.std.specs.Prelude.{◌≡◌, ℕ, ◌+◌, ◌-◌, Bool, true, false, ◌==◌, List, [], ◌∷◌, ◌++◌, length, take, drop, slice_index, Option, Some, None, Result, Ok, Err, if◌then◌else◌}
-use Rattle.std.specs.List.{flat_map}
-use Rattle.std.specs.Fmt.{decimal}
+-- What a text is read as: its tokens, its script, or its first fault.
+use Rattle.std.specs.Prelude.{◌≡◌, ℕ, ◌+◌, ◌-◌, ◌==◌, IsTrue, List, [], ◌∷◌, length, take, drop, slice_index, Option, Some, None, Result, Ok, Err, if◌then◌else◌}
 use Rattle.slee_value.specs.Name.{is_letter}
-use Rattle.script_tree.specs.declared.symbol.Fixed.{Fixed}
-use Rattle.script_tree.specs.declared.symbol.Fixed.TheVariants as x
 use Rattle.script_tree.specs.declared.symbol.Symbol.{Symbol}
-use Rattle.script_tree.specs.declared.symbol.Symbol.TheVariants as s
 use Rattle.script_tree.specs.declared.lexeme.Lexeme.{Lexeme}
 use Rattle.script_tree.specs.declared.lexeme.Lexeme.TheVariants as t
 use Rattle.script_tree.specs.declared.token.Token.{Token}
@@ -17,10 +12,10 @@ use Rattle.script_tree.specs.declared.fault.SyntaxBad.{SyntaxBad}
 use Rattle.script_tree.specs.declared.fault.SyntaxBad.TheVariants as bad
 use Rattle.script_tree.specs.declared.fault.SyntaxFault.{SyntaxFault}
 use Rattle.script_tree.specs.declared.fault.SyntaxFault.TheVariants as faults
-use Rattle.script_tree.specs.Words.{symbol_text, quoted, is_number, is_identifier, is_literal}
+use Rattle.script_tree.specs.Words.{symbol_text}
 use Rattle.script_tree.specs.Tree.{Bytes, Statements}
 use Rattle.script_tree.specs.Grammar.{Verdict, Fine, Faulty, script_of}
-use Rattle.script_tree.specs.Spelling.{spell_statements}
+use Rattle.script_tree.specs.Spelling.{spell_statements, is_script}
 use Rattle.script_tree.specs.Lexer.{Spot, spots_of, lexemes_of, is_bad}
 
 -- the place of the byte behind this one
@@ -36,8 +31,11 @@ place_behind p (b ∷ bs) = place_behind (place_after p b) bs
 abbrev pub place_of : Bytes → ℕ → Place
 place_of text at = place_behind (record { line = 1; column = 1 }) (take at text)
 
+abbrev pub fault_in : Place → SyntaxBad → SyntaxFault
+fault_in p kind = faults.At p.line p.column kind
+
 abbrev pub fault_at : Bytes → ℕ → SyntaxBad → SyntaxFault
-fault_at text at kind = let p = place_of text at in faults.At p.line p.column kind
+fault_at text at kind = fault_in (place_of text at) kind
 
 -- a symbol in letters is a word
 abbrev pub symbol_kind : Symbol → TokenKind
@@ -75,56 +73,29 @@ abbrev pub start_of : List Spot → ℕ → ℕ
 start_of [] end = end
 start_of (spot ∷ spots) end = spot.start
 
+-- where a token begins, or the text ends
+abbrev pub start_at : Option Token → ℕ → ℕ
+start_at None end = end
+start_at (Some token) end = token.start
+
+-- where the token stands that has so many before it, or the text's end
+abbrev pub place_of_token : Bytes → ℕ → Place
+place_of_token text n = place_of text (start_of (drop n (spots_of text)) (length text))
+
 abbrev pub read_by : Bytes → List Spot → Verdict → Result Statements SyntaxFault
 read_by text spots (Fine script) = Ok script
-read_by text spots (Faulty f) = Err (fault_at text (start_of (drop (length spots - f.left) spots) (length text)) f.kind)
+read_by text spots (Faulty f) = Err (fault_in (place_of_token text (length spots - f.left)) f.kind)
 
 -- the script that a text is, or the first token that can't continue one
 abbrev pub script_read : Bytes → Result Statements SyntaxFault
 script_read text = read_by text (spots_of text) (script_of (lexemes_of text))
 
+-- a text writes a script: its tokens are the script's spelling
+pub record Writes (text : Bytes) (script : Statements) : Type 0 where
+  pub spelled : lexemes_of text ≡ spell_statements script
+  pub whole : IsTrue (is_script script)
+
 -- an error is the fault that is read, or memory ran out
 abbrev pub IsFault : {A : Type 0} → Result A SyntaxFault → SyntaxFault → Type 0
 IsFault reading faults.NoMemory = Unit {0}
 IsFault reading (faults.At line column kind) = reading ≡ Err (faults.At line column kind)
-
--- the bytes of a token
-abbrev pub lexeme_text : Lexeme → Bytes
-lexeme_text (t.Int n) = decimal n
-lexeme_text (t.Name n) = n
-lexeme_text (t.Text n) = 34 ∷ (quoted n ++ 34 ∷ [])
-lexeme_text (t.Symbol y) = symbol_text y
-lexeme_text t.Bad = []
-
--- a line ends behind `;`, `{` and `}`
-abbrev pub ends_line : Fixed → Bool
-ends_line x.Semicolon = true
-ends_line x.OpenCurly = true
-ends_line x.CloseCurly = true
-ends_line _ = false
-
-abbrev pub gap : Lexeme → ℕ
-gap (t.Symbol (s.Fixed y)) = if ends_line y then 10 else 32
-gap _ = 32
-
-abbrev pub spaced : Lexeme → Bytes
-spaced token = lexeme_text token ++ gap token ∷ []
-
--- the text of a script: its tokens in their one spelling, each with one blank behind it
-abbrev pub printed : Statements → Bytes
-printed script = flat_map spaced (spell_statements script)
-
--- whether a token of this value can stand in a text
-abbrev pub can_be_written : Lexeme → Bool
-can_be_written (t.Int n) = is_number n
-can_be_written (t.Name n) = is_identifier n
-can_be_written (t.Text n) = is_literal n
-can_be_written (t.Symbol y) = true
-can_be_written t.Bad = false
-
--- a bracket, where one is needed
-abbrev pub opening : Bool → List Lexeme
-opening needed = if needed then t.Symbol (s.Fixed x.OpenRound) ∷ [] else []
-
-abbrev pub closing : Bool → List Lexeme
-closing needed = if needed then t.Symbol (s.Fixed x.CloseRound) ∷ [] else []

@@ -1,4 +1,4 @@
--- How a script is spelled in tokens, with no brackets but those that it needs, and which trees are scripts.
+-- How a script is spelled in tokens: the grammar read aloud. And which trees are scripts.
 use Rattle.std.specs.Prelude.{ℕ, ◌+◌, ◌-◌, Bool, true, ◌&&◌, ◌==◌, nat_le, List, [], ◌∷◌, ◌++◌, Option, Some, None, if◌then◌else◌}
 use Rattle.std.specs.List.{list_all}
 use Rattle.slee_value.specs.declared.keep.Keep.{Keep}
@@ -23,33 +23,11 @@ use Rattle.script_tree.specs.declared.tree.Over.{Over}
 use Rattle.script_tree.specs.declared.tree.Over.TheVariants as v
 use Rattle.script_tree.specs.Words.{is_identifier, is_literal, is_number}
 use Rattle.script_tree.specs.Grammar.{level_of}
-use Rattle.script_tree.specs.Tree.{Bytes, Expression, Leaf, Unary, Binary, Ask, Assigning, OnEntities, OnActivities, SettingTimer, Statement, Statements}
+use Rattle.script_tree.specs.Tree.{Bytes, Expression, Leaf, Unary, Binary, Ask, Group, Assigning, OnEntities, OnActivities, SettingTimer, Statement, Statements}
 use Rattle.script_tree.specs.Tree as tree
 
 abbrev pub fixed : Fixed → Lexeme
 fixed y = t.Symbol (s.Fixed y)
-
--- the level of the operator that is done last, 0 where there is none outside of brackets
-abbrev pub prefix_level : Prefix → ℕ
-prefix_level prefixes.Negative = 1
-prefix_level prefixes.Not = 6
-
-abbrev pub level : Expression → ℕ
-level (Leaf y) = 0
-level (Unary op a) = prefix_level op
-level (Binary op a b) = level_of op
-level (Ask query a) = 0
-
--- the level that may stand left of an operator: its own in a chain, the one below it in a comparison
-abbrev pub chain_level : ℕ → ℕ
-chain_level n = if n == 5 then 4 else n
-
-abbrev pub left_level : Operator → ℕ
-left_level op = chain_level (level_of op)
-
--- an expression is in brackets where its level may not stand
-abbrev pub at_level : ℕ → Expression → List Lexeme → List Lexeme
-at_level n a tokens = if nat_le (level a) n then tokens else fixed x.OpenRound ∷ (tokens ++ fixed x.CloseRound ∷ [])
 
 abbrev pub spell_named : Fixed → Bytes → List Lexeme
 spell_named y name = fixed y ∷ fixed x.OpenRound ∷ t.Name name ∷ fixed x.CloseRound ∷ []
@@ -84,9 +62,10 @@ behind_asked _ = fixed x.CloseRound ∷ []
 
 abbrev pub spell_expression : Expression → List Lexeme
 spell_expression (Leaf y) = spell_leaf y
-spell_expression (Unary op a) = prefix_token op ∷ at_level (prefix_level op - 1) a (spell_expression a)
-spell_expression (Binary op a b) = at_level (left_level op) a (spell_expression a) ++ t.Symbol (s.Operator op) ∷ at_level (level_of op - 1) b (spell_expression b)
+spell_expression (Unary op a) = prefix_token op ∷ spell_expression a
+spell_expression (Binary op a b) = spell_expression a ++ t.Symbol (s.Operator op) ∷ spell_expression b
 spell_expression (Ask query a) = before_asked query ++ (spell_expression a ++ behind_asked query)
+spell_expression (Group a) = fixed x.OpenRound ∷ (spell_expression a ++ fixed x.CloseRound ∷ [])
 
 abbrev pub spell_who : Who → List Lexeme
 spell_who w.Own = fixed x.Own ∷ []
@@ -189,11 +168,27 @@ abbrev mutual
   spell_statements tree.Nothing = []
   spell_statements (tree.Then y ys) = spell_statement y ++ spell_statements ys
 
--- Trees that are scripts: their names, texts and numbers can be written, and no bracket opens level 65.
+-- Trees that are scripts: an operator has operands of its own level or below, names, texts and numbers can be written, and no
+-- bracket opens level 65.
 
--- how many brackets are open round an expression
-abbrev pub depth_at : ℕ → Expression → ℕ → ℕ
-depth_at n a d = if nat_le (level a) n then d else d + 1
+-- the level of the operator that is done last, 0 where there is none outside of brackets
+abbrev pub prefix_level : Prefix → ℕ
+prefix_level prefixes.Negative = 1
+prefix_level prefixes.Not = 6
+
+abbrev pub level : Expression → ℕ
+level (Leaf y) = 0
+level (Unary op a) = prefix_level op
+level (Binary op a b) = level_of op
+level (Ask query a) = 0
+level (Group a) = 0
+
+-- the level that may stand left of an operator: its own in a chain, the one below it in a comparison
+abbrev pub chain_level : ℕ → ℕ
+chain_level n = if n == 5 then 4 else n
+
+abbrev pub left_level : Operator → ℕ
+left_level op = chain_level (level_of op)
 
 abbrev pub leaf_fits : ℕ → ALeaf → Bool
 leaf_fits d (l.Int n) = is_number n && nat_le d 64
@@ -216,9 +211,10 @@ query_fits (q.HasProfile table) = is_identifier table
 -- an expression in d brackets
 abbrev pub fits : ℕ → Expression → Bool
 fits d (Leaf y) = leaf_fits d y
-fits d (Unary op a) = fits (depth_at (prefix_level op - 1) a d) a
-fits d (Binary op a b) = fits (depth_at (left_level op) a d) a && fits (depth_at (level_of op - 1) b d) b
+fits d (Unary op a) = nat_le (level a) (prefix_level op - 1) && fits d a
+fits d (Binary op a b) = (nat_le (level a) (left_level op) && fits d a) && (nat_le (level b) (level_of op - 1) && fits d b)
 fits d (Ask query a) = query_fits query && fits (d + 1) a
+fits d (Group a) = fits (d + 1) a
 
 abbrev pub option_fits : {A : Type 0} → (A → Bool) → Option A → Bool
 option_fits p None = true

@@ -31,6 +31,7 @@ pub data Expression : Type 0 where
   Unary : Prefix → Expression → Expression
   Binary : Operator → Expression → Expression → Expression
   Ask : Query → Expression → Expression
+  Group : Expression → Expression  -- in round brackets
 
 pub data Assigning : Type 0 where
   New : Bytes → Expression → Assigning
@@ -91,6 +92,7 @@ abbrev mutual
   tree_of (e.Unary' op _ x) = Unary op (tree_of x)
   tree_of (e.Chain' _ x op y _ more) = joined_row (Binary op (tree_of x) (tree_of y)) more
   tree_of (e.Ask' _ query x) = Ask query (tree_of x)
+  tree_of (e.Group' _ x) = Group (tree_of x)
 
   -- operands that are joined from left to right
   pub joined_row : {n : _} → Expression → Row_of-Expr-Chain-1-2 n → Expression

@@ -61,6 +61,8 @@ verb_text v.Unbind = codes "unbind"
 verb_text v.Emit = codes "emit"
 verb_text v.Return = codes "return"
 verb_text v.Throw = codes "throw"
+verb_text v.Suspend = codes "suspend"
+verb_text v.Resume = codes "resume"
 
 -- the bytes of each other word and sign
 abbrev pub fixed_text : Fixed → List ℕ

@@ -24,7 +24,7 @@ pub use lexer::{Lexed, lex, lexemes};
 pub use literal::{LITERAL_LIMIT, Literal};
 pub use name_ref::NameRef;
 pub use number::{NUMBER_LIMIT, Number};
-pub use scanning::{Place, fault_at, tokens};
+pub use scanning::{Place, fault_in, place_of_token, tokens};
 pub use script::Script;
 pub use symbol::{Constant, Fixed, Function, Operator, Symbol, Verb, WORDS};
 pub use token::{Token, TokenKind, Tokens};

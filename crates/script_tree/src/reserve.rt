@@ -27,11 +27,11 @@ pub fn reserved(run: &[u8]) -> Option<Symbol>
         b'n' => among(38, 42, run),
         b'o' => among(42, 44, run),
         b'p' => among(44, 46, run),
-        b'r' => among(46, 49, run),
-        b's' => among(49, 50, run),
-        b't' => among(50, 57, run),
-        b'u' => among(57, 60, run),
-        b'w' => among(60, 61, run),
+        b'r' => among(46, 50, run),
+        b's' => among(50, 52, run),
+        b't' => among(52, 59, run),
+        b'u' => among(59, 62, run),
+        b'w' => among(62, 63, run),
         b'g' | b'j' | b'q' | b'v' | b'x' | b'y' | b'z' => None,
         _ => find_word(&WORDS, run),
     }
@@ -40,7 +40,7 @@ pub fn reserved(run: &[u8]) -> Option<Symbol>
 /// The one of the words between two places of the list that is spelled so.
 fn among(start: usize, end: usize, bytes: &[u8]) -> Option<Symbol>
     requires order { start ≤ end }
-    requires within { end ≤ 61 }
+    requires within { end ≤ 63 }
     ensures { result ≡ find_word (take (end - start) (drop start WORDS)) bytes.now }
 {
     find_word(&WORDS[start..end], bytes)

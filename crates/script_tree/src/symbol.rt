@@ -54,6 +54,8 @@ pub enum Verb {
     Emit,
     Return,
     Throw,
+    Suspend,
+    Resume,
 }
 
 /// Each other word and sign of the grammar.
@@ -210,6 +212,8 @@ impl Verb {
             Verb::Emit => b"emit",
             Verb::Return => b"return",
             Verb::Throw => b"throw",
+            Verb::Suspend => b"suspend",
+            Verb::Resume => b"resume",
         }
     }
 }
@@ -348,7 +352,7 @@ impl Symbol {
 }
 
 /// The symbols that have the form of a name, in byte order.
-pub const WORDS: [Symbol; 61] = [
+pub const WORDS: [Symbol; 63] = [
     Symbol::Function(Function::Active),
     Symbol::Fixed(Fixed::Activities),
     Symbol::Constant(Constant::Activity),
@@ -396,9 +400,11 @@ pub const WORDS: [Symbol; 61] = [
     Symbol::Fixed(Fixed::Priority),
     Symbol::Fixed(Fixed::Profile),
     Symbol::Fixed(Fixed::Remove),
+    Symbol::Verb(Verb::Resume),
     Symbol::Verb(Verb::Return),
     Symbol::Fixed(Fixed::Rollback),
     Symbol::Fixed(Fixed::Own),
+    Symbol::Verb(Verb::Suspend),
     Symbol::Fixed(Fixed::Table),
     Symbol::Function(Function::Text),
     Symbol::Verb(Verb::Throw),

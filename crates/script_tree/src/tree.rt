@@ -4,7 +4,7 @@ ghost use Rattle.script_tree.specs.Spelling.{prefix_level};
 use crate::{Constant, Function, Identifier, Literal, Number, Operator, Verb};
 use slee_value::Keep;
 
-/// An expression. A parenthesis makes no node.
+/// An expression.
 #[derive(Drop)]
 pub enum Expr {
     Leaf(Leaf),
@@ -13,6 +13,8 @@ pub enum Expr {
     /// right. They stand side by side and not in one another, so that a long row of them is no deep tree.
     Chain(Box<(Expr, Operator, Expr)>, Vec<(Operator, Expr)>),
     Ask(Box<(Query, Expr)>),
+    /// `(e)`: it means what `e` means, and costs nothing when it runs.
+    Group(Box<Expr>),
 }
 
 /// An expression without parts.

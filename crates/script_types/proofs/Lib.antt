@@ -1,5 +1,4 @@
 mod TypingExamples
-pub mod TokenLaws
 pub mod TypingLaws
 pub mod ScopeLaws
 pub mod RemoveLaws

@@ -92,6 +92,7 @@ expression_shows all block scope at (tree.Leaf leaf) = leaf_shows all block scop
 expression_shows all block scope at (tree.Unary op x) = search (shows_first, expression_shows all block scope (at + 1) x)
 expression_shows all block scope at (tree.Binary op x y) = search (shows_both, shows_later, shows_first, expression_shows all block scope at x, expression_shows all block scope (at + tokens_in x + 1) y) depth 7
 expression_shows all block scope at (tree.Ask query x) = search (shows_both, shows_later, shows_first, expression_shows all block scope (at + tokens_before query) x, query_shows all block at query) depth 9
+expression_shows all block scope at (tree.Group x) = expression_shows all block scope (at + 1) x
 
 asked_shows : (all : Codes) (block : Block) (scope : Scope) (kind : Kind) (at : ℕ) (x : Expression) → Shows (is_own_expression x) (check_asked (on_remove all block) scope kind at x)
 asked_shows all block scope kind at x = search (shows_first, expression_shows all block scope at x)
@@ -127,6 +128,8 @@ verb_shows all block scope at v.Unbind x = search shows_later
 verb_shows all block scope at v.Emit x = asked_shows all block scope _ (at + 1) x
 verb_shows all block scope at v.Return x = search shows_later
 verb_shows all block scope at v.Throw x = search shows_later
+verb_shows all block scope at v.Suspend x = search shows_later
+verb_shows all block scope at v.Resume x = search shows_later
 
 mutual
   statement_shows : (all : Codes) (block : Block) (scope : Scope) (at : ℕ) (y : Statement) → Shows (is_for_remove y) (check_statement (on_remove all block) scope at y)

@@ -1,4 +1,4 @@
--- Scripts with the fault that their check finds, each worked out by hand. Above each stands its text; a place is the number of tokens before it, round brackets not counted.
+-- Scripts with the fault that their check finds, each worked out by hand. Above each stands its text; a place is the number of tokens before it.
 use Rattle.std.specs.Prelude.{◌≡◌, refl, ℕ, false, List, [], ◌∷◌, Option, Some, None, Ok, Err, codes, pos}
 use Rattle.slee_value.specs.declared.kind.Kind.TheVariants as k
 use Rattle.slee_value.specs.declared.keep.Keep.TheVariants as keep
@@ -6,7 +6,7 @@ use Rattle.script_types.specs.declared.misuse.CheckBad.TheVariants.{Name, Mismat
 use Rattle.script_tree.specs.declared.symbol.Operator.TheVariants.{Or, And, Equal, Less, Join, Plus, Minus, Times, Divide, Remainder}
 use Rattle.script_tree.specs.declared.symbol.Constant.TheVariants as c
 use Rattle.script_tree.specs.declared.symbol.Function.TheVariants as f
-use Rattle.script_tree.specs.declared.symbol.Verb.TheVariants.{End, Cancel, Unbind, Emit, Return, Throw}
+use Rattle.script_tree.specs.declared.symbol.Verb.TheVariants.{End, Cancel, Unbind, Emit, Return, Throw, Suspend, Resume}
 use Rattle.script_tree.specs.declared.tree.Leaf.TheVariants as l
 use Rattle.script_tree.specs.declared.tree.Prefix.TheVariants.{Not}
 use Rattle.script_tree.specs.declared.tree.Query.TheVariants as q
@@ -14,7 +14,7 @@ use Rattle.script_tree.specs.declared.tree.Who.TheVariants.{Own, Child}
 use Rattle.script_tree.specs.declared.tree.Over.TheVariants.{Activities, Children}
 use Rattle.script_types.specs.declared.codes.CodePart.TheVariants as part
 use Rattle.script_tree.specs.Tree as t
-use Rattle.script_tree.specs.Tree.{Bytes, Expression, Binary, Unary, Ask, Statement, Statements, Nothing, Then, Do, If, While, For}
+use Rattle.script_tree.specs.Tree.{Bytes, Expression, Binary, Unary, Ask, Group, Statement, Statements, Nothing, Then, Do, If, While, For}
 use Rattle.script_types.specs.declared.codes.EventCode.{EventCode}
 use Rattle.script_types.specs.declared.codes.TableCode.{TableCode}
 use Rattle.script_types.specs.Codes.{Codes, Block, Method}
@@ -169,11 +169,35 @@ not_of_an_int : handler (one (let_ (codes "x") (Unary Not (int 1)))) ≡ misused
 not_of_an_int = refl
 
 -- let x = (1 + 2) * "a";
-behind_brackets : handler (one (let_ (codes "x") (Binary Times (Binary Plus (int 1) (int 2)) (text (codes "a"))))) ≡ misused Mismatch 7
+behind_brackets : handler (one (let_ (codes "x") (Binary Times (Group (Binary Plus (int 1) (int 2))) (text (codes "a"))))) ≡ misused Mismatch 9
 behind_brackets = refl
 
+-- emit (1) + 2;
+sum_that_begins_with_a_bracket : handler (one (emit (Binary Plus (Group (int 1)) (int 2)))) ≡ misused Mismatch 1
+sum_that_begins_with_a_bracket = refl
+
+-- emit ((true));
+in_two_brackets : handler (one (emit (Group (Group yes_constant)))) ≡ misused Mismatch 1
+in_two_brackets = refl
+
+-- if (1) {}
+condition_in_brackets : handler (one (If (Group (int 1)) Nothing)) ≡ misused Mismatch 1
+condition_in_brackets = refl
+
+-- let x = (1 == "a");
+comparison_in_brackets : handler (one (let_ (codes "x") (Group (Binary Equal (int 1) (text (codes "a")))))) ≡ misused Mismatch 6
+comparison_in_brackets = refl
+
+-- emit (x);
+name_in_brackets : handler (one (emit (Group (name (codes "x"))))) ≡ misused Name 2
+name_in_brackets = refl
+
+-- cancel (none);
+none_in_brackets : handler (one (Do Cancel (Group none))) ≡ fine
+none_in_brackets = refl
+
 -- emit text("a");
-text_of_a_text : handler (one (emit (Ask (q.Plain f.Text) (text (codes "a"))))) ≡ misused Mismatch 2
+text_of_a_text : handler (one (emit (Ask (q.Plain f.Text) (text (codes "a"))))) ≡ misused Mismatch 3
 text_of_a_text = refl
 
 -- emit text(true);
@@ -200,23 +224,23 @@ failure_in_a_callback : in_role OnException (one (emit failure)) ≡ fine
 failure_in_a_callback = refl
 
 -- attr(1, f) = 2;
-attribute_of_an_int : handler (one (t.Assign (t.Attribute (int 1) (codes "f") (int 2)))) ≡ misused Mismatch 1
+attribute_of_an_int : handler (one (t.Assign (t.Attribute (int 1) (codes "f") (int 2)))) ≡ misused Mismatch 2
 attribute_of_an_int = refl
 
 -- attr(activity, f) = x;
-unknown_attribute : handler (one (t.Assign (t.Attribute here (codes "f") (name (codes "x"))))) ≡ misused Name 3
+unknown_attribute : handler (one (t.Assign (t.Attribute here (codes "f") (name (codes "x"))))) ≡ misused Name 4
 unknown_attribute = refl
 
 -- let s = profile(f, 1, seconds);
-unknown_table : handler (one (let_ (codes "s") (Ask (q.Profile (codes "f") (codes "seconds")) (int 1)))) ≡ misused Name 4
+unknown_table : handler (one (let_ (codes "s") (Ask (q.Profile (codes "f") (codes "seconds")) (int 1)))) ≡ misused Name 5
 unknown_table = refl
 
 -- let s = profile(accounts, 1, f);
-row_is_a_text : handler (one (let_ (codes "s") (Ask (q.Profile (codes "accounts") (codes "f")) (int 1)))) ≡ misused Mismatch 6
+row_is_a_text : handler (one (let_ (codes "s") (Ask (q.Profile (codes "accounts") (codes "f")) (int 1)))) ≡ misused Mismatch 7
 row_is_a_text = refl
 
 -- let s = profile(accounts, "a", f);
-unknown_row_attribute : handler (one (let_ (codes "s") (Ask (q.Profile (codes "accounts") (codes "f")) (text (codes "a"))))) ≡ misused Name 8
+unknown_row_attribute : handler (one (let_ (codes "s") (Ask (q.Profile (codes "accounts") (codes "f")) (text (codes "a"))))) ≡ misused Name 9
 unknown_row_attribute = refl
 
 -- `none`, an activity or a timer.
@@ -274,7 +298,7 @@ value_where_a_child_is_wanted : handler (two (let_ (codes "x") (int 1)) (t.Entit
 value_where_a_child_is_wanted = refl
 
 -- create legs as c priority count(c);
-unknown_relation : handler (one (t.Entity (t.Create (codes "legs") (codes "c") (Some (t.Leaf (l.Count (codes "c"))))))) ≡ misused Name 6
+unknown_relation : handler (one (t.Entity (t.Create (codes "legs") (codes "c") (Some (t.Leaf (l.Count (codes "c"))))))) ≡ misused Name 7
 unknown_relation = refl
 
 -- for c in legs { attach c to activity; remove c; }
@@ -290,7 +314,7 @@ unknown_method : handler (two (create (codes "c")) (call (codes "c") (codes "hal
 unknown_method = refl
 
 -- create legs as c; call c.add("a");
-argument_before_their_number : handler (two (create (codes "c")) (call (codes "c") (codes "add") (text (codes "a") ∷ []) None)) ≡ misused Mismatch 9
+argument_before_their_number : handler (two (create (codes "c")) (call (codes "c") (codes "add") (text (codes "a") ∷ []) None)) ≡ misused Mismatch 10
 argument_before_their_number = refl
 
 -- create legs as c; call c.add(1) as c;
@@ -298,15 +322,15 @@ number_of_arguments : handler (two (create (codes "c")) (call (codes "c") (codes
 number_of_arguments = refl
 
 -- create legs as c; call c.stop(x);
-argument_without_a_parameter : handler (two (create (codes "c")) (call (codes "c") (codes "stop") (name (codes "x") ∷ []) None)) ≡ misused Name 9
+argument_without_a_parameter : handler (two (create (codes "c")) (call (codes "c") (codes "stop") (name (codes "x") ∷ []) None)) ≡ misused Name 10
 argument_without_a_parameter = refl
 
 -- create legs as c; call c.add(1, none) as c;
-result_already_visible : handler (two (create (codes "c")) (call (codes "c") (codes "add") (int 1 ∷ none ∷ []) (Some (codes "c")))) ≡ misused Name 13
+result_already_visible : handler (two (create (codes "c")) (call (codes "c") (codes "add") (int 1 ∷ none ∷ []) (Some (codes "c")))) ≡ misused Name 15
 result_already_visible = refl
 
 -- create legs as c; call c.stop() as c;
-result_of_a_method_without : handler (two (create (codes "c")) (call (codes "c") (codes "stop") [] (Some (codes "c")))) ≡ misused Place 10
+result_of_a_method_without : handler (two (create (codes "c")) (call (codes "c") (codes "stop") [] (Some (codes "c")))) ≡ misused Place 12
 result_of_a_method_without = refl
 
 -- Activities, events and timers.
@@ -363,16 +387,39 @@ return_of_another_type = refl
 return_of_nothing : in_role (InMethod (Some k.Timer)) (one (Do Return none)) ≡ fine
 return_of_nothing = refl
 
+-- suspend 500;      suspend "a";      suspend x;
+suspend_in_a_handler : handler (one (Do Suspend (int 500))) ≡ fine
+suspend_in_a_handler = refl
+
+suspend_for_a_text : handler (one (Do Suspend (text (codes "a")))) ≡ misused Mismatch 1
+suspend_for_a_text = refl
+
+suspend_in_a_method : in_role (InMethod None) (one (Do Suspend (int 500))) ≡ misused Place 0
+suspend_in_a_method = refl
+
+suspend_in_a_callback : in_role OnException (one (Do Suspend (name (codes "x")))) ≡ misused Name 1
+suspend_in_a_callback = refl
+
+-- resume activity;      resume 1;      resume none;
+resume_in_a_method : in_role (InMethod None) (one (Do Resume here)) ≡ fine
+resume_in_a_method = refl
+
+resume_of_an_int : in_role OnException (one (Do Resume (int 1))) ≡ misused Mismatch 1
+resume_of_an_int = refl
+
+resume_on_remove : remove (one (Do Resume none)) ≡ misused Place 0
+resume_on_remove = refl
+
 -- while len(self.who) < 3 { let x = text(self.n); emit x; }
 remove_script : remove (one (While (Binary Less (Ask (q.Plain f.Len) (field (codes "who"))) (int 3)) (two (let_ (codes "x") (Ask (q.Plain f.Text) (field (codes "n")))) (emit (name (codes "x")))))) ≡ fine
 remove_script = refl
 
 -- emit text(now);
-now_on_remove : remove (one (emit (Ask (q.Plain f.Text) now))) ≡ misused Place 2
+now_on_remove : remove (one (emit (Ask (q.Plain f.Text) now))) ≡ misused Place 3
 now_on_remove = refl
 
 -- if active(x) {}      if active(none) {}
-function_on_remove : remove (one (If (Ask (q.Plain f.Active) (name (codes "x"))) Nothing)) ≡ misused Name 2
+function_on_remove : remove (one (If (Ask (q.Plain f.Active) (name (codes "x"))) Nothing)) ≡ misused Name 3
 function_on_remove = refl
 
 function_not_on_remove : remove (one (If (Ask (q.Plain f.Active) none) Nothing)) ≡ misused Place 1
@@ -405,7 +452,7 @@ script_of (x ∷ xs) = Then x (script_of xs)
 -- let x = 1; x = 2; self.n = x; attr(activity, seen) = x; create legs as c priority x; priority c 2; attach c to activity; detach self from activity;
 -- mask "timer" on activity; unmask "ping" on activity; fire "ping" on activity for "main" {n: x, addr: "a"}; null as a; bind "b" to a; unbind "b";
 -- timer t on a at now every 1 times 2 keep all; cancel t; emit "e"; usage u x; call c.add(x, t) as r; self.n = r; remove c; end a;
--- if r == x { let y = 1; } else { let y = "b"; } while r < x { x = r; } for d in legs { remove d; } for d in activities { end d; } throw "f"; rollback;
+-- if r == x { let y = 1; } else { let y = "b"; } while r < x { x = r; } for d in legs { remove d; } for d in activities { end d; } throw "f"; rollback; suspend 1; resume activity;
 every_statement : handler (script_of
     (let_ (codes "x") (int 1) ∷ set (codes "x") (int 2) ∷ set_field (codes "n") (name (codes "x"))
     ∷ t.Assign (t.Attribute here (codes "seen") (name (codes "x")))
@@ -422,7 +469,7 @@ every_statement : handler (script_of
     ∷ While (Binary Less (name (codes "r")) (name (codes "x"))) (one (set (codes "x") (name (codes "r"))))
     ∷ For (codes "d") (Children (codes "legs")) (one (t.Entity (t.Remove (codes "d"))))
     ∷ For (codes "d") Activities (one (Do End (name (codes "d"))))
-    ∷ Do Throw (text (codes "f")) ∷ t.Rollback ∷ [])) ≡ fine
+    ∷ Do Throw (text (codes "f")) ∷ t.Rollback ∷ Do Suspend (int 1) ∷ Do Resume here ∷ [])) ≡ fine
 every_statement = refl
 
 -- create legs as c;
@@ -430,9 +477,9 @@ every_statement = refl
 -- let n = len(text(1)) - count(legs) * priority(c) / attr(activity, seen) % profile(accounts, "a", seconds);
 every_function : handler (script_of
     (create (codes "c")
-    ∷ If (Binary Or (Binary Or (Unary Not (Ask (q.Plain f.Active) here))
+    ∷ If (Binary Or (Binary Or (Binary Or (Unary Not (Ask (q.Plain f.Active) here))
     (Binary And (Ask (q.Plain f.Attached) (t.Leaf (l.Table (codes "accounts")))) (Ask (q.Masked (codes "timer")) (Ask (q.Plain f.Lookup) (text (codes "x"))))))
-    (Binary Or (Binary And (Ask (q.Plain f.Bound) (text (codes "x"))) (Ask (q.HasProfile (codes "accounts")) (text (codes "a")))) (Ask (q.Plain f.HasTimer) (field (codes "alarm"))))) Nothing
+    (Binary And (Ask (q.Plain f.Bound) (text (codes "x"))) (Ask (q.HasProfile (codes "accounts")) (text (codes "a"))))) (Ask (q.Plain f.HasTimer) (field (codes "alarm")))) Nothing
     ∷ let_ (codes "n") (Binary Minus (Ask (q.Plain f.Len) (Ask (q.Plain f.Text) (int 1)))
     (Binary Remainder (Binary Divide (Binary Times (t.Leaf (l.Count (codes "legs"))) (t.Leaf (l.Priority (codes "c")))) (Ask (q.Attribute (codes "seen")) here))
     (Ask (q.Profile (codes "accounts") (codes "seconds")) (text (codes "a"))))) ∷ [])) ≡ fine

@@ -146,15 +146,15 @@ leaf_of s scope at (l.Field name) = do
   Ok (typed kind (a.Field name kind))
 leaf_of s scope at (l.EventField name) = event_field_for s.role at name
 leaf_of s scope at (l.Table name) = do
-  x ← known (at + 1) (table_activity s.codes name)
+  x ← known (at + 2) (table_activity s.codes name)
   _ ← not_on_remove s at
   Ok x
 leaf_of s scope at (l.Count name) = do
-  _ ← known (at + 1) (relation_named name s.block)
+  _ ← known (at + 2) (relation_named name s.block)
   _ ← not_on_remove s at
   Ok (typed k.Int (a.Count name))
 leaf_of s scope at (l.Priority name) = do
-  x ← child_named scope name (at + 1)
+  x ← child_named scope name (at + 2)
   _ ← not_on_remove s at
   Ok (typed k.Int (a.Priority x.place))
 
@@ -245,12 +245,13 @@ expression_of s scope at (tree.Binary op x y) = do
   let kind : Kind = kind_between one.kind other.kind
   Ok (record { kind = result_kind (rule_of op); term = between op kind (as_kind kind x one.term) (as_kind kind y other.term) })
 expression_of s scope at (tree.Ask query x) = do
-  _ ← tested bad.Name (at + 1) (is_query_known s.codes query)
+  _ ← tested bad.Name (at + 2) (is_query_known s.codes query)
   one ← expression_of s scope (at + tokens_before query) x
   _ ← tested bad.Mismatch (at + tokens_before query) (list_any (serves x one.kind) (query_takes query))
   asking ← asking_of s (at + tokens_before query + tokens_in x + 1) one.kind query
   _ ← check_query_place s at query
   Ok (record { kind = asking.kind; term = Ask asking.question (as_kind (operand_kind query one.kind) x one.term) })
+expression_of s scope at (tree.Group x) = expression_of s scope (at + 1) x
 
 -- the term of an expression where one type is asked for
 abbrev pub asked_of : Setting → Scope → Kind → ℕ → Expression → Checked Term

@@ -25,7 +25,7 @@ use Rattle.script_types.specs.TypingResult.{Checked, ◌>>=◌, misused, tested,
 use Rattle.script_types.specs.Scopes.{Scope, with_value, with_child, check_new}
 use Rattle.script_types.specs.TokenCounts.{tokens_in, tokens_in_arguments, tokens_in_tail, tokens_in_statement, tokens_in_statements}
 use Rattle.script_types.specs.TypingExpressions.{Setting, Role, InMethod, not_on_remove}
-use Rattle.script_types.specs.TypingStatements.{argument_fits, check_result, check_service, are_all_given}
+use Rattle.script_types.specs.TypingStatements.{argument_fits, check_handler, check_result, check_service, are_all_given}
 use Rattle.script_types.specs.Elaboration.{value_named, child_named, attribute_named, expression_of, asked_of, as_kind}
 use Rattle.script_types.specs.Program as p
 use Rattle.script_types.specs.Program.{Term, Step, Steps}
@@ -56,9 +56,9 @@ assigning_of s scope at (tree.Field name x) = do
   _ ← not_on_remove s at
   Ok (record { scope = scope; step = p.Assign (p.Field name term) })
 assigning_of s scope at (tree.Attribute x name y) = do
-  activity ← asked_of s scope k.Activity (at + 1) x
-  attribute ← known (at + 2 + tokens_in x) (attribute_named name s.block)
-  term ← asked_of s scope attribute.kind (at + 4 + tokens_in x) y
+  activity ← asked_of s scope k.Activity (at + 2) x
+  attribute ← known (at + 3 + tokens_in x) (attribute_named name s.block)
+  term ← asked_of s scope attribute.kind (at + 6 + tokens_in x) y
   _ ← not_on_remove s at
   Ok (record { scope = scope; step = p.Assign (p.Attribute activity attribute.key term) })
 
@@ -116,9 +116,9 @@ on_entities_of s scope at (tree.Priority child x) = do
 on_entities_of s scope at (tree.Call child name arguments result) = do
   found ← child_named scope child (at + 1)
   called ← known (at + 3) (method_in s found.block name)
-  terms ← arguments_of s scope called.method.parameters (at + 4) arguments
+  terms ← arguments_of s scope called.method.parameters (at + 5) arguments
   _ ← tested bad.Count (at + 3) (length arguments == length called.method.parameters)
-  next ← check_result scope called.method.result (at + 5 + tokens_in_arguments arguments) result
+  next ← check_result scope called.method.result (at + 7 + tokens_in_arguments arguments) result
   _ ← not_on_remove s at
   Ok (record { scope = next; step = p.Invoke (record { child = found.place; block = found.block; method = called.number; arguments = terms; keeps = is_some result }) })
 
@@ -215,7 +215,7 @@ return_of s scope at _ x = do
   _ ← expression_of s scope (at + 1) x
   misused bad.Place at
 
--- end e ;      cancel e ;      unbind e ;      emit e ;      return e ;      throw e ;
+-- end e ;      cancel e ;      unbind e ;      emit e ;      return e ;      throw e ;      suspend e ;      resume e ;
 abbrev pub verb_of : Setting → Scope → ℕ → Verb → Expression → Checked Step
 verb_of s scope at v.End x = do
   term ← asked_of s scope k.Activity (at + 1) x
@@ -237,6 +237,14 @@ verb_of s scope at v.Throw x = do
   term ← asked_of s scope k.Text (at + 1) x
   _ ← not_on_remove s at
   Ok (p.Say (p.Throw term))
+verb_of s scope at v.Suspend x = do
+  term ← asked_of s scope k.Int (at + 1) x
+  _ ← check_handler s.role at
+  Ok (p.Activity (p.Suspend term))
+verb_of s scope at v.Resume x = do
+  term ← asked_of s scope k.Activity (at + 1) x
+  _ ← not_on_remove s at
+  Ok (p.Activity (p.Resume term))
 
 -- What a loop goes over, with its variable in scope.
 pub record Loop : Type 0 where

@@ -38,6 +38,7 @@ is_own_expression (tree.Leaf leaf) = is_own_leaf leaf
 is_own_expression (tree.Unary op x) = is_own_expression x
 is_own_expression (tree.Binary op x y) = is_own_expression x && is_own_expression y
 is_own_expression (tree.Ask query x) = is_own_expression x && is_own_query query
+is_own_expression (tree.Group x) = is_own_expression x
 
 abbrev mutual
   pub is_for_remove : Statement → Bool

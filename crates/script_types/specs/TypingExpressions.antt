@@ -56,6 +56,7 @@ same_kind _ _ = false
 
 abbrev pub is_nothing : Expression → Bool
 is_nothing (tree.Leaf (l.Constant c.Nothing)) = true
+is_nothing (tree.Group x) = is_nothing x
 is_nothing _ = false
 
 -- whether an expression of one type serves where another is asked for: `none`, else an activity, is a timer there
@@ -98,15 +99,15 @@ check_leaf s scope at (l.Variable name) = check_value scope name at
 check_leaf s scope at (l.Field name) = known (at + 2) (kind_in name s.block.fields)
 check_leaf s scope at (l.EventField name) = check_event_field s.role at name
 check_leaf s scope at (l.Table name) = do
-  _ ← known (at + 1) (table_named name s.codes)
+  _ ← known (at + 2) (table_named name s.codes)
   _ ← not_on_remove s at
   Ok k.Activity
 check_leaf s scope at (l.Count name) = do
-  _ ← known (at + 1) (relation_named name s.block)
+  _ ← known (at + 2) (relation_named name s.block)
   _ ← not_on_remove s at
   Ok k.Int
 check_leaf s scope at (l.Priority name) = do
-  _ ← check_child scope name (at + 1)
+  _ ← check_child scope name (at + 2)
   _ ← not_on_remove s at
   Ok k.Int
 
@@ -215,12 +216,13 @@ check_expression s scope at (tree.Binary op x y) = do
   _ ← tested bad.Mismatch (at + tokens_in x + 1) (right_fits (rule_of op) x one y other)
   Ok (result_kind (rule_of op))
 check_expression s scope at (tree.Ask query x) = do
-  _ ← tested bad.Name (at + 1) (is_query_known s.codes query)
+  _ ← tested bad.Name (at + 2) (is_query_known s.codes query)
   found ← check_expression s scope (at + tokens_before query) x
   _ ← tested bad.Mismatch (at + tokens_before query) (list_any (serves x found) (query_takes query))
   kind ← query_gives s (at + tokens_before query + tokens_in x + 1) query
   _ ← check_query_place s at query
   Ok kind
+check_expression s scope at (tree.Group x) = check_expression s scope (at + 1) x
 
 -- an expression where one type is asked for
 abbrev pub check_asked : Setting → Scope → Kind → ℕ → Expression → Checked (Unit {0})

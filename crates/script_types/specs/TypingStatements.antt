@@ -1,5 +1,5 @@
 -- The variables that are visible behind a statement, or its first fault. Parts are read from left to right, each with all inside it, and the whole last.
--- `at` tokens stand before what is checked, round brackets not counted. Each definition has the form of its statement above it.
+-- `at` tokens stand before what is checked. Each definition has the form of its statement above it.
 use Rattle.std.specs.Prelude.{ℕ, ◌+◌, ◌==◌, Bool, true, not, List, [], ◌∷◌, length, drop, map, Option, Some, None, Ok, slice_get, bytes_eq}
 use Rattle.std.specs.List.{list_any, list_all}
 use Rattle.slee_value.specs.declared.kind.Kind.{Kind}
@@ -18,7 +18,7 @@ use Rattle.script_types.specs.Codes.{kind_in, attribute_kind, any_event, declare
 use Rattle.script_types.specs.TypingResult.{Checked, ◌>>=◌, misused, tested, known}
 use Rattle.script_types.specs.Scopes.{Scope, with_value, with_child, check_new, check_value, check_child}
 use Rattle.script_types.specs.TokenCounts.{tokens_in, tokens_in_arguments, tokens_in_tail, tokens_in_statement, tokens_in_statements}
-use Rattle.script_types.specs.TypingExpressions.{Setting, Role, InMethod, check_expression, check_asked, serves, not_on_remove}
+use Rattle.script_types.specs.TypingExpressions.{Setting, Role, InMethod, OnEvent, check_expression, check_asked, serves, not_on_remove}
 
 -- let NAME = e ;      NAME = e ;      self . NAME = e ;      attr ( e , NAME ) = e ;
 abbrev pub check_assigning : Setting → Scope → ℕ → Assigning → Checked Scope
@@ -36,9 +36,9 @@ check_assigning s scope at (tree.Field name x) = do
   _ ← not_on_remove s at
   Ok scope
 check_assigning s scope at (tree.Attribute x name y) = do
-  _ ← check_asked s scope k.Activity (at + 1) x
-  kind ← known (at + 2 + tokens_in x) (attribute_kind name s.block)
-  _ ← check_asked s scope kind (at + 4 + tokens_in x) y
+  _ ← check_asked s scope k.Activity (at + 2) x
+  kind ← known (at + 3 + tokens_in x) (attribute_kind name s.block)
+  _ ← check_asked s scope kind (at + 6 + tokens_in x) y
   _ ← not_on_remove s at
   Ok scope
 
@@ -86,9 +86,9 @@ check_on_entities s scope at (tree.Priority child x) = do
 check_on_entities s scope at (tree.Call child name arguments result) = do
   block ← check_child scope child (at + 1)
   method ← known (at + 3) (method_named block name s.codes)
-  _ ← check_arguments s scope method.parameters (at + 4) arguments
+  _ ← check_arguments s scope method.parameters (at + 5) arguments
   _ ← tested bad.Count (at + 3) (length arguments == length method.parameters)
-  next ← check_result scope method.result (at + 5 + tokens_in_arguments arguments) result
+  next ← check_result scope method.result (at + 7 + tokens_in_arguments arguments) result
   _ ← not_on_remove s at
   Ok next
 
@@ -180,7 +180,12 @@ check_return s scope at _ x = do
   _ ← check_expression s scope (at + 1) x
   misused bad.Place at
 
--- end e ;      cancel e ;      unbind e ;      emit e ;      return e ;      throw e ;
+-- `suspend` is for handlers
+abbrev pub check_handler : Role → ℕ → Checked (Unit {0})
+check_handler (OnEvent fields) at = Ok tt
+check_handler _ at = misused bad.Place at
+
+-- end e ;      cancel e ;      unbind e ;      emit e ;      return e ;      throw e ;      suspend e ;      resume e ;
 abbrev pub check_verb : Setting → Scope → ℕ → Verb → Expression → Checked (Unit {0})
 check_verb s scope at v.End x = do
   _ ← check_asked s scope k.Activity (at + 1) x
@@ -195,6 +200,12 @@ check_verb s scope at v.Emit x = check_asked s scope k.Text (at + 1) x
 check_verb s scope at v.Return x = check_return s scope at s.role x
 check_verb s scope at v.Throw x = do
   _ ← check_asked s scope k.Text (at + 1) x
+  not_on_remove s at
+check_verb s scope at v.Suspend x = do
+  _ ← check_asked s scope k.Int (at + 1) x
+  check_handler s.role at
+check_verb s scope at v.Resume x = do
+  _ ← check_asked s scope k.Activity (at + 1) x
   not_on_remove s at
 
 -- the variable of a `for`: an activity, or a child of the relation that is named there

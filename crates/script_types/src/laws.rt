@@ -1,14 +1,11 @@
 //! Laws over the definitions of when scripts are well typed.
 ghost use Rattle.std.specs.Prelude.{◌≡◌, ◌++◌, ℕ, true, Some, Ok, slice_get};
-ghost use Rattle.script_tree.specs.Spelling.{spell_statements};
 ghost use Rattle.script_tree.specs.Tree.{Statements};
 ghost use Rattle.script_types.specs.Codes.{Codes, Block};
 ghost use Rattle.script_types.specs.RemoveScripts.{are_for_remove};
 ghost use Rattle.script_types.specs.Scopes.{Scope};
-ghost use Rattle.script_types.specs.TokenCounts.{tokens_in_statements};
 ghost use Rattle.script_types.specs.Typing.{WellTyped, check_codes};
 ghost use Rattle.script_types.specs.TypingExpressions.{Setting};
-ghost use Rattle.script_types.specs.TypingPlaces.{count_of_tokens};
 ghost use Rattle.script_types.specs.TypingStatements.{check_statements};
 
 /// Where the check of all scripts in their order finds no fault, each script is well typed.
@@ -29,9 +26,4 @@ pub fn variables_stay_in_place()
 /// A remove script of well-typed codes has only what a remove script may have.
 pub fn remove_scripts_stay_inside()
     ensures { (all : Codes) (n : ℕ) (block : Block) (script : Statements) → WellTyped all → slice_get all.blocks n ≡ Some block → block.remove ≡ Some script → are_for_remove script ≡ true }
-{}
-
-/// The place of a fault counts the tokens of the script's one spelling, without round brackets.
-pub fn places_count_tokens()
-    ensures { (ys : Statements) → count_of_tokens (spell_statements ys) ≡ tokens_in_statements ys }
 {}

@@ -14,8 +14,8 @@ pub use codes::{
     MethodCode, RelationCode, TableCode,
 };
 pub use laws::{
-    codes_without_fault_are_well_typed, places_count_tokens, remove_scripts_stay_inside,
-    variables_stay_in_place, well_typed_codes_have_no_fault,
+    codes_without_fault_are_well_typed, remove_scripts_stay_inside, variables_stay_in_place,
+    well_typed_codes_have_no_fault,
 };
 pub use misuse::{CheckBad, Misuse};
 pub use step::{Range, Who};

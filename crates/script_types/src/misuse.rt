@@ -14,7 +14,7 @@ pub enum CheckBad {
 /// The first fault of a script that can be read but isn't well typed.
 #[derive(Clone, Copy, Debug, PartialEq, Eq)]
 pub struct Misuse {
-    /// How many tokens stand before it, round brackets not counted.
+    /// How many tokens stand before it.
     pub at: usize,
     pub kind: CheckBad,
 }

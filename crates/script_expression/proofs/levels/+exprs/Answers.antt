@@ -3,12 +3,15 @@ use Rattle.std.proofs.lemmas.Result.{err_from_is_err_and}
 use Rattle.script_tree.specs.declared.lexeme.Lexeme.TheVariants as t
 use Rattle.script_tree.specs.declared.symbol.Symbol.TheVariants as s
 use Rattle.script_tree.specs.declared.symbol.Fixed.TheVariants as x
-use Rattle.script_tree.specs.Grammar.{Level, More, One, ATree, again}
+use Rattle.script_tree.specs.Grammar.{Level, More, Make, Grouping, One, ATree, again}
 use Rattle.script_tree.specs.Spelling.{chain_level}
 use Rattle.script_expression.specs.Takes.{Took, Fails, fits_at}
 use Rattle.script_expression.specs.Levels.{TookOperand, TookChain}
-use Rattle.script_tree.specs.Tree.{Expression, Unary, Binary, tree_of, binary_of, joined}
-use Rattle.script_expression.proofs.Machine.{fails_at, prim_begun}
+use Rattle.script_tree.specs.declared.tree.Query.{Query}
+use Rattle.script_tree.specs.declared.tree.Expr.{Expr}
+use Rattle.script_tree.specs.Tree.{Expression, Unary, Binary, Ask, Group, tree_of, binary_of, joined}
+use Rattle.script_expression.proofs.Machine.{made, fails_at, prim_begun}
+use Rattle.script_expression.proofs.Queries.{asked_took}
 use Rattle.script_expression.proofs.Operators.{no_prim, refuse_prim, not_five, group_took, group_opens, group_deep}
 use Rattle.script_expression.proofs.Climbing.{plain_operand, plain_fails, prefixed_operand, prefixed_fails, no_chain, chain_more, chain_ends, chain_fails, climbed, climb_fails, climb_ends}
 use Rattle.script_expression.proofs.Chains.{one_joined, joined_last}
@@ -16,7 +19,14 @@ use Rattle.script_expression.proofs.levels.+exprs.Goals as goal
 
 pub group-returns : goal.group-returns
 group-returns m c =
-    group_took c.args.depth c.args.ts.now c.args.behind.now c.in_ok-e.rest.now c.in_ok-rest.rest.now (tree_of c.in_ok-e.e) c.requires.begins (omega arith) c.in_ok-e.ensures c.in_ok-rest.ensures.read
+    let a = tree_of c.in_ok-e.e in
+    let b = tree_of c.in_ok-new.field-0.value in
+    group_took c.args.depth c.args.ts.now c.args.behind.now c.in_ok-e.rest.now c.in_ok-rest.rest.now a b c.requires.begins (omega arith) c.in_ok-e.ensures c.in_ok-rest.ensures.read (ap tree_of c.in_ok-new.ensures.ok)
+
+pub query-returns : goal.query-returns
+query-returns m c =
+    subst (λ (x : Query × Expr). Took (Level 0) [] c.args.depth c.args.ts.now (ATree (Ask x.0 (tree_of x.1)) ∷ []) (fits_at 0 c.args.depth (Ask x.0 (tree_of x.1))) c.in_ok-query.rest.now) (sym c.in_ok-new.ensures.ok)
+    (asked_took c.args.depth c.args.ts.now c.in_ok-head.inner.now c.in_ok-e.rest.now c.in_ok-query.rest.now c.in_ok-head.head c.in_ok-query.query (tree_of c.in_ok-e.e) c.in_ok-head.ensures c.in_ok-e.ensures c.in_ok-query.ensures)
 
 pub worded-returns-in_default : goal.worded-returns-in_default
 worded-returns-in_default m c =
@@ -46,14 +56,14 @@ pub group-returns-in_err-e : goal.group-returns-in_err-e
 group-returns-in_err-e m c =
     let p = err_from_is_err_and c.from_residual.result c.from_residual.ensures.1 in
     let d = c.args.depth in
-    rw (p.1, p.2) (fails_at (Level 0) (Level 8) d (d + 1) c.args.ts.now c.args.behind.now (λ ps. One x.CloseRound ∷ ps) (λ is. is) (group_opens d c.args.ts.now c.args.behind.now c.requires.begins (omega arith)) _ c.in_err-e.ensures)
+    rw (p.1, p.2) (fails_at (Level 0) (Level 8) d (d + 1) c.args.ts.now c.args.behind.now (λ ps. Make Grouping ∷ One x.CloseRound ∷ ps) (λ is. is) (group_opens d c.args.ts.now c.args.behind.now c.requires.begins (omega arith)) _ c.in_err-e.ensures)
 
 pub group-returns-in_err-rest : goal.group-returns-in_err-rest
 group-returns-in_err-rest m c =
     let p = err_from_is_err_and c.from_residual-in_err-rest.result c.from_residual-in_err-rest.ensures.1 in
     let d = c.args.depth in
     let e = tree_of c.in_ok-e.e in
-    rw (p.1, p.2) (fails_at (Level 0) (One x.CloseRound) d (d + 1) c.args.ts.now c.in_ok-e.rest.now (λ ps. ps) (λ is. ATree e ∷ is) (λ ps i. group_opens d c.args.ts.now c.args.behind.now c.requires.begins (omega arith) ps i ∙ c.in_ok-e.ensures.goes_on (One x.CloseRound ∷ ps) i) _ c.in_err-rest.ensures.read)
+    rw (p.1, p.2) (fails_at (Level 0) (One x.CloseRound) d (d + 1) c.args.ts.now c.in_ok-e.rest.now (λ ps. ps) (λ is. ATree (Group e) ∷ is) (λ ps i. group_opens d c.args.ts.now c.args.behind.now c.requires.begins (omega arith) ps i ∙ c.in_ok-e.ensures.goes_on (Make Grouping ∷ One x.CloseRound ∷ ps) i ∙ made Grouping (One x.CloseRound ∷ ps) (ATree e ∷ i) (d + 1) c.in_ok-e.rest.now) _ c.in_err-rest.ensures.read)
 
 pub worded-query-requires : goal.worded-query-requires
 worded-query-requires m c = (search rules, (c.requires.deep, prim_begun (t.Symbol (s.Fixed x.Masked)) c.args.depth c.args.ts.now c.args.behind.now (c.requires.begins ∙ ap (λ y. t.Symbol (s.Fixed y) ∷ c.args.behind.now) c.in-Masked.is) refl refl))

@@ -7,13 +7,13 @@ use Rattle.script_expression.proofs.Queries.{tail_closes, tail_open}
 use Rattle.script_expression.proofs.query.query_tail.Goals as goal
 
 pub returns-in_ok-rest-in-Plain : goal.returns-in_ok-rest-in-Plain
-returns-in_ok-rest-in-Plain c = rw c.in-Plain.is (tail_closes _ (h.Plain _) (Asking _) (q.Plain _) _ _ refl (λ a is. refl) (λ e. refl) c.in_ok-rest-in-Plain.ensures.read)
+returns-in_ok-rest-in-Plain c = rw c.in-Plain.is (tail_closes _ (h.Plain _) (Asking _) (q.Plain _) _ _ refl refl refl (λ a is. refl) (λ e. refl) c.in_ok-rest-in-Plain.ensures.read)
 
 pub returns-in_ok-rest-in-Masked : goal.returns-in_ok-rest-in-Masked
-returns-in_ok-rest-in-Masked c = rw c.in-Masked.is (tail_closes _ (h.Masked _) AskingMasked (q.Masked _) _ _ refl (λ a is. refl) (λ e. e) c.in_ok-rest-in-Masked.ensures.read)
+returns-in_ok-rest-in-Masked c = rw c.in-Masked.is (tail_closes _ (h.Masked _) AskingMasked (q.Masked _) _ _ refl refl refl (λ a is. refl) (λ e. e) c.in_ok-rest-in-Masked.ensures.read)
 
 pub returns-in_ok-rest-in-HasProfile : goal.returns-in_ok-rest-in-HasProfile
-returns-in_ok-rest-in-HasProfile c = rw c.in-HasProfile.is (tail_closes _ (h.HasProfile _) AskingHasProfile (q.HasProfile _) _ _ refl (λ a is. refl) (λ e. e) c.in_ok-rest-in-HasProfile.ensures.read)
+returns-in_ok-rest-in-HasProfile c = rw c.in-HasProfile.is (tail_closes _ (h.HasProfile _) AskingHasProfile (q.HasProfile _) _ _ refl refl refl (λ a is. refl) (λ e. e) c.in_ok-rest-in-HasProfile.ensures.read)
 
 pub returns-in_err-rest-in-Plain : goal.returns-in_err-rest-in-Plain
 returns-in_err-rest-in-Plain c =

@@ -25,4 +25,4 @@ pub more-preserved : goal.more-preserved
 more-preserved c = arguments_more _ _ _ _ _ _ _ _ c.more.invariant c.in-Some.ensures c.in_ok-next.ensures c.in_ok-push-2.ensures.items
 
 pub returns : goal.returns
-returns c = arguments_end _ _ _ _ _ c.more.invariant c.in_default.ensures
+returns c = arguments_end _ _ _ _ _ _ c.more.invariant c.in_default.ensures

@@ -12,7 +12,7 @@ returns-in_err-list c =
 pub returns-in_err-last : goal.returns-in_err-last
 returns-in_err-last c =
     let p = err_from_is_err_and c.from_residual-in_err-last.result c.from_residual-in_err-last.ensures.1 in
-    rw (p.1, p.2) (arguments_open _ _ _ _ _ _ c.in_default.ensures c.in_ok-list.ensures c.in_err-last.ensures.read)
+    rw (p.1, p.2) (arguments_open _ _ _ _ _ _ _ c.in_default.ensures c.in_ok-list.ensures c.in_err-last.ensures.read)
 
 pub returns-in_default : goal.returns-in_default
 returns-in_default c = arguments_took _ _ _ _ (map tree_of c.in_ok-list.list.items) c.in_default.ensures c.in_ok-list.ensures c.in_ok-last.ensures.read

@@ -1,4 +1,4 @@
-use Rattle.std.proofs.Common.{refl, true, None}
+use Rattle.std.proofs.Common.{refl, true, None, []}
 use Rattle.std.proofs.lemmas.Result.{err_from_is_err_and}
 use Rattle.script_tree.specs.Grammar.{MoreResult}
 use Rattle.script_options.specs.Options.{result_set}
@@ -7,7 +7,7 @@ use Rattle.script_options.proofs.Parts.{left_out, result_took, result_fails}
 use Rattle.script_options.proofs.calls.returned.Goals as goal
 
 pub returns-in_default : goal.returns-in_default
-returns-in_default c = left_out MoreResult _ _ (result_set None) true (λ ps i. skip_result ps i c.args.depth c.args.ts.now c.in_default.ensures) (λ i. refl) refl
+returns-in_default c = left_out MoreResult _ _ [] (result_set None) true (λ ps i. skip_result ps i c.args.depth c.args.ts.now c.in_default.ensures) (λ i. refl) refl refl
 
 pub returns-in_err-result : goal.returns-in_err-result
 returns-in_err-result c =

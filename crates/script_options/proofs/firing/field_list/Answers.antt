@@ -26,4 +26,4 @@ pub more-preserved : goal.more-preserved
 more-preserved c = fields_more _ _ _ _ _ _ _ _ c.more.invariant c.in-Some.ensures c.in_ok-next.ensures c.in_ok-push-2.ensures.items
 
 pub returns : goal.returns
-returns c = fields_end _ _ _ _ _ c.more.invariant c.in_default.ensures
+returns c = fields_end _ _ _ _ _ _ c.more.invariant c.in_default.ensures

@@ -1,4 +1,4 @@
-use Rattle.std.proofs.Common.{refl, true, None}
+use Rattle.std.proofs.Common.{refl, true, None, []}
 use Rattle.std.proofs.lemmas.Result.{err_from_is_err_and}
 use Rattle.script_tree.specs.Grammar.{MoreService}
 use Rattle.script_options.specs.Options.{with_service}
@@ -7,7 +7,7 @@ use Rattle.script_options.proofs.Parts.{left_out, service_took, service_fails}
 use Rattle.script_options.proofs.firing.service.Goals as goal
 
 pub returns-in_default : goal.returns-in_default
-returns-in_default c = left_out MoreService _ _ (with_service None) true (λ ps i. skip_service ps i c.args.depth c.args.ts.now c.in_default.ensures) (λ i. refl) refl
+returns-in_default c = left_out MoreService _ _ [] (with_service None) true (λ ps i. skip_service ps i c.args.depth c.args.ts.now c.in_default.ensures) (λ i. refl) refl refl
 
 pub returns-in_err-service : goal.returns-in_err-service
 returns-in_err-service c =

@@ -1,4 +1,4 @@
-use Rattle.std.proofs.Common.{refl, true, None}
+use Rattle.std.proofs.Common.{refl, true, None, []}
 use Rattle.std.proofs.lemmas.Result.{err_from_is_err_and}
 use Rattle.script_tree.specs.Grammar.{MoreKeep}
 use Rattle.script_options.specs.Options.{keep_set}
@@ -7,7 +7,7 @@ use Rattle.script_options.proofs.Parts.{left_out, keep_took, keep_fails}
 use Rattle.script_options.proofs.timers.keep.Goals as goal
 
 pub returns-in_default-clause-read : goal.returns-in_default-clause-read
-returns-in_default-clause-read c = left_out MoreKeep _ _ (keep_set None) true (λ ps i. skip_keep ps i c.args.depth c.args.ts.now c.in_default.ensures) (λ i. refl) refl
+returns-in_default-clause-read c = left_out MoreKeep _ _ [] (keep_set None) true (λ ps i. skip_keep ps i c.args.depth c.args.ts.now c.in_default.ensures) (λ i. refl) refl refl
 
 pub returns-in_err-keep-clause-read : goal.returns-in_err-keep-clause-read
 returns-in_err-keep-clause-read c =

@@ -1,4 +1,4 @@
-use Rattle.std.proofs.Common.{refl, true, None}
+use Rattle.std.proofs.Common.{refl, true, None, []}
 use Rattle.std.proofs.lemmas.Result.{err_from_is_err_and}
 use Rattle.script_tree.specs.Grammar.{MoreRepeat}
 use Rattle.script_options.specs.Options.{repeat_set}
@@ -7,7 +7,7 @@ use Rattle.script_options.proofs.Parts.{left_out, repeat_took, period_fails, tim
 use Rattle.script_options.proofs.timers.repeat.Goals as goal
 
 pub returns-in_default : goal.returns-in_default
-returns-in_default c = left_out MoreRepeat _ _ (repeat_set None) true (λ ps i. skip_repeat ps i c.args.depth c.args.ts.now c.in_default.ensures) (λ i. refl) refl
+returns-in_default c = left_out MoreRepeat _ _ [] (repeat_set None) true (λ ps i. skip_repeat ps i c.args.depth c.args.ts.now c.in_default.ensures) (λ i. refl) refl refl
 
 pub returns-in_err-period : goal.returns-in_err-period
 returns-in_err-period c =

@@ -1,4 +1,4 @@
-use Rattle.std.proofs.Common.{arith, ap, ◌∙◌, sym, ◌∷◌}
+use Rattle.std.proofs.Common.{arith, ap, ◌∙◌, sym, ◌∷◌, [], append_assoc}
 use Rattle.std.proofs.lemmas.Result.{err_from_is_err_and}
 use Rattle.script_tree.specs.Grammar.{verdict, SettingVariable, AName, AStatement}
 use Rattle.script_tree.specs.Tree as tree
@@ -7,6 +7,9 @@ use Rattle.script_tree.specs.Words.{is_identifier}
 use Rattle.script_expression.proofs.Operators.{and_join}
 use Rattle.script_expression.proofs.Machine.{fails_at}
 use Rattle.script_expression.proofs.Followed.{fails_making}
+use Rattle.script_tree.specs.declared.lexeme.Lexeme.TheVariants as t
+use Rattle.script_tree.specs.declared.symbol.Fixed.TheVariants as x
+use Rattle.script_tree.specs.Spelling.{fixed, spell_expression}
 use Rattle.script_statement.proofs.assignments.variable.Goals as goal
 
 pub returns-in_err-rest : goal.returns-in_err-rest
@@ -22,6 +25,9 @@ returns-in_err-e c =
 pub returns : goal.returns
 returns c = record {
   shorter = omega (arith, c.requires.begun.shorter, c.in_ok-rest.ensures.read.shorter, c.in_ok-e.ensures.shorter);
+  spelled = c.requires.begun.spelled
+      ∙ ap (λ n. t.Name n ∷ c.args.behind.now) (sym c.in_ok-name.ensures.same)
+      ∙ ap (λ l. t.Name c.in_ok-name.name ∷ l) (c.in_ok-rest.ensures.read.spelled ∙ ap (λ l. fixed x.Assign ∷ l) (c.in_ok-e.ensures.spelled ∙ sym (append_assoc (spell_expression (tree_of c.in_ok-e.e)) (fixed x.Semicolon ∷ []) c.in_ok-e.rest.now)));
   good_one = and_join _ _ (ap is_identifier c.in_ok-name.ensures.same ∙ c.in_ok-name.ensures.identifier) c.in_ok-e.ensures.good_one;
   goes_on = λ ps i. c.requires.begun.goes_on ps i ∙ c.in_ok-rest.ensures.read.goes_on _ _ ∙ c.in_ok-e.ensures.makes SettingVariable ps (AName c.args.name.now ∷ i)
       ∙ ap (λ n. verdict ps (AStatement (tree.Assign (tree.Variable n (tree_of c.in_ok-e.e))) ∷ i) c.args.depth c.in_ok-e.rest.now) (sym c.in_ok-name.ensures.same);

@@ -1,4 +1,4 @@
-use Rattle.std.proofs.Common.{arith, refl, ◌∙◌}
+use Rattle.std.proofs.Common.{arith, refl, ◌∙◌, append_assoc}
 use Rattle.std.proofs.lemmas.Result.{err_from_is_err_and}
 use Rattle.script_expression.proofs.Machine.{fails_at, made}
 use Rattle.script_statement.proofs.doings.rollback.Goals as goal
@@ -11,6 +11,7 @@ returns-in_err-rest-clause-read c =
 pub returns-clause-read : goal.returns-clause-read
 returns-clause-read c = record {
   shorter = omega (arith, c.requires.begun.shorter, c.in_ok-rest.ensures.read.shorter);
+  spelled = rw (c.requires.begun.spelled, c.in_ok-rest.ensures.read.spelled) (simp append_assoc);
   good_one = refl;
   goes_on = λ ps i. c.requires.begun.goes_on ps i ∙ made _ _ _ _ _ ∙ c.in_ok-rest.ensures.read.goes_on _ _;
 }

@@ -1,4 +1,4 @@
-use Rattle.std.proofs.Common.{arith, ◌∙◌}
+use Rattle.std.proofs.Common.{arith, ◌∙◌, append_assoc}
 use Rattle.std.proofs.lemmas.Result.{err_from_is_err_and}
 use Rattle.script_expression.proofs.Followed.{fails_making}
 use Rattle.script_statement.proofs.doings.verb.Goals as goal
@@ -11,6 +11,7 @@ returns-in_err-e c =
 pub returns : goal.returns
 returns c = record {
   shorter = omega (arith, c.requires.begun.shorter, c.in_ok-e.ensures.shorter);
+  spelled = rw (c.requires.begun.spelled, c.in_ok-e.ensures.spelled) (simp append_assoc);
   good_one = c.in_ok-e.ensures.good_one;
   goes_on = λ ps i. c.requires.begun.goes_on ps i ∙ c.in_ok-e.ensures.makes _ _ _;
 }

@@ -1,4 +1,4 @@
-use Rattle.std.proofs.Common.{arith, refl, ap, length, ◌∙◌}
+use Rattle.std.proofs.Common.{arith, refl, ap, length, ◌∙◌, append_assoc}
 use Rattle.std.proofs.lemmas.Result.{err_from_is_err_and}
 use Rattle.script_expression.proofs.Machine.{fails_at, made}
 use Rattle.script_expression.proofs.Followed.{fails_making}
@@ -34,6 +34,7 @@ returns-in_err-e c =
 pub returns-in_default : goal.returns-in_default
 returns-in_default c = record {
   shorter = omega (arith, c.requires.begun.shorter, c.in_ok-relation.ensures.shorter, c.in_ok-rest.ensures.read.shorter, c.in_ok-child.ensures.shorter, c.in_ok-last.ensures.read.shorter);
+  spelled = rw (c.requires.begun.spelled, c.in_ok-relation.ensures.spelled, c.in_ok-rest.ensures.read.spelled, c.in_ok-child.ensures.spelled, c.in_ok-last.ensures.read.spelled) (simp append_assoc);
   good_one = and_join _ _ c.in_ok-relation.ensures.good_one (and_join _ _ c.in_ok-child.ensures.good_one refl);
   goes_on = λ ps i. c.requires.begun.goes_on ps i ∙ c.in_ok-relation.ensures.goes_on _ _ ∙ c.in_ok-rest.ensures.read.goes_on _ _ ∙ c.in_ok-child.ensures.goes_on _ _ ∙ made _ _ _ _ _ ∙ skip_priority _ _ _ _ c.in_default.ensures ∙ c.in_ok-last.ensures.read.goes_on _ _;
 }
@@ -41,6 +42,7 @@ returns-in_default c = record {
 pub returns : goal.returns
 returns c = record {
   shorter = omega (arith, c.requires.begun.shorter, c.in_ok-relation.ensures.shorter, c.in_ok-rest.ensures.read.shorter, c.in_ok-child.ensures.shorter, ap length c.in-Some.ensures, c.in_ok-e.ensures.shorter);
+  spelled = rw (c.requires.begun.spelled, c.in_ok-relation.ensures.spelled, c.in_ok-rest.ensures.read.spelled, c.in_ok-child.ensures.spelled, c.in-Some.ensures, c.in_ok-e.ensures.spelled) (simp append_assoc);
   good_one = and_join _ _ c.in_ok-relation.ensures.good_one (and_join _ _ c.in_ok-child.ensures.good_one c.in_ok-e.ensures.good_one);
   goes_on = λ ps i. c.requires.begun.goes_on ps i ∙ c.in_ok-relation.ensures.goes_on _ _ ∙ c.in_ok-rest.ensures.read.goes_on _ _ ∙ c.in_ok-child.ensures.goes_on _ _ ∙ made _ _ _ _ _ ∙ more_priority _ _ _ _ _ c.in-Some.ensures ∙ c.in_ok-e.ensures.makes _ _ _;
 }

@@ -1,7 +1,7 @@
 use Rattle.std.proofs.Common.{◌≡◌, ◌≤◌, ◌+◌, drop}
 use Rattle.script_tree.specs.declared.scanning.Place.{Place}
 use Rattle.script_tree.specs.Reading.{place_behind}
-use Rattle.script_tree.proofs.scanning.fault_at.Given as goal
+use Rattle.script_tree.proofs.scanning.place_of.Given as goal
 
 -- the place so far, and no number above the count of bytes
 abbrev pub invariant-loop-b : goal.invariant-loop-b
