@@ -5,3 +5,4 @@ pub mod RisingLemmas
 pub mod OrderLemmas
 pub mod ForestLemmas
 pub mod OrderedLemmas
+pub mod PathLemmas

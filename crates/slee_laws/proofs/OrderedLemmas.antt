@@ -199,7 +199,6 @@ ordered_after (changes.SetField e name value) s order = record {
   timers_below = order.timers_below;
   rows = order.rows;
 }
-
 ordered_after (changes.ForgetFields e) s order = record {
   entities = order.entities;
   entities_below = order.entities_below;
@@ -219,7 +218,6 @@ ordered_after (changes.ForgetFields e) s order = record {
   timers_below = order.timers_below;
   rows = order.rows;
 }
-
 ordered_after (changes.CreateRoot block service priority) s order = record {
   entities = pushed entity_number s.next_entity s.entities (record { number = record { 0 = s.next_entity }; block = block; stem = stems.Root service; priority = priority }) order.entities order.entities_below refl;
   entities_below = below_pushed entity_number s.next_entity s.entities (record { number = record { 0 = s.next_entity }; block = block; stem = stems.Root service; priority = priority }) order.entities_below refl;
@@ -239,7 +237,6 @@ ordered_after (changes.CreateRoot block service priority) s order = record {
   timers_below = order.timers_below;
   rows = order.rows;
 }
-
 ordered_after (changes.CreateChild parent relation block priority) s order = record {
   entities = pushed entity_number s.next_entity s.entities (record { number = record { 0 = s.next_entity }; block = block; stem = stems.Child parent relation; priority = priority }) order.entities order.entities_below refl;
   entities_below = below_pushed entity_number s.next_entity s.entities (record { number = record { 0 = s.next_entity }; block = block; stem = stems.Child parent relation; priority = priority }) order.entities_below refl;
@@ -259,7 +256,6 @@ ordered_after (changes.CreateChild parent relation block priority) s order = rec
   timers_below = order.timers_below;
   rows = order.rows;
 }
-
 ordered_after (changes.Remove e) s order = record {
   entities = filter_rises (by_number entity_number) (number_joins entity_number) (λ row. not (row.number.0 == e.0)) s.entities order.entities;
   entities_below = below_filter entity_number s.next_entity (λ row. not (row.number.0 == e.0)) s.entities order.entities_below;
@@ -279,7 +275,6 @@ ordered_after (changes.Remove e) s order = record {
   timers_below = order.timers_below;
   rows = order.rows;
 }
-
 ordered_after (changes.SetPriority e priority) s order = record {
   entities = mapped_rises entity_number (has_priority e.0 priority) (priority_number e.0 priority) s.entities order.entities;
   entities_below = mapped_below entity_number s.next_entity (has_priority e.0 priority) (priority_number e.0 priority) s.entities order.entities_below;
@@ -299,7 +294,6 @@ ordered_after (changes.SetPriority e priority) s order = record {
   timers_below = order.timers_below;
   rows = order.rows;
 }
-
 ordered_after (changes.Start kind) s order = record {
   entities = order.entities;
   entities_below = order.entities_below;
@@ -319,7 +313,6 @@ ordered_after (changes.Start kind) s order = record {
   timers_below = order.timers_below;
   rows = order.rows;
 }
-
 ordered_after (changes.End a) s order = record {
   entities = order.entities;
   entities_below = order.entities_below;
@@ -339,7 +332,6 @@ ordered_after (changes.End a) s order = record {
   timers_below = order.timers_below;
   rows = order.rows;
 }
-
 ordered_after (changes.DropContext a) s order = record {
   entities = order.entities;
   entities_below = order.entities_below;
@@ -359,7 +351,6 @@ ordered_after (changes.DropContext a) s order = record {
   timers_below = order.timers_below;
   rows = order.rows;
 }
-
 ordered_after (changes.Attach e a) s order = record {
   entities = order.entities;
   entities_below = order.entities_below;
@@ -379,7 +370,6 @@ ordered_after (changes.Attach e a) s order = record {
   timers_below = order.timers_below;
   rows = order.rows;
 }
-
 ordered_after (changes.Detach e a) s order = record {
   entities = order.entities;
   entities_below = order.entities_below;
@@ -399,7 +389,6 @@ ordered_after (changes.Detach e a) s order = record {
   timers_below = order.timers_below;
   rows = order.rows;
 }
-
 ordered_after (changes.SetAttr a key value) s order = record {
   entities = order.entities;
   entities_below = order.entities_below;
@@ -419,7 +408,6 @@ ordered_after (changes.SetAttr a key value) s order = record {
   timers_below = order.timers_below;
   rows = order.rows;
 }
-
 ordered_after (changes.Bind name a) s order = record {
   entities = order.entities;
   entities_below = order.entities_below;
@@ -439,7 +427,6 @@ ordered_after (changes.Bind name a) s order = record {
   timers_below = order.timers_below;
   rows = order.rows;
 }
-
 ordered_after (changes.Unbind name) s order = record {
   entities = order.entities;
   entities_below = order.entities_below;
@@ -459,7 +446,6 @@ ordered_after (changes.Unbind name) s order = record {
   timers_below = order.timers_below;
   rows = order.rows;
 }
-
 ordered_after (changes.MaskOnAttach e a events) s order = record {
   entities = order.entities;
   entities_below = order.entities_below;
@@ -479,7 +465,6 @@ ordered_after (changes.MaskOnAttach e a events) s order = record {
   timers_below = order.timers_below;
   rows = order.rows;
 }
-
 ordered_after (changes.SetMask e a event on) s order = record {
   entities = order.entities;
   entities_below = order.entities_below;
@@ -499,7 +484,6 @@ ordered_after (changes.SetMask e a event on) s order = record {
   timers_below = order.timers_below;
   rows = order.rows;
 }
-
 ordered_after (changes.ForgetMasks e a) s order = record {
   entities = order.entities;
   entities_below = order.entities_below;
@@ -519,7 +503,6 @@ ordered_after (changes.ForgetMasks e a) s order = record {
   timers_below = order.timers_below;
   rows = order.rows;
 }
-
 ordered_after (changes.Push a event) s order = record {
   entities = order.entities;
   entities_below = order.entities_below;
@@ -539,7 +522,6 @@ ordered_after (changes.Push a event) s order = record {
   timers_below = order.timers_below;
   rows = order.rows;
 }
-
 ordered_after (changes.Pop a) s order = record {
   entities = order.entities;
   entities_below = order.entities_below;
@@ -559,7 +541,6 @@ ordered_after (changes.Pop a) s order = record {
   timers_below = order.timers_below;
   rows = order.rows;
 }
-
 ordered_after (changes.MarkService a service) s order = record {
   entities = order.entities;
   entities_below = order.entities_below;
@@ -579,7 +560,6 @@ ordered_after (changes.MarkService a service) s order = record {
   timers_below = order.timers_below;
   rows = order.rows;
 }
-
 ordered_after (changes.MarkEntity a e) s order = record {
   entities = order.entities;
   entities_below = order.entities_below;
@@ -599,7 +579,6 @@ ordered_after (changes.MarkEntity a e) s order = record {
   timers_below = order.timers_below;
   rows = order.rows;
 }
-
 ordered_after (changes.Hold a until) s order = record {
   entities = order.entities;
   entities_below = order.entities_below;
@@ -619,7 +598,6 @@ ordered_after (changes.Hold a until) s order = record {
   timers_below = order.timers_below;
   rows = order.rows;
 }
-
 ordered_after (changes.Release a) s order = record {
   entities = order.entities;
   entities_below = order.entities_below;
@@ -639,7 +617,6 @@ ordered_after (changes.Release a) s order = record {
   timers_below = order.timers_below;
   rows = order.rows;
 }
-
 ordered_after (changes.SetTimer spec) s order = record {
   entities = order.entities;
   entities_below = order.entities_below;
@@ -659,7 +636,6 @@ ordered_after (changes.SetTimer spec) s order = record {
   timers_below = below_pushed timer_number s.next_timer s.timers (record { number = record { 0 = s.next_timer }; activity = spec.activity; next = spec.start; period = spec.period; left = spec.times; keep = spec.keep }) order.timers_below refl;
   rows = order.rows;
 }
-
 ordered_after (changes.Cancel t) s order = record {
   entities = order.entities;
   entities_below = order.entities_below;
@@ -679,7 +655,6 @@ ordered_after (changes.Cancel t) s order = record {
   timers_below = below_filter timer_number s.next_timer (λ row. not (row.number.0 == t.0)) s.timers order.timers_below;
   rows = order.rows;
 }
-
 ordered_after (changes.CancelAll a) s order = record {
   entities = order.entities;
   entities_below = order.entities_below;
@@ -699,7 +674,6 @@ ordered_after (changes.CancelAll a) s order = record {
   timers_below = below_filter timer_number s.next_timer (λ row. not (row.activity.0 == a.0)) s.timers order.timers_below;
   rows = order.rows;
 }
-
 ordered_after (changes.Advance to) s order = record {
   entities = order.entities;
   entities_below = order.entities_below;
@@ -719,7 +693,6 @@ ordered_after (changes.Advance to) s order = record {
   timers_below = advanced_below to s.next_timer s.timers order.timers_below;
   rows = order.rows;
 }
-
 ordered_after (changes.AddRow table row fields) s order = record {
   entities = order.entities;
   entities_below = order.entities_below;
@@ -739,7 +712,6 @@ ordered_after (changes.AddRow table row fields) s order = record {
   timers_below = order.timers_below;
   rows = put_rises row_before row_joins (record { table = table; row = row; attributes = fields }) s.rows order.rows;
 }
-
 ordered_after (changes.UpdateRow table row fields) s order = record {
   entities = order.entities;
   entities_below = order.entities_below;
@@ -759,7 +731,6 @@ ordered_after (changes.UpdateRow table row fields) s order = record {
   timers_below = order.timers_below;
   rows = put_rises row_before row_joins (record { table = table; row = row; attributes = fields }) s.rows order.rows;
 }
-
 ordered_after (changes.RemoveRow table row) s order = record {
   entities = order.entities;
   entities_below = order.entities_below;
@@ -779,7 +750,6 @@ ordered_after (changes.RemoveRow table row) s order = record {
   timers_below = order.timers_below;
   rows = filter_rises row_before row_joins (λ other. not (is_row table row other)) s.rows order.rows;
 }
-
 ordered_after (changes.Clock to) s order = record {
   entities = order.entities;
   entities_below = order.entities_below;
@@ -799,7 +769,6 @@ ordered_after (changes.Clock to) s order = record {
   timers_below = order.timers_below;
   rows = order.rows;
 }
-
 ordered_after changes.Taken s order = record {
   entities = order.entities;
   entities_below = order.entities_below;
@@ -819,7 +788,6 @@ ordered_after changes.Taken s order = record {
   timers_below = order.timers_below;
   rows = order.rows;
 }
-
 ordered_after (changes.Service service state a) s order = record {
   entities = order.entities;
   entities_below = order.entities_below;
@@ -839,7 +807,6 @@ ordered_after (changes.Service service state a) s order = record {
   timers_below = order.timers_below;
   rows = order.rows;
 }
-
 ordered_after (changes.Root e name) s order = record {
   entities = order.entities;
   entities_below = order.entities_below;
@@ -859,7 +826,6 @@ ordered_after (changes.Root e name) s order = record {
   timers_below = order.timers_below;
   rows = order.rows;
 }
-
 ordered_after changes.NextEvent s order = record {
   entities = order.entities;
   entities_below = order.entities_below;
