@@ -1,0 +1,17 @@
+pub mod Lines
+pub mod Values
+pub mod Outcomes
+pub mod Scripts
+pub mod Moves
+pub mod Creating
+pub mod Going
+pub mod Closing
+pub mod Timing
+pub mod Actions
+pub mod Taking
+pub mod Selection
+pub mod Effects
+pub mod Applying
+pub mod Steps
+pub mod Histories
+pub mod Payloads
