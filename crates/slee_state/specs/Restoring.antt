@@ -71,34 +71,32 @@ parsed format d program bytes =
     u64_at bytes >>= λ clock. u64_at clock.1 >>= λ inputs. u64_at inputs.1 >>= λ next_entity. u64_at next_entity.1 >>= λ next_activity. u64_at next_activity.1 >>= λ next_timer. u64_at next_timer.1 >>= λ next_event.
     list_at service_at next_event.1 >>= λ services. list_at (entity_at d) services.1 >>= λ entities. list_at (activity_at format d) entities.1 >>= λ activities. list_at link_at activities.1 >>= λ links.
     list_at named_at links.1 >>= λ names. list_at timer_at names.1 >>= λ timers. list_at (row_at d) timers.1 >>= λ rows. suspensions_at format rows.1 >>= λ suspensions.
-    Ok (
-      record {
-        deployment = d;
-        program = program;
-        clock = clock.0;
-        inputs = inputs.0;
-        next_entity = next_entity.0;
-        next_activity = next_activity.0;
-        next_timer = next_timer.0;
-        next_event = next_event.0;
-        services = services.0;
-        entities = map entity_of entities.0;
-        root_names = filter_map root_name_of entities.0;
-        fields = flat_map fields_of entities.0;
-        activities = map activity_of activities.0;
-        attributes = flat_map attributes_of activities.0;
-        links = map link_of links.0;
-        masks = flat_map masks_of links.0;
-        names = names.0;
-        events = flat_map events_of activities.0;
-        services_done = flat_map services_done_of activities.0;
-        delivered = flat_map delivered_of activities.0;
-        suspensions = if format == 2 then filter_map suspension_of activities.0 else suspensions.0;
-        timers = timers.0;
-        rows = rows.0;
-      },
-      suspensions.1,
-    )
+    let s : State = record {
+      deployment = d;
+      program = program;
+      clock = clock.0;
+      inputs = inputs.0;
+      next_entity = next_entity.0;
+      next_activity = next_activity.0;
+      next_timer = next_timer.0;
+      next_event = next_event.0;
+      services = services.0;
+      entities = map entity_of entities.0;
+      root_names = filter_map root_name_of entities.0;
+      fields = flat_map fields_of entities.0;
+      activities = map activity_of activities.0;
+      attributes = flat_map attributes_of activities.0;
+      links = map link_of links.0;
+      masks = flat_map masks_of links.0;
+      names = names.0;
+      events = flat_map events_of activities.0;
+      services_done = flat_map services_done_of activities.0;
+      delivered = flat_map delivered_of activities.0;
+      suspensions = if format == 2 then filter_map suspension_of activities.0 else suspensions.0;
+      timers = timers.0;
+      rows = rows.0;
+    } in
+    Ok (s, suspensions.1)
 
 -- a state that was read, where it is well formed and has just these bytes
 abbrev pub tested : ℕ → List ℕ → Result (State × List ℕ) Fault → Option State
