@@ -6,3 +6,4 @@ pub mod OrderLemmas
 pub mod ForestLemmas
 pub mod OrderedLemmas
 pub mod PathLemmas
+pub mod StepLemmas

@@ -9,7 +9,9 @@ use Rattle.slee_state.specs.State.{State}
 use Rattle.slee_state.specs.Initial.{initial}
 use Rattle.slee_state.specs.declared.rows.Timer.{Timer}
 use Rattle.slee_steps.specs.Actions.{action_of}
+use Rattle.slee_steps.specs.Steps.{after}
 use Rattle.slee_steps.specs.Taking.{taken}
+use Rattle.trace_history.specs.declared.choice.Choice.TheVariants as choices
 use Rattle.slee_value.specs.declared.keep.Keep.{Keep}
 use Rattle.slee_value.specs.declared.keep.Keep.TheVariants as keeps
 
@@ -65,3 +67,7 @@ periodic t next period keep = record { number = record { 0 = t }; activity = rec
 -- three timers at 1000 every 1000, which keep all missed occurrences, the last, and none
 abbrev pub three_timers : List Timer
 three_timers = periodic 1 1000 1000 keeps.All ∷ periodic 2 1000 1000 keeps.Last ∷ periodic 3 1000 1000 keeps.NoneMissed ∷ []
+
+-- the service that is due selects on activity 1
+abbrev pub selected : State → State
+selected s = after s (choices.Initial (record { 0 = 1 }))

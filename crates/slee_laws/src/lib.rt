@@ -6,6 +6,7 @@ mod histories;
 mod lists;
 mod paths;
 mod rows;
+mod steps;
 mod trees;
 
 pub use closing::closing_leaves_closed_states;
@@ -16,4 +17,5 @@ pub use rows::{
     lines_are_refused, paths_go_by_priority, rules_give_names, services_select_by_priority,
     timers_fire_by_their_keeping,
 };
+pub use steps::{refused_lines_are_counted, suspended_events_wait};
 pub use trees::trees_are_whole;

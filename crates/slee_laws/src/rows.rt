@@ -1,9 +1,9 @@
 //! Worked examples, by computation.
-ghost use Rattle.std.specs.Prelude.{◌≡◌, ℕ, pos, negsuc, true, false, [], ◌∷◌, map, codes, Some, None, Ok, Err};
+ghost use Rattle.std.specs.Prelude.{◌≡◌, ℕ, pos, negsuc, true, false, [], ◌∷◌, map, codes, Some, None, option_map, Err};
 ghost use Rattle.signal_script.specs.declared.signal.Signal.TheVariants as signals;
 ghost use Rattle.slee_descriptor.specs.declared.choice.SelectRule.TheVariants as rules;
-ghost use Rattle.slee_laws.specs.Samples.{low_and_high, at_first, started, fired_ping, periodic, three_timers};
-ghost use Rattle.slee_state.specs.Next.{next, due_service, service_order, least};
+ghost use Rattle.slee_laws.specs.Samples.{low_and_high, at_first, started, fired_ping, selected, periodic, three_timers};
+ghost use Rattle.slee_state.specs.Next.{next, receives_at, service_order, least};
 ghost use Rattle.slee_state.specs.Paths.{path_before};
 ghost use Rattle.slee_state.specs.Timers.{advanced};
 ghost use Rattle.slee_state.specs.declared.kindred.Kindred.TheVariants as kindreds;
@@ -35,6 +35,10 @@ pub fn services_select_by_priority()
     ensures next { next fired_ping 1 ≡ Some kindreds.Initial }
     ensures least { least fired_ping [] ≡ Some (1, kindreds.Initial) }
     ensures claimed { least fired_ping (1 ∷ []) ≡ None }
+    ensures second { next (selected fired_ping) 1 ≡ Some kindreds.Initial }
+    ensures delivery { next (selected (selected fired_ping)) 1 ≡ Some kindreds.Deliver }
+    ensures attached { map (λ l. l.entity.0) (selected (selected fired_ping)).links ≡ 1 ∷ 2 ∷ [] }
+    ensures first { option_map (λ x. x.1.number.0) (receives_at (selected (selected fired_ping)) 1) ≡ Some 1 }
 {}
 
 /// Lines that are refused: a name in use, one that nothing has, an event that nobody declared, a service, a field too many.
