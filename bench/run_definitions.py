@@ -279,11 +279,12 @@ def cases_of(folder):
 
 
 def examples_of(folder):
-    """Each folder with a deployment and, behind one another, words, signals and what they print."""
+    """Each folder with a deployment and, in its folder `deployed`, words, signals and what they print behind one another."""
     for name in sorted(os.listdir(folder)):
         path = os.path.join(folder, name)
         ends = [""] + [f".{n}" for n in range(2, 10)]
-        parts = [(read(path, "words" + e), read(path, "signals" + e), read(path, "expected" + e)) for e in ends]
+        runs = os.path.join(path, "deployed")
+        parts = [(read(runs, "words" + e), read(runs, "signals" + e), read(runs, "expected" + e)) for e in ends]
         steps = [
             {"words": words.decode().split(), "stdin": (signals or b"").decode(), "stdout": expected.decode()}
             for words, signals, expected in parts
@@ -312,7 +313,7 @@ def main():
         print("not run: rundefs isn't there (RUNDEFS names its folder)")
         return 0
     folder = os.environ.get("CASES", "/work/shared/cases")
-    found = cases_of(folder) if os.path.isdir(folder) else examples_of(os.path.join(TOP, "examples"))
+    found = list(examples_of(os.path.join(TOP, "examples"))) + (list(cases_of(folder)) if os.path.isdir(folder) else [])
     ran = wrong = skipped = 0
     for name, path, steps in found:
         if not is_wanted(name, sys.argv[1:]):
