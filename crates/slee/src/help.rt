@@ -1,6 +1,6 @@
 //! What the program says of itself.
 
-pub const VERSION: &str = "slee 0.1\nproved with rattle-kit-13f logic dac8208d650f15bf\n";
+pub const VERSION: &str = "slee 0.1\nproved over logic dac8208d650f15bf\n";
 
 pub const HELP: &str = "slee: a service container after JAIN SLEE 1.1 (JSR 240)
 

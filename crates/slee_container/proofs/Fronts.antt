@@ -74,6 +74,12 @@ taken_front s signal (Some why) a v is = is
 taken_front s (signals.Start name) None a v is = is
 taken_front s (signals.End name) None a v is = pushed_front s.events _ a v is
 taken_front s (signals.Fire name event service words) None a v is = pushed_front s.events _ a v is
+taken_front s (signals.Clock to) None a v is = is
+taken_front s (signals.Activate service) None a v is = is
+taken_front s (signals.Deactivate service) None a v is = is
+taken_front s (signals.ProfileAdd table row fields) None a v is = is
+taken_front s (signals.ProfileUpdate table row fields) None a v is = is
+taken_front s (signals.ProfileRemove table row) None a v is = is
 
 selected_events : (s : Parts) (service b : ℕ) (root : Option RootName) → (selected_with (after_change (changes.MarkService (record { 0 = b }) service) s) service b root).events ≡ s.events
 selected_events s service b (Some root) = refl

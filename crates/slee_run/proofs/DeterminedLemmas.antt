@@ -63,12 +63,12 @@ both_same (x ∷ h) rest (y ∷ k) tail same equal =
 -- the size of a side with more entries
 size_more : (old : DiskState) (base : Parts) (h more : List Entry) (e : Entry) → size_behind old base h + (5 + length (payload (replay base h) e.choice)) ≤ size_behind old base (h ++ e ∷ more)
 size_more old base h more e = omega (
-    arith,
-    records_size-more (records kept_deployment old.seen) (payloads base (choices_of h)),
-    records_size-more (records kept_deployment old.seen) (payloads base (choices_of (h ++ e ∷ more))),
-    ap records_size split,
-    records_size-more (payloads base (choices_of h)) (payload (replay base h) e.choice ∷ behind),
-  )
+  arith,
+  records_size-more (records kept_deployment old.seen) (payloads base (choices_of h)),
+  records_size-more (records kept_deployment old.seen) (payloads base (choices_of (h ++ e ∷ more))),
+  ap records_size split,
+  records_size-more (payloads base (choices_of h)) (payload (replay base h) e.choice ∷ behind),
+)
   where
     behind : List (List ℕ)
     behind = payloads (after (replay base h) e.choice) (choices_of more)
@@ -347,7 +347,7 @@ determined old one other words bytes p q told first second fine good = by_comman
         → Same p.history q.history p.status q.status
     on_wrong steps lines w is a c = (
       told_wrong p.base steps lines p.history p.status w a (subst (λ r. IsAnswerTo r p.status) is (first.journal.opened told).answer) fine
-      ∙ sym (told_wrong q.base steps lines q.history q.status w c (subst (λ r. IsAnswerTo r q.status) is (second.journal.opened told).answer) good),
+          ∙ sym (told_wrong q.base steps lines q.history q.status w c (subst (λ r. IsAnswerTo r q.status) is (second.journal.opened told).answer) good),
       (first.journal.opened told).none w is ∙ sym ((second.journal.opened told).none w is),
     )
 

@@ -40,6 +40,10 @@ blank_is d rest = record {
   none = ap (λ (s : Sides). records_of (recovered kept_deployment s)) rest.seen ∙ ap records_of blank_recovered;
 }
 
+pub blank_rest : (a b : List ℕ) (d : DiskState) → a ≡ [] → b ≡ [] → IsAtRest (record { a = a; b = b }) d → IsAtRest blank d
+blank_rest a b d first second rest =
+    subst (λ (x : List ℕ). IsAtRest (record { a = x; b = [] }) d) first (subst (λ (y : List ℕ). IsAtRest (record { a = a; b = y }) d) second rest)
+
 -- what one unbroken run leaves
 pub record IsRunOn (steps : ℕ) (base : Parts) (lines before after : List ℕ) (old new : DiskState) (status : Status) : Type 0 where
   pub history : List Entry

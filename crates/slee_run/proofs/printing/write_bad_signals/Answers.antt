@@ -23,3 +23,10 @@ returns-in_err-write_bad g c =
     (writes_then _ _ _ _ _ _ _ _ _ c.in_ok-write_number.ensures
     (writes_then _ _ _ _ _ _ _ _ _ c.in_ok-write_whole-2.ensures
     (writes_stop _ _ _ _ _ _ (Err c.in_err-write_bad.field-0.0) _ refl c.from_residual-in_err-write_bad.ensures.0 c.in_err-write_bad.ensures)))
+
+pub returns : goal.returns
+returns g c =
+    writes_then _ _ _ _ _ _ _ _ _ c.in_ok-write_whole.ensures
+    (writes_then _ _ _ _ _ _ _ _ _ c.in_ok-write_number.ensures
+    (writes_then _ _ _ _ _ _ _ _ _ c.in_ok-write_whole-2.ensures
+    (writes_then _ _ _ _ _ _ _ _ _ c.in_ok-write_bad.ensures c.write_whole-3.ensures)))

@@ -1,9 +1,9 @@
 use Rattle.std.proofs.Common.{◌≡◌, ap, sym, ◌∙◌, subst, map, Ok}
 use Rattle.router_model.specs.State.{Parts}
 use Rattle.commit_journal.specs.Views.{payload_of}
-use Rattle.slee_container.proofs.Opens.{Opened, Begins, IsBegun, plain_of, opened_sound, same_origin, with_fields, state_by, records_by, counting_by, state_leaves, no_fault}
+use Rattle.slee_container.proofs.Opens.{looks_alone, Opened, Begins, IsBegun, plain_of, opened_sound, same_origin, with_fields, state_by, records_by, counting_by, state_leaves, no_fault}
 use Rattle.slee_container.specs.Facts.{told_on}
-use Rattle.slee_container.specs.Opening.{StandsFor}
+use Rattle.slee_container.specs.Opening.{IsLeftAlone, StandsFor}
 use Rattle.slee_disk.specs.Disk.{LeavesOnly}
 use Rattle.slee_container.proofs.Steps.{is_held}
 use Rattle.slee_container.proofs.journaled.Core.open.Goals as goal
@@ -72,3 +72,8 @@ returns-in-Err-begin-clause-left_alone g c =
     let o : Opened g.D.Disk.disk (g.D.Disk.disk c.args.disk) c.args.deployment.now j = record { opened = ok.opened; records = ok.records; named = ok.named; seen = ok.seen; looks = ok.looks; leaves = ok.any_moment; rest = ok.rest; idle = ok.empty } in
     let both = plain_of j.kept.head.snapshot j.records c.in-Ok-replay.ensures.fits in
     λ told w is. absurd (no_fault g.D.Disk.disk (g.D.Disk.disk c.args.disk) c.args.deployment.now j o both.0 both.1 told w is)
+
+pub returns-in-Err-replay-clause-left_alone : goal.returns-in-Err-replay-clause-left_alone
+returns-in-Err-replay-clause-left_alone g c = λ told w is.
+    subst (λ (d : g.row.D.Denot). IsLeftAlone (g.D.Disk.disk c.args.disk) (g.D.Disk.disk d)) (sym c.into_disk-in-Err-replay.ensures)
+    (looks_alone (g.D.Disk.disk c.args.disk) (g.D.Disk.disk c.in-Ok.found.disk) _ c.in-Ok.ensures.looks)
