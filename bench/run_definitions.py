@@ -3,7 +3,7 @@
 
     bench/run_definitions.py [NAME ..]      all cases whose names begin so; without names all of them but those that take minutes
 
-The cases are /work/shared/cases, or the folder that CASES names, where it is there, and else those of examples/. What evaluates
+The cases are those of examples/, and of /work/shared/cases or the folder that CASES names where it is there. What evaluates
 definitions is rundefs, in /work/shared/tools/rundefs or the folder that RUNDEFS names; without it nothing is run, and the script says so.
 Each play, resume, show, compact and trial of a case is computed by `slee_state` and `slee_steps`, the journal between them by the payloads
 and snapshots of both formats. What isn't a definition there (workers, statuses of the disk, other commands) is skipped, with a word.
@@ -286,7 +286,7 @@ def examples_of(folder):
         runs = os.path.join(path, "deployed")
         parts = [(read(runs, "words" + e), read(runs, "signals" + e), read(runs, "expected" + e)) for e in ends]
         steps = [
-            {"words": words.decode().split(), "stdin": (signals or b"").decode(), "stdout": expected.decode()}
+            {"words": words.decode().split(), "stdin": (signals or b"").decode(), "stdout": expected.decode(), "status": 0}
             for words, signals, expected in parts
             if words and expected
         ]
