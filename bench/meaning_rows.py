@@ -7,6 +7,8 @@ Each row is a handler on `ping` of the block `b` below, what the state answers w
 the outcome, the failure's text where there is one, and the effects. Without the tool that evaluates definitions
 (deployments.py says where it is looked for) nothing is run, and it says so.
 """
+import copy
+import json
 import sys
 
 import deployments
@@ -254,6 +256,48 @@ ROWS = [
     ("bind \"x\" to lookup(\"y\");", {"name x": 5}, "failed unbound"),
 ]
 
+KEYS_64 = "let i = 0; while i < 64 { emit text(has_profile(accounts, text(i))); i = i + 1; } "
+LOOP = "let i = 0; while i < 1427 { i = i + 1; } "
+# Deliveries: the handler, the exception callback, the rolled-back callback (none where it is missing), what the state answers, and
+# the outcomes of the three with the effects that stand.
+DELIVERIES = [
+    ("emit \"a\";", None, None, {}, "fine, -, -: say e1 a"),
+    ("emit \"a\";", "emit \"b\";", "emit \"c\";", {}, "fine, -, -: say e1 a"),
+    ("self.n = 5; emit \"lost\"; rollback;", "emit \"never\";", "emit \"undone \" ++ text(self.n);", {}, "asked, -, fine: say e1 undone 0"),
+    ("emit \"lost\"; rollback;", None, None, {}, "asked, -, -:"),
+    (f"let x = {MOST}; let y = x + 1;", "emit \"seen\";", "throw \"no\";", {}, "failed overflow, fine, failed thrown:"),
+    ("throw \"why\";", None, "emit failure;", {}, "failed thrown, -, fine: say e1 why"),
+    ("rollback;", None, "emit failure;", {}, "asked, -, fine: say e1 asked"),
+    ("let x = 1 / 0;", None, "emit failure;", {}, "failed zero-divisor, -, fine: say e1 zero-divisor"),
+    ("throw \"a\";", "throw failure ++ \"b\";", "emit failure;", {}, "failed thrown, failed thrown, fine: say e1 a"),
+    ("throw \"a\";", "emit \"gone\";", None, {}, "failed thrown, fine, -:"),
+    ("throw \"a\";", "rollback;", "self.n = 1;", {}, "failed thrown, asked, fine: set e1.n 1"),
+    ("throw \"a\";", None, "emit \"x\"; rollback;", {}, "failed thrown, -, asked:"),
+    # The exception callback sees what the handler did; the rolled-back callback doesn't.
+    ("self.n = 5; throw \"a\";", "if self.n == 5 { throw \"saw\"; }", "emit text(self.n);", {}, "failed thrown, failed thrown, fine: say e1 0"),
+    ("create leg as x; throw \"a\";", "emit text(count(leg)); create leg as y; call y.boom();", "emit text(count(leg));", {}, "failed thrown, failed thrown, fine: say e1 0"),
+    ("null as n; end n; throw \"a\";", "for a in activities { if a == activity { throw \"there\"; } }", None, {}, "failed thrown, failed thrown, -:"),
+    # The handler and its exception callback have 64 keys together, the rolled-back callback 64 of its own; each has 10,000 units.
+    (KEYS_64 + "throw \"a\";", "emit text(has_profile(accounts, \"new\"));", "emit text(has_profile(accounts, \"new\"));", {}, "failed thrown, failed observed, fine: say e1 false"),
+    (KEYS_64 + "throw \"a\";", "emit text(has_profile(accounts, \"5\"));", None, {}, "failed thrown, fine, -:"),
+    (LOOP + "while true { }", LOOP, LOOP, {}, "failed budget, fine, fine:"),
+    ("while true { cancel none; }", "while true { cancel none; }", None, {}, "failed too-much, failed too-much, -:"),
+    ("let i = 0; while i < 256 { cancel none; i = i + 1; } throw \"a\";", "let i = 0; while i < 256 { cancel none; i = i + 1; }", None, {}, "failed thrown, fine, -:"),
+]
+# Remove scripts: what the entity's fields hold, and the lines. With its number's `  say e1 ` a line of n bytes has 9 + n, and 256 in all are kept.
+REMOVALS = [
+    ("emit \"bye \" ++ text(self.n);", {"field 1 n": 7}, "  say e1 bye 7"),
+    ("", {}, ""),
+    ("emit \"" + "x" * 247 + "\";", {}, "  say e1 " + "x" * 247),
+    ("emit \"" + "x" * 248 + "\";", {}, ""),
+    ("emit \"a\"; emit \"" + "x" * 237 + "\";", {}, "  say e1 a|  say e1 " + "x" * 237),
+    ("emit \"a\"; emit \"" + "x" * 238 + "\";", {}, ""),
+    ("emit \"a\\nb%\";", {}, "  say e1 a%0Ab%25"),
+    ("emit \"a\"; let x = 1 / 0;", {}, ""),
+    ("let i = 0; while i < 3 { emit text(i); i = i + 1; }", {}, "  say e1 0|  say e1 1|  say e1 2"),
+    ("while true { }", {}, ""),
+]
+
 
 class Run:
     """The definitions, with the state's answers for one row."""
@@ -263,6 +307,8 @@ class Run:
 
         self.world, self.rundefs = world, rundefs
         self.meaning = world.eval("handler_meaning.specs.Meaning.meaning")
+        self.delivered = world.eval("handler_meaning.specs.Delivery.delivered")
+        self.removal_lines = world.eval("handler_meaning.specs.Removal.removal_lines")
 
     def variant(self, path, name):
         return self.world.variant(path, name)
@@ -312,14 +358,36 @@ class Run:
     def word(self, x):
         return str(x[0]) if isinstance(x, self.rundefs.Tup) else bytes(x).decode()
 
+    def program(self, handler, **others):
+        """The program of the deployment with this handler on `ping`, and with callbacks."""
+        source = copy.deepcopy(DEPLOYMENT)
+        source["blocks"][0]["events"][0]["on"] = handler
+        source["blocks"][0].update({name: script for name, script in others.items() if script is not None})
+        return deployments.Deployment(self.world, json.dumps(source)).program
+
+    def delivery(self, handler, exception, rolled_back, given):
+        """The outcomes of a handler and its callbacks, and the effects that stand."""
+        program = self.program(handler, exception=exception, rolled_back=rolled_back)
+        answers = self.rundefs.Fn(1, lambda key: self.answer(given, key))
+        one = self.rundefs.Tup((1,))
+        ended = self.delivered(answers, program, 0, one, one, self.rundefs.codes("ping"), self.names(PING))
+        if ended.con.name != "Complete":
+            return repr(ended)
+        it = ended.args[0]
+        outcomes = [it.outcome] + [x.args[0] if x.con.name == "Some" else None for x in (it.exception, it.rolled_back)]
+        words = ["-" if x is None else self.outcome(x) for x in outcomes]
+        return (", ".join(words) + ": " + "; ".join(self.effect(e) for e in it.effects)).rstrip()
+
+    def removal(self, script, given):
+        """The lines of an entity's remove script."""
+        program = self.program("", remove=script)
+        answers = self.rundefs.Fn(1, lambda key: self.answer(given, key))
+        lines = self.removal_lines(answers, program, program[0], self.rundefs.Tup((1,)))
+        return "|".join(bytes(line).decode() for line in lines)
+
     def told(self, script, given):
         """The outcome and effects of a handler, as a row has them."""
-        import copy
-        import json
-
-        source = copy.deepcopy(DEPLOYMENT)
-        source["blocks"][0]["events"][0]["on"] = script
-        program = deployments.Deployment(self.world, json.dumps(source)).program
+        program = self.program(script)
         which = self.world.record("handler_meaning.which.Which", block=0, part=self.variant("handler_meaning.which.Part", "On")(0))
         args = self.world.record("handler_meaning.outcome.Args", activity=self.rundefs.Tup((1,)), fields=self.names(PING), failure=())
         answers = self.rundefs.Fn(1, lambda key: self.answer(given, key))
@@ -332,10 +400,14 @@ class Run:
     def report(self, report):
         outcome = report.outcome
         if outcome.con.name == "Broken":
-            word = "".join("-" + c.lower() if c.isupper() else c for c in outcome.args[0].con.name).lstrip("-")
             text = bytes(report.failure).decode()
-            return f"failed {word}" + (f" {text}" if word == "thrown" and text else "")
-        return (outcome.con.name.lower() + ": " + "; ".join(self.effect(e) for e in report.effects)).rstrip()
+            return self.outcome(outcome) + (f" {text}" if self.outcome(outcome) == "failed thrown" and text else "")
+        return (self.outcome(outcome) + ": " + "; ".join(self.effect(e) for e in report.effects)).rstrip()
+
+    def outcome(self, outcome):
+        if outcome.con.name != "Broken":
+            return outcome.con.name.lower()
+        return "failed " + "".join("-" + c.lower() if c.isupper() else c for c in outcome.args[0].con.name).lstrip("-")
 
     def ref(self, letter, ref):
         return letter + ("" if ref.con.name == "Known" else "+") + str(ref.args[0])
@@ -378,33 +450,41 @@ class Run:
         return forms[e.con.name](*e.args)
 
 
-def main():
-    world = deployments.world()
-    if world is None:
-        print("meaning_rows: skipped, the tool that evaluates definitions isn't here (deployments.py)")
-        return 0
-    run, wrong, done = Run(world), 0, 0
+def rows_of(run):
+    """Each row: its name, what asks the definitions, and what is wanted."""
     for script, given, wanted in ROWS:
-        if len(sys.argv) > 1 and sys.argv[1] not in script:
+        yield script, lambda: run.told(script, given), wanted
+    for handler, exception, rolled_back, given, wanted in DELIVERIES:
+        name = f"{handler} | exception {exception} | rolled_back {rolled_back}"
+        yield name, lambda: run.delivery(handler, exception, rolled_back, given), wanted
+    for script, given, wanted in REMOVALS:
+        yield f"remove {script}", lambda: run.removal(script, given), wanted
+
+
+def main(world):
+    run, wrong, done = Run(world), 0, 0
+    for name, ask, wanted in rows_of(run):
+        if len(sys.argv) > 1 and sys.argv[1] not in name:
             continue
         done += 1
         try:
-            told = run.told(script, given)
+            told = ask()
         except deployments.Refused as refused:
             told = f"refused {refused.args}"
         if told != wanted:
             wrong += 1
-            print(f"meaning_rows: {script[:160]}\n    wanted {wanted[:200]}\n    found  {told[:200]}")
+            print(f"meaning_rows: {name[:160]}\n    wanted {wanted[:200]}\n    found  {told[:200]}")
     print(f"meaning_rows: {done} runs, {wrong} wrong")
     return 1 if wrong else 0
 
 
 if __name__ == "__main__":
-    world_first = deployments.world()
-    if world_first is None:
-        sys.exit(main())
+    definitions = deployments.world()
+    if definitions is None:
+        print("meaning_rows: skipped, the tool that evaluates definitions isn't here (deployments.py)")
+        sys.exit(0)
     import rundefs
 
     status = []
-    rundefs.deep(lambda: status.append(main()))
+    rundefs.deep(lambda: status.append(main(definitions)))
     sys.exit(status[0])
