@@ -1,8 +1,10 @@
 #!/usr/bin/env python3
 """Deployments and the first fault of each, worked out by hand from docs/FORMATS.md, and a check that the definitions of
-slee_descriptor say the same. Usage: deployment_rows.py RUNDEFS [ROOT], where RUNDEFS is the folder of a program that
-evaluates definitions (module `rundefs`); with no fault the answer is None."""
+slee_descriptor say the same. Without the tool that evaluates definitions (deployments.py says where it is looked for) nothing
+is run, and it says so. With no fault the answer is None."""
 import sys
+
+import deployments
 
 
 def item(key, **members):
@@ -154,9 +156,9 @@ BAD = {"Missing": "missing", "Repeated": "repeated", "UnknownName": "unknown-nam
 class Builder:
     """Parts as the definitions see them."""
 
-    def __init__(self, rundefs, root):
+    def __init__(self, rundefs, world):
         self.rundefs = rundefs
-        self.world = rundefs.load(root)
+        self.world = world
         found = {word: self.world.variant("slee_value.kind.Kind", name) for word, name in KIND.items()}
         self.kinds = {word: getattr(kind, "value", kind) for word, kind in found.items()}
 
@@ -228,10 +230,13 @@ def answer(fault):
 
 
 def main():
-    sys.path.insert(0, sys.argv[1])
+    world = deployments.world()
+    if world is None:
+        print("deployment_rows: skipped, the tool that evaluates definitions isn't here (deployments.py)")
+        return
     import rundefs
-    root = sys.argv[2] if len(sys.argv) > 2 else "."
-    builder = Builder(rundefs, root)
+
+    builder = Builder(rundefs, world)
     fault_of = builder.world.eval("slee_descriptor.specs.Tables.parts_fault")
     wrong = 0
     for name, row, wanted in ROWS:
