@@ -18,7 +18,9 @@ import deployments
 TOP = deployments.TOP
 TRIAL_STEPS = 1_000_000
 SLOT_COUNT = 4
-SLOW = ("row13-many", "R12.1")
+# A text so long takes its time, and so do ten thousand occurrences of a timer.
+LONG_TEXT = 4_000
+MANY = "clock 10000"
 REPLAYED = ("record\n", "replay\n", "snapshot\n")
 
 
@@ -294,8 +296,9 @@ def examples_of(folder):
             yield name, path, steps
 
 
-def is_wanted(name, names):
-    return name.startswith(tuple(names)) if names else not name.startswith(SLOW)
+def is_wanted(name, steps, names):
+    slow = any(len(step.get("stdout", "")) > LONG_TEXT or MANY in (step.get("stdin") or "") for step in steps)
+    return name.startswith(tuple(names)) if names else not slow
 
 
 def outcome(world, folder, steps):
@@ -316,7 +319,7 @@ def main():
     found = list(examples_of(os.path.join(TOP, "examples"))) + (list(cases_of(folder)) if os.path.isdir(folder) else [])
     ran = wrong = skipped = 0
     for name, path, steps in found:
-        if not is_wanted(name, sys.argv[1:]):
+        if not is_wanted(name, steps, sys.argv[1:]):
             continue
         began = time.time()
         said = outcome(world, path, steps)
