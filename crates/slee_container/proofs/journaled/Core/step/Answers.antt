@@ -4,7 +4,7 @@ use Rattle.router_rules.specs.Step.{after, step_entry}
 use Rattle.router_rules.proofs.StepLemmas.{payload_fits}
 use Rattle.router_core.specs.Plans.{IsPlanOf}
 use Rattle.trace_history.specs.declared.entry.Entry.{Entry}
-use Rattle.slee_container.proofs.Steps.{Flushed, Acknowledges, whole_leaves, whole_room, whole_ok, whole_failed, same_held, full_is, full_sound}
+use Rattle.slee_container.proofs.Steps.{still_refused, Flushed, Acknowledges, whole_leaves, whole_room, whole_ok, whole_failed, same_held, full_is, full_sound}
 use Rattle.slee_container.proofs.journaled.Core.step.Goals as goal
 
 pub append-requires-clause-short : goal.append-requires-clause-short
@@ -125,3 +125,15 @@ returns-in-Err-clause-step g c =
     let flushed : Flushed g.D.Disk.disk c.append.new.self c.flush-flushed.new.self = record { head = f.still.head; told = f.told; rising = f.rising; leaves = f.any_moment } in
     let room = whole_room g.D.Disk.disk c.self.inside.journal c.append.new.self c.flush-flushed.new.self _ _ _ parts _ _ c.self.invariant live c.in-Ok-append.ensures.ok choice made.valid made.enabled paid flushed c.push.new.self.entries entries c.in-Ok-append.ensures.fits in
     rw (← c.self.view_is) (entries, refl, state, room)
+
+pub returns-in_default-reserve-clause-any_moment : goal.returns-in_default-reserve-clause-any_moment
+returns-in_default-reserve-clause-any_moment g c =
+    rw (← c.self.view_is) (still_refused g.D.Disk.disk c.self.inside.journal c.self.inside.journal _ c.self.inside.history.entries c.reserve-2.new.self.entries _ c.self.invariant.safe refl c.reserve-2.ensures.kept)
+
+pub returns-in-Err-Full-clause-any_moment : goal.returns-in-Err-Full-clause-any_moment
+returns-in-Err-Full-clause-any_moment g c =
+    rw (← c.self.view_is) (still_refused g.D.Disk.disk c.self.inside.journal c.append.new.self _ c.self.inside.history.entries c.reserve-2.new.self.entries _ c.self.invariant.safe c.in-Err-Full.ensures.err c.reserve-2.ensures.kept)
+
+pub returns-in-Err-NoMemory-clause-any_moment : goal.returns-in-Err-NoMemory-clause-any_moment
+returns-in-Err-NoMemory-clause-any_moment g c =
+    rw (← c.self.view_is) (still_refused g.D.Disk.disk c.self.inside.journal c.append.new.self _ c.self.inside.history.entries c.reserve-2.new.self.entries _ c.self.invariant.safe c.in-Err-NoMemory.ensures.err c.reserve-2.ensures.kept)
