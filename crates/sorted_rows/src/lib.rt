@@ -1,0 +1,9 @@
+//! Rows that rise by two numbers and a text: one is found by halving, and those of one number or of one pair of numbers stand side by side.
+#![tactic(auto)]
+
+mod keyed;
+mod places;
+mod rows;
+
+pub use keyed::Keyed;
+pub use rows::{cut_row, cut_rows_of, cut_rows_of_pair, has_row, place_of, put_row, row_of};
