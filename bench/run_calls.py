@@ -6,6 +6,7 @@
 - Lines that are taken in a row, with nothing delivered between them: a second end, an event behind the end, a name in use.
 - Two deliveries to one entity, both seen before either is done: the second to be done finds what the first has changed, and where.
 - A restart behind each entry of a prepaid call: the journal's payloads stand for the state, and the lines go on to the same end.
+- A restart before and behind the record of a line that is taken.
 
 What evaluates definitions is found as run_definitions.py finds it; without it nothing is run.
 """
@@ -109,13 +110,27 @@ def restarts(world):
         yield (kept, case.show()), (kept, shown)
 
 
+def unflushed(world):
+    """A line whose record isn't written yet: a restart is before it, and once the record is written behind it."""
+    deployment = source(["ping"], {"events": [{"event": "ping", "initial": ["activity"], "on": ""}]})
+    calls = Calls(world, deployment)
+    first = calls.state
+    calls.take("start c1")
+    line = calls.case.signals(b"start c1")[0]
+    for written, inputs in ((0, 0), (1, 1)):
+        case = Case(world, deployment, None)
+        case.journal = Journal(deployment)
+        case.journal.payloads = [case.payload(2, first, calls.choice("Input", line))][:written]
+        yield case.base().inputs, inputs
+
+
 def main():
     world = deployments.world()
     if world is None:
         print("run_calls: skipped, the tool that evaluates definitions isn't here (deployments.py)")
         return 0
     wrong = done = 0
-    for rows in (lines_in_a_row, two_attempts, restarts):
+    for rows in (lines_in_a_row, two_attempts, restarts, unflushed):
         for found, wanted in rows(world):
             done += 1
             if found != wanted:
