@@ -6,13 +6,16 @@
     python3 bench/gate_minutes.py --log FILE             keeps what the gate prints
     python3 bench/gate_minutes.py --keep FILE            keeps what was measured
     python3 bench/gate_minutes.py --read FILE            reads it from there, and runs nothing
+    python3 bench/gate_minutes.py --crates NAME..        `rt ci NAME..` in place of the gate: these crates and those below them
+    python3 bench/gate_minutes.py --with FILE ..         takes from these, which --keep wrote, each crate that this run didn't prove
     python3 bench/gate_minutes.py --edits                each wrong body's seconds too, behind the table
     python3 bench/gate_minutes.py --write                puts the table into docs/ARCHITECTURE.md between its two marks
 
 It looks at the processes under `.ci/run` four times a second, as /proc shows them: each belongs to a crate (the prover is given
 its name, and works in its folder), and what it is for is seen from its words and from its folder: an edited copy is a wrong
 body. Building and running a program counts as its proof, running tests as the tests. What can't be told so, and the last
-quarter of a second of each process, is in the line `the rest`: the whole is what the system counted for `.ci/run`. Linux only.
+quarter of a second of each process, is in the line `the rest`: the whole is what the system counted for `.ci/run`. `rt ci` keeps
+what has passed on a machine, so a run shows what it proved itself; with --with the table is of several runs. Linux only.
 """
 import argparse
 import json
@@ -125,12 +128,12 @@ def edits_of(folder, crate):
         return []
 
 
-def measured(folder, log):
-    """Runs the gate in the folder and returns what it took, with its status and its last line."""
+def measured(folder, log, command):
+    """Runs the gate (or that command) in the folder and returns what it took, with its status and its last line."""
     crates, seen, began = crates_of(folder), {}, time.time()
     before = resource.getrusage(resource.RUSAGE_CHILDREN)
     with open(log, "w+", encoding="utf-8", errors="replace") as said:
-        gate = subprocess.Popen([".ci/run"], cwd=folder, stdin=subprocess.DEVNULL, stdout=said, stderr=subprocess.STDOUT)
+        gate = subprocess.Popen(command, cwd=folder, stdin=subprocess.DEVNULL, stdout=said, stderr=subprocess.STDOUT)
         while gate.poll() is None:
             look(gate.pid, seen, set(crates))
             time.sleep(PAUSE)
@@ -166,11 +169,16 @@ def figure(minutes):
     return f"{minutes:.1f}" if minutes >= 0.05 else ""
 
 
+def of_parts(run):
+    parts = run.get("parts", 1)
+    return "" if parts == 1 else f", {parts - 1} earlier runs of its parts included, whose proofs it kept"
+
+
 def table(run):
     """The lines of the table, and of what stands before it."""
     spent = run["spent"]
     lines = [
-        f"The gate on {run['date']} at commit {run['commit']}: {run['last']}, {run['minutes']:.0f} minutes on {run['processors']} processors, {run['processor']:.0f} processor minutes.",
+        f"The gate on {run['date']} at commit {run['commit']}: {run['last']}, {run['minutes']:.0f} minutes on {run['processors']} processors; {run['processor']:.0f} processor minutes{of_parts(run)}.",
         "",
         "| crate | proof | tests | wrong bodies | in all |",
         "|---|---|---|---|---|",
@@ -204,6 +212,27 @@ def write(lines):
         f.write("\n".join([head + BEGIN, *lines, END + tail]))
 
 
+# A crate whose proof took less was proved by an earlier run, and this one only built or played it.
+PROVED = 8.0
+
+
+def with_earlier(run, files):
+    """Adds to a run what earlier ones took for the crates, tests and wrong bodies that it didn't have to prove or try again."""
+    for file in files:
+        with open(file, encoding="utf-8") as f:
+            earlier = json.load(f)
+        for crate, kinds in earlier["spent"].items():
+            own = run["spent"].get(crate)
+            if own is None:
+                continue
+            for kind in KINDS:
+                if own[kind] < PROVED < kinds[kind]:
+                    run["processor"] += (kinds[kind] - own[kind]) / 60
+                    own[kind] = kinds[kind]
+        run["parts"] = run.get("parts", 1) + earlier.get("parts", 1)
+    return run
+
+
 def run_gate(given):
     if given.read:
         with open(given.read, encoding="utf-8") as f:
@@ -212,7 +241,8 @@ def run_gate(given):
         folder = given.folder or os.path.join(room, "clone")
         if not given.folder:
             subprocess.run(["git", "clone", "-q", TOP, folder], check=True)
-        return measured(folder, given.log or os.path.join(room, "log"))
+        command = ["rt", "ci", *given.crates] if given.crates else [".ci/run"]
+        return measured(folder, given.log or os.path.join(room, "log"), command)
 
 
 def main():
@@ -221,10 +251,12 @@ def main():
     parser.add_argument("--log", help="a file for what the gate prints")
     parser.add_argument("--keep", help="a file for what was measured")
     parser.add_argument("--read", help="a file that --keep wrote")
+    parser.add_argument("--crates", nargs="+", default=[], help="run `rt ci` over these crates in place of the gate")
+    parser.add_argument("--with", nargs="+", default=[], dest="earlier", help="files that --keep wrote, of earlier runs")
     parser.add_argument("--edits", action="store_true", help="print each wrong body's seconds")
     parser.add_argument("--write", action="store_true", help="put the table into docs/ARCHITECTURE.md")
     given = parser.parse_args()
-    run = run_gate(given)
+    run = with_earlier(run_gate(given), given.earlier)
     if given.keep:
         with open(given.keep, "w", encoding="utf-8") as f:
             json.dump(run, f, indent=1)

@@ -1,8 +1,6 @@
-//! Tests of values, effects, signal lines and histories, by their public calls.
+//! Tests of values, signal lines and histories, by their public calls.
 #![tactic(auto)]
 
-#[cfg(test)]
-mod effects;
 #[cfg(test)]
 mod histories;
 #[cfg(test)]
