@@ -35,8 +35,11 @@ fn with_text(alloc: Global, statements: Vec<Stmt>, text: &str) -> Result<Script,
     requires { Writes text.now (statements_of statements.items) }
     ensures { MatchResult result (λ x. (x.statements.items ≡ statements.items) × (x.text ≡ text.now)) (λ e. e ≡ SyntaxFault.NoMemory) }
 {
-    match Text::from_str(alloc, text) {
-        Ok(text) => Ok(Script::new(statements, text)),
+    let Ok(text) = Text::from_str(alloc, text) else {
+        return Err(SyntaxFault::NoMemory);
+    };
+    match Script::new(alloc, statements, text) {
+        Ok(script) => Ok(script),
         Err(NoMemory) => Err(SyntaxFault::NoMemory),
     }
 }

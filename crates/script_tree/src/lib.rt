@@ -16,6 +16,7 @@ mod sign;
 mod symbol;
 mod token;
 mod tree;
+mod written;
 
 pub use fault::{Misfit, SyntaxBad, SyntaxFault};
 pub use identifier::Identifier;

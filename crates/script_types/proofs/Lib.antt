@@ -2,3 +2,4 @@ mod TypingExamples
 pub mod TypingLaws
 pub mod ScopeLaws
 pub mod RemoveLaws
+pub mod ProgramRows

@@ -12,3 +12,4 @@ pub mod Program
 pub mod Elaboration
 pub mod ElaborationOfStatements
 pub mod Programs
+pub mod ProgramOf

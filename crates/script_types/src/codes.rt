@@ -1,4 +1,4 @@
-use crate::CodeList;
+use crate::{BlockSteps, CodeList};
 use script_tree::Script;
 use slee_value::{Kind, Name, Text};
 
@@ -91,6 +91,8 @@ pub struct Codes {
     pub services: CodeList<Name>,
     /// In the deployment's order.
     pub blocks: CodeList<BlockCode>,
+    /// What the scripts are made into, block by block; nothing until they are checked.
+    pub programs: CodeList<BlockSteps>,
 }
 
 /// One script of a block: that of a handler or a method by its number, or one of the three others.

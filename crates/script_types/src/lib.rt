@@ -1,6 +1,9 @@
 //! All that scripts may name, and when a script is well typed.
 #![tactic(auto)]
 
+mod checked_script;
+mod checked_step;
+mod checked_term;
 mod code_list;
 mod codes;
 mod laws;
@@ -8,6 +11,12 @@ mod misuse;
 mod step;
 mod term;
 
+pub use checked_script::{BlockSteps, HandlerSteps, MethodSteps};
+pub use checked_step::{
+    Assigning, Call, FieldTerm, OnActivities, OnEntities, OnTimers, Rank, Recurrence, Saying, Step,
+    TimerStart,
+};
+pub use checked_term::Term;
 pub use code_list::CodeList;
 pub use codes::{
     AttributeCode, BlockCode, CodePart, CodePlace, Codes, EventCode, FieldCode, HandlerCode,

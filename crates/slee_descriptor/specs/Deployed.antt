@@ -86,6 +86,14 @@ service_at d n = slice_get d.services n
 abbrev pub table_at : Deployed → ℕ → Option DeployedTable
 table_at d n = slice_get d.tables n
 
+-- The number of the declared event of this key.
+abbrev pub event_named : Deployed → Bytes → Option ℕ
+event_named d key = position (λ e. bytes_eq e.name key) d.events
+
+-- The number of the profile specification of this key.
+abbrev pub profile_named : Deployed → Bytes → Option ℕ
+profile_named d key = position (λ p. bytes_eq p.key key) d.profiles
+
 -- The number of the block of this key.
 abbrev pub block_named : Deployed → Bytes → Option ℕ
 block_named d key = position (λ b. bytes_eq b.key key) d.blocks

@@ -13,7 +13,7 @@ use std::alloc::Global;
 
 /// From names to what the first of each stands for.
 #[derive(Drop)]
-pub(crate) struct Firsts<'v, V> {
+pub struct Firsts<'v, V> {
     found: IndexMap<&'v str, V>,
 }
 
@@ -38,7 +38,7 @@ impl<'v, V: Copy> Firsts<'v, V> {
     }
 
     /// What the name stands for.
-    pub(crate) fn get(&self, name: &str) -> Option<V>
+    pub fn get(&self, name: &str) -> Option<V>
         ensures { result ≡ answer_of self.now name.now }
     {
         self.found.get(&name).copied()
@@ -46,16 +46,13 @@ impl<'v, V: Copy> Firsts<'v, V> {
 }
 
 /// Which item of a list has each name.
-pub(crate) type Numbers<'v> = Firsts<'v, usize>;
+pub type Numbers<'v> = Firsts<'v, usize>;
 
 /// The types of declared names.
 pub(crate) type Kinds<'v> = Firsts<'v, Kind>;
 
 /// Which item of a list has each name.
-pub(crate) fn numbers_of<'v, T: Named>(
-    alloc: Global,
-    items: &'v [T],
-) -> Result<Numbers<'v>, NoMemory>
+pub fn numbers_of<'v, T: Named>(alloc: Global, items: &'v [T]) -> Result<Numbers<'v>, NoMemory>
     ensures { IfOk result (λ n. (q : Bytes) → answer_of n q ≡ key_number T.name_of items.now q) }
 {
     let mut numbers = Firsts::new(alloc);

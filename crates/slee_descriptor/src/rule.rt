@@ -65,7 +65,7 @@ fn check_item<A, R: Rule<A>>(alloc: Global, rule: &R, i: usize, part: &A) -> Res
 }
 
 /// What has a name of its own.
-pub(crate) trait Named {
+pub trait Named {
     ghost use Rattle.std.specs.Prelude.{ℕ, List};
 
     ghost name_of: { Self → List ℕ };

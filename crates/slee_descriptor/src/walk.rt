@@ -331,8 +331,8 @@ fn check_lists(alloc: Global, all: &Lookup, parts: &Parts) -> Result<(), DeployF
     Ok(())
 }
 
-/// The first fault of parts, if they have one.
-pub(crate) fn check_parts(alloc: Global, parts: &Parts) -> Result<(), DeployFault>
+/// The first fault of parts, if they have one. The types of scripts are no matter of it.
+pub fn check_parts(alloc: Global, parts: &Parts) -> Result<(), DeployFault>
     ensures { Says (parts_fault parts.now) result }
 {
     let all = lookup_of(alloc, parts)?;

@@ -1,0 +1,2 @@
+mod HandledBlocks
+mod Numbering

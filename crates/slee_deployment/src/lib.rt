@@ -1,0 +1,16 @@
+//! Deployments: parts in which the walk finds no fault, with all that scripts may name in them and all that is looked up by key.
+#![tactic(auto)]
+
+mod block_coding;
+mod coding;
+mod deployment;
+mod handlers;
+mod indexes;
+mod keys;
+mod part_coding;
+
+pub use deployment::Deployment;
+pub use slee_descriptor::{
+    Block, BlockEvent, CustomRule, DeployBad, DeployFault, EventType, LABEL_LIMIT, Method, Parts,
+    ProfileSpec, Relation, SelectRule, Service, Table, Variable, rule_of, variable_of,
+};
