@@ -1,0 +1,4 @@
+pub mod Values
+pub mod Sources
+pub mod Rows
+pub mod Documents

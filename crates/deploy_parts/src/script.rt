@@ -1,0 +1,112 @@
+//! Scripts of a document: a text, or lines that a newline joins.
+ghost use Rattle.std.specs.Prelude.{◌≡◌, ◌++◌, Option, IfOk, OnOk, string_bytes, option_map};
+ghost use Rattle.script_tree.specs.Reading.{script_read};
+ghost use Rattle.serde_json.specs.View.{view, items_view};
+ghost use Rattle.serde_json.specs.Find.{get};
+ghost use Rattle.deploy_parts.specs.Sources.{Says, misread_of, script_misread, source, lines_after, joined as joined_so, value_at as value_so, needed_misread, member_misread, under};
+
+use crate::fault::PartsFault;
+use deploy_shape::array_items;
+use deploy_tables::text_or_empty;
+use handler_lang::{Script, SyntaxFault, parse};
+use serde_json::Value;
+use slee_value::{NoMemory, Text};
+use std::alloc::Global;
+
+/// Adds each line behind a newline.
+fn push_lines(text: &mut String, lines: &[Value]) -> Result<(), NoMemory>
+    ensures { OnOk result (string_bytes text.new ≡ string_bytes text.old ++ lines_after (items_view lines.now)) }
+{
+    for line in lines {
+        text.push_str("\n")?;
+        text.push_str(text_or_empty(line))?;
+    }
+    Ok(())
+}
+
+/// The lines, joined by newlines.
+fn joined(alloc: Global, lines: &[Value]) -> Result<String, NoMemory>
+    ensures { IfOk result (λ s. string_bytes s ≡ joined_so (items_view lines.now)) }
+{
+    match lines {
+        [] => Ok(String::new(alloc)),
+        [first, rest @ ..] => {
+            let mut text = String::from_str(alloc, text_or_empty(first))?;
+            push_lines(&mut text, rest)?;
+            Ok(text)
+        }
+    }
+}
+
+/// The script that a text is.
+fn read_text(alloc: Global, text: &str) -> Result<Script, PartsFault>
+    ensures text { IfOk result (λ s. s.text ≡ text.now) }
+    ensures fault { Says (misread_of (script_read text.now)) result }
+{
+    match parse(alloc, text) {
+        Ok(script) => Ok(script),
+        Err(SyntaxFault::NoMemory) => Err(PartsFault::NoMemory),
+        Err(fault) => Err(PartsFault::Misread {
+            path: Text::from(String::new(alloc)),
+            fault,
+        }),
+    }
+}
+
+/// The script that a value is.
+fn read_script(alloc: Global, value: &Value) -> Result<Script, PartsFault>
+    ensures text { IfOk result (λ s. s.text ≡ source (view value.now)) }
+    ensures fault { Says (script_misread (view value.now)) result }
+{
+    match value.as_str() {
+        Some(text) => read_text(alloc, text),
+        None => {
+            let text = joined(alloc, array_items(value))?;
+            read_text(alloc, text.as_str())
+        }
+    }
+}
+
+/// The script that a value is at a member, or null where there is nothing.
+fn read_member(alloc: Global, value: &Value, name: &str) -> Result<Script, PartsFault>
+    ensures text { IfOk result (λ s. s.text ≡ source (value_so name.now (view value.now))) }
+    ensures fault { Says (script_misread (value_so name.now (view value.now))) result }
+{
+    match value.get(name) {
+        Some(member) => read_script(alloc, member),
+        None => read_script(alloc, &Value::Null),
+    }
+}
+
+/// The script that an object has to have at a member.
+pub(crate) fn needed_script(
+    alloc: Global,
+    value: &Value,
+    name: &str,
+) -> Result<Script, PartsFault>
+    ensures text { IfOk result (λ s. s.text ≡ source (value_so name.now (view value.now))) }
+    ensures fault { Says (needed_misread name.now (view value.now)) result }
+{
+    match read_member(alloc, value, name) {
+        Ok(script) => Ok(script),
+        Err(fault) => Err(fault.under(alloc, name)),
+    }
+}
+
+/// The script of an object at a member, if it has one.
+pub(crate) fn member_script(
+    alloc: Global,
+    value: &Value,
+    name: &str,
+) -> Result<Option<Script>, PartsFault>
+    ensures text { IfOk result (λ o. option_map (λ s. s.text) o ≡ option_map source (get name.now (view value.now))) }
+    ensures fault { Says (member_misread name.now (view value.now)) result }
+{
+    match value.get(name) {
+        Some(member) => match read_script(alloc, member) {
+            Ok(script) => Ok(Some(script)),
+            Err(fault) => Err(fault.under(alloc, name)),
+        },
+        None => Ok(None),
+    }
+}
