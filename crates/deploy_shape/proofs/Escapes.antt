@@ -8,7 +8,7 @@ use Rattle.deploy_shape.specs.Pointers.{escaped_byte, escaped}
 ascii_then : (x : ℕ) (xs : List ℕ) → x < 128 → IsUtf8 xs → IsUtf8 (x ∷ xs)
 ascii_then x xs small u = IsUtf8-append (x ∷ []) xs (subst IsUtf8 (encode_ascii x small) (IsUtf8-encode x (low_scalar x (omega arith)))) u
 
-are_ascii : List ℕ → Bool
+abbrev are_ascii : List ℕ → Bool
 are_ascii [] = true
 are_ascii (x ∷ xs) = nat_lt x 128 && are_ascii xs
 
@@ -17,7 +17,7 @@ are_ascii-utf8 [] e = IsUtf8-nil
 are_ascii-utf8 (x ∷ xs) e = let p = and_parts _ _ e in ascii_then x xs (ltb-true _ _ p.0) (are_ascii-utf8 xs p.1)
 
 -- the escapes of the bytes below n are ASCII
-escapes_below : ℕ → Bool
+abbrev escapes_below : ℕ → Bool
 escapes_below zero = true
 escapes_below (suc n) = are_ascii (escaped_byte n) && escapes_below n
 

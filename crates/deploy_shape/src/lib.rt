@@ -22,5 +22,7 @@ pub use map::{MapOf, Named};
 pub use numbers::{array_items, items_in, member_text, number_of_name, numbers_of};
 pub use object::{End, May, Need, NeedIf, Object, Table, check_member};
 pub use script::ScriptForm;
-pub use text::{AnyText, FreshName, Label, Reference, TextOf, TextRule, check_fresh, check_label, check_name};
+pub use text::{
+    AnyText, FreshName, Label, Reference, TextOf, TextRule, check_fresh, check_label, check_name,
+};
 pub use word::{ProfileWord, TypeWord, kind_of_word};

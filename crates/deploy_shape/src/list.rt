@@ -56,10 +56,6 @@ fn check_item<F: Form>(
 {
     match form.check(alloc, i, owner, item) {
         Ok(()) => Ok(()),
-        Err(fault) => Err(under_step(
-            alloc,
-            format!(in alloc; "{i}")?.as_str(),
-            fault,
-        )),
+        Err(fault) => Err(under_step(alloc, format!(in alloc; "{i}")?.as_str(), fault)),
     }
 }
