@@ -134,8 +134,9 @@ impl<'a, 'v> Table for BlockParts<'a, 'v> {
     fn check_wanted(&self, alloc: Global, number: usize, value: &Value) -> Result<(), DeployFault> {
         let methods = May("methods", MapOf(Named(MethodForm)), Callbacks);
         let events = May("events", Handlers(self.0), methods);
-        May("relations", MapOf(Named(RelationForm(self.0))), events)
-            .check_wanted(alloc, number, value)
+        May("relations", MapOf(Named(RelationForm(self.0))), events).check_wanted(
+            alloc, number, value,
+        )
     }
 
     fn knows(&self, name: &str) -> bool {
@@ -153,8 +154,7 @@ impl<'a, 'v> Table for BlockValues<'a, 'v> {
     fn check_wanted(&self, alloc: Global, number: usize, value: &Value) -> Result<(), DeployFault> {
         let aliases = May("aliases", MapOf(AliasEntry(self.0)), BlockParts(self.0));
         let attributes = May("attributes", MapOf(Named(TextOf(TypeWord))), aliases);
-        May("fields", MapOf(Named(TextOf(TypeWord))), attributes)
-            .check_wanted(alloc, number, value)
+        May("fields", MapOf(Named(TextOf(TypeWord))), attributes).check_wanted(alloc, number, value)
     }
 
     fn knows(&self, name: &str) -> bool {

@@ -15,7 +15,6 @@ use serde_json::Value;
 use slee_descriptor::{DeployBad, DeployFault};
 use std::alloc::Global;
 
-
 /// The key of an event type.
 #[derive(Drop)]
 struct EventKey<'a, 'v>(&'a Numbers<'v>);

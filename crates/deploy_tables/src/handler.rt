@@ -58,16 +58,13 @@ impl<'a, 'v, 'b, 'e> Table for HandlerTable<'a, 'v, 'b, 'e> {
         let rest = May("mask", Flag, Need("on", ScriptForm, End));
         let chosen = NeedIf("custom", wanted, custom, rest);
         let initial = May("initial", Initial(event), chosen);
-        Need("event", TextOf(EventName { all, handlers }), initial)
-            .check_wanted(alloc, number, value)
+        Need("event", TextOf(EventName { all, handlers }), initial).check_wanted(
+            alloc, number, value,
+        )
     }
 
     fn knows(&self, name: &str) -> bool {
-        "event" == name
-            || "initial" == name
-            || "custom" == name
-            || "mask" == name
-            || "on" == name
+        "event" == name || "initial" == name || "custom" == name || "mask" == name || "on" == name
     }
 }
 

@@ -49,7 +49,7 @@ impl<'v> Ids<'v> {
 
     /// The component is that of the item, if it was none's before.
     fn note(&mut self, triple: Triple<'v>, number: usize) -> Result<(), NoMemory>
-        ensures { OnOk result ((q : ComponentId) → id_answer self.new q ≡ or_later (id_answer self.old q) (only_id (component_of triple) number q)) }
+        ensures { OnOk result ((q : ComponentId) → id_answer self.new q ≡ or_later (id_answer self.old q) (only_id (component_of triple.entry) number q)) }
     {
         if self.found.get(&triple).is_some() {
             return Ok(());

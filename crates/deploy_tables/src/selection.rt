@@ -77,7 +77,12 @@ impl<'e> Form for Initial<'e> {
 fn has_custom(words: &[Value]) -> bool
     ensures { result ≡ list_any (bytes_eq (codes "custom")) (texts_of (items_view words.now)) }
 {
-    words.iter().any(|word| "custom" == text_or_empty(word))
+    for word in words {
+        if "custom" == text_or_empty(word) {
+            return true;
+        }
+    }
+    false
 }
 
 /// Whether an event is initial by custom selection.
