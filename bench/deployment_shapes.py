@@ -235,25 +235,6 @@ TEXTS += [(PRIORITY % n, "fine") for n in ("0", "127", "-128")]
 TEXTS += [(PRIORITY % n, "shape /blocks/0/relations/r/priority range") for n in ("128", "-129", "9223372036854775807", "-9223372036854775808")]
 
 
-SCRIPTS = [
-    ("on", {"events": [on("ping"), {"event": "timer", "on": "x"}]}, "syntax /blocks/0/events/1/on 1:2 end"),
-    ("lines", {"events": [{"event": "ping", "on": ["let x = 1;", "  ?"]}]}, "syntax /blocks/0/events/0/on 2:3 token"),
-    ("lines are joined by newlines", {"events": [{"event": "ping", "on": ["emit", "1", ";"]}]}, "fine"),
-    ("no lines", {"events": [{"event": "ping", "on": []}], "remove": []}, "fine"),
-    ("method", {"methods": {"b": {"do": "}"}, "a": {"do": ";"}}}, "syntax /blocks/0/methods/a/do 1:1 expected"),
-    ("handlers before methods", {"methods": {"a": {"do": ";"}}, "events": [{"event": "ping", "on": ";"}]}, "syntax /blocks/0/events/0/on 1:1 expected"),
-    ("methods before callbacks", {"methods": {"a": {"do": ";"}}, "exception": ";"}, "syntax /blocks/0/methods/a/do 1:1 expected"),
-    ("exception", {"remove": "?", "rolled_back": "?", "exception": "if true {"}, "syntax /blocks/0/exception 1:10 end"),
-    ("rolled_back", {"remove": "?", "rolled_back": "?", "exception": ""}, "syntax /blocks/0/rolled_back 1:1 token"),
-    ("remove", {"remove": "?", "rolled_back": ""}, "syntax /blocks/0/remove 1:1 token"),
-    ("brackets", {"remove": "emit " + "(" * 65}, "syntax /blocks/0/remove 1:70 deep"),
-    ("a shape fault comes first", {"events": [{"event": "ping", "on": "?"}], "zz": 1}, "shape /blocks/0/zz unknown-member"),
-]
-TEXTS += [(json.dumps(block_with(**members)), wanted) for _, members, wanted in SCRIPTS]
-TEXTS += [(json.dumps(deployment(blocks=[item("a"), item("b", remove="?"), item("c", exception="?")])), "syntax /blocks/1/remove 1:1 token"),
-          (json.dumps(deployment(blocks=[item("a", remove="?")], services=[item("s", root="b")])), "shape /services/0/root unknown-name")]
-
-
 def write(folder):
     """The rows as the input of the program deploy_rows, and what it is to print."""
     rows = [(json.dumps(row, ensure_ascii=False, separators=(",", ":")), wanted) for _, row, wanted in ROWS + deployment_rows.ROWS]

@@ -1,5 +1,5 @@
-//! Reads deployments from standard input, one a line, and prints what each is: no JSON, its first fault, its first script
-//! that can't be read, or that it is fine. With a number behind its name it reads the whole input as one document so many times.
+//! Reads JSON documents from standard input, one a line, and prints what each is: no JSON, its first fault as a deployment,
+//! or that its shape is fine. With a number behind its name it reads the whole input as one document so many times.
 #![tactic(auto)]
 
 mod rows;

@@ -1,10 +1,10 @@
 //! The documents of the input.
 
 use crate::trouble::Trouble;
-use deploy_json::{ReadFault, read_parts};
 use deploy_shape::printed;
-use handler_lang::SyntaxBad;
-use slee_descriptor::DeployBad;
+use deploy_tables::check_document;
+use serde_json::Value;
+use slee_descriptor::{DeployBad, DeployFault};
 use std::{env, io};
 
 /// Reads each line, or the whole input so many times.
@@ -27,21 +27,23 @@ fn print_all(rt: &HostRuntime, text: &str) -> Result<(), Trouble> {
 }
 
 fn print_row(rt: &HostRuntime, line: &str) -> Result<(), Trouble> {
-    match read_parts(rt.alloc(), line.as_bytes()) {
-        Ok(_) => println!(rt; "fine")?,
-        Err(ReadFault::NoMemory) => return Err(Trouble::Memory),
-        Err(ReadFault::Json) => println!(rt; "json")?,
-        Err(ReadFault::Shape { pointer, kind }) => {
-            println!(rt; "shape {} {}", printed(pointer.as_str()), shape_word(kind))?;
-        }
-        Err(ReadFault::Syntax {
-            pointer,
-            line,
-            column,
-            kind,
-        }) => {
-            let place = printed(pointer.as_str());
-            println!(rt; "syntax {place} {line}:{column} {}", syntax_word(kind))?;
+    match Value::from_slice(rt.alloc(), line.as_bytes()) {
+        Ok(value) => print_fault(rt, &value),
+        Err(error) => if error.is_memory() {
+            Err(Trouble::Memory)
+        } else {
+            println!(rt; "json")?;
+            Ok(())
+        },
+    }
+}
+
+fn print_fault(rt: &HostRuntime, value: &Value) -> Result<(), Trouble> {
+    match check_document(rt.alloc(), value) {
+        Ok(()) => println!(rt; "fine")?,
+        Err(DeployFault::NoMemory) => return Err(Trouble::Memory),
+        Err(DeployFault::At { path, kind }) => {
+            println!(rt; "shape {} {}", printed(path.as_str()), shape_word(kind))?;
         }
     }
     Ok(())
@@ -60,24 +62,21 @@ fn shape_word(kind: DeployBad) -> &'static str {
     }
 }
 
-fn syntax_word(kind: SyntaxBad) -> &'static str {
-    match kind {
-        SyntaxBad::Token => "token",
-        SyntaxBad::Expected => "expected",
-        SyntaxBad::Deep => "deep",
-        SyntaxBad::End => "end",
-    }
-}
-
 /// Reads a document so many times.
 fn repeat(rt: &HostRuntime, text: &str, count: u32) -> Result<(), Trouble> {
     for _ in 0..count {
-        match read_parts(rt.alloc(), text.as_bytes()) {
-            Ok(_) => {}
-            Err(ReadFault::NoMemory) => return Err(Trouble::Memory),
-            Err(_) => return Err(Trouble::Words),
-        }
+        read(rt, text)?;
     }
     println!(rt; "{count}")?;
     Ok(())
+}
+
+fn read(rt: &HostRuntime, text: &str) -> Result<(), Trouble> {
+    let Ok(value) = Value::from_slice(rt.alloc(), text.as_bytes()) else {
+        return Err(Trouble::Words);
+    };
+    match check_document(rt.alloc(), &value) {
+        Ok(()) => Ok(()),
+        Err(_) => Err(Trouble::Words),
+    }
 }

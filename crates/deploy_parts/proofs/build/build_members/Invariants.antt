@@ -1,7 +1,0 @@
-use Rattle.std.proofs.Common.{◌≡◌, ◌++◌}
-use Rattle.serde_json.specs.View.{members_view}
-use Rattle.deploy_parts.specs.Values.{entries}
-use Rattle.deploy_parts.proofs.build.build_members.Given as goal
-
-abbrev pub invariant-loop-name : goal.invariant-loop-name
-invariant-loop-name g l = l.list ++ entries (g.B.BuildEntry.built_entry l.form) (members_view l.name-iterator) ≡ entries (g.B.BuildEntry.built_entry l.form) (members_view l.members.entries)
