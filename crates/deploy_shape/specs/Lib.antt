@@ -1,0 +1,5 @@
+pub mod Pointers
+pub mod Forms
+pub mod Texts
+pub mod Numbers
+pub mod Scripts
