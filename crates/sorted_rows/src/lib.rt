@@ -2,6 +2,9 @@
 #![tactic(auto)]
 
 mod keyed;
+mod keyed_by_number;
+mod keyed_by_pair;
+mod keyed_by_text;
 mod places;
 mod rows;
 
