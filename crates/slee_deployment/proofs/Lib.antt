@@ -1,2 +1,0 @@
-mod HandledBlocks
-mod Numbering

@@ -1,8 +1,0 @@
--- Which item of a list has each key, as an index has it.
-use Rattle.std.specs.HashMap.{get_by_text}
-use Rattle.slee_descriptor.specs.Rules.{Numbering}
-use Rattle.slee_deployment.specs.declared.keys.Keys.{Keys}
-
--- What the index has for a key.
-abbrev pub number_in : Keys → Numbering
-number_in keys = get_by_text keys.numbers

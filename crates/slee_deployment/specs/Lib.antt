@@ -1,5 +1,0 @@
-pub mod CodesOfParts
-pub mod Keys
-pub mod Handlers
-pub mod Handling
-pub mod Indexes
