@@ -1,5 +1,5 @@
 -- one event more is masked
-use Rattle.std.proofs.Common.{◌≡◌, ◌+◌, ◌-◌, ◌≤◌, ◌∷◌, length, arith, ap}
+use Rattle.std.proofs.Common.{length, arith, ap}
 use Rattle.event_mask.proofs.MaskLemmas.{mask_on}
 use Rattle.event_mask.proofs.masks.mask_each.Goals as goal
 
