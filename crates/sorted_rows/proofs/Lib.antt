@@ -5,3 +5,5 @@ pub mod RowLemmas
 pub mod CutLemmas
 pub mod RunLemmas
 pub mod PartLemmas
+pub mod NumberLemmas
+pub mod WordLemmas
