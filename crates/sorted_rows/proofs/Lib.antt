@@ -6,4 +6,3 @@ pub mod CutLemmas
 pub mod RunLemmas
 pub mod PartLemmas
 pub mod NumberLemmas
-pub mod WordLemmas

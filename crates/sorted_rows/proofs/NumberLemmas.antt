@@ -1,12 +1,13 @@
 -- Rows that rise by a number which is below the next one: what a push, a filter, a put and a change of other parts keep.
-use Rattle.std.proofs.Common.{◌≡◌, ℕ, ◌+◌, ◌<◌, Bool, true, false, List, [], ◌∷◌, ◌++◌, map, refl, sym, ap, ◌∙◌, arith, inl, inr}
-use Rattle.std.specs.Prelude.{◌&&◌, ◌==◌, ◌||◌, nat_lt, IsTrue}
+use Rattle.std.proofs.Common.{◌≡◌, ℕ, ◌+◌, ◌<◌, Bool, true, false, List, [], ◌∷◌, ◌++◌, map, refl, ◌∙◌, arith, inl, inr}
+use Rattle.std.specs.Prelude.{◌&&◌, nat_lt, IsTrue}
 use Rattle.std.specs.List.{AllByRecursion, filter, list_all}
 use Rattle.std.proofs.lemmas.Bool.{cases_Bool}
 use Rattle.std.proofs.lemmas.Bool.Decides.{nat_tests}
 use Rattle.slee_state.specs.Orders.{put}
 use Rattle.slee_state.specs.Ordered.{are_below}
-use Rattle.sorted_rows.specs.Keys.{Key, key_before, is_key, number_key, Rises}
+use Rattle.sorted_rows.specs.Keys.{Key, number_key, Rises}
+use Rattle.sorted_rows.proofs.AgreeLemmas.{number_agrees}
 use Rattle.sorted_rows.proofs.OrderLemmas.{AllInOrder, IsBefore, all_from_all, in_order, rises_again}
 
 both_true : (a b : Bool) → (a && b) ≡ true → (a ≡ true) × (b ≡ true)
@@ -18,21 +19,6 @@ true_both : (a b : Bool) → a ≡ true → b ≡ true → (a && b) ≡ true
 true_both true true passes also = refl
 true_both true false passes also = cc
 true_both false b passes also = cc
-
-or_nothing : (p q : Bool) → (p || (q && false)) ≡ p
-or_nothing true q = refl
-or_nothing false true = refl
-or_nothing false false = refl
-
-and_always : (p : Bool) → (p && true) ≡ p
-and_always true = refl
-and_always false = refl
-
-pub number_before : (a b : ℕ) → key_before (number_key a) (number_key b) ≡ nat_lt a b
-number_before a b = or_nothing (nat_lt a b) (a == b)
-
-pub number_is : (a b : ℕ) → is_key (number_key a) (number_key b) ≡ (a == b)
-number_is a b = and_always (a == b)
 
 module _ {Row : Type 0} (number : Row → ℕ) where
   all_passed : (p q : Row → Bool) → ((x : Row) → p x ≡ true → q x ≡ true) → (rows : List Row) → list_all p rows ≡ true → list_all q rows ≡ true
@@ -80,7 +66,7 @@ module _ {Row : Type 0} (number : Row → ℕ) where
 
   module _ (key : Row → Key) (is_number : (x : Row) → key x ≡ number_key (number x)) where
     before_next : (n : ℕ) (x y : Row) → number y ≡ n → nat_lt (number x) n ≡ true → IsBefore key x y
-    before_next n x y is low = rw (is_number x, is_number y, is) (number_before (number x) n ∙ low)
+    before_next n x y is low = rw (is_number x, is_number y, is) (number_agrees (number x) n ∙ low)
 
     all_before : (n : ℕ) (row : Row) (rows : List Row) → number row ≡ n → list_all (λ x. nat_lt (number x) n) rows ≡ true → AllByRecursion (λ x. IsBefore key x row) rows
     all_before n row [] is all = tt
