@@ -20,7 +20,7 @@ module _ {Row : Type 0} (R : Row → Row → Type 0) (p q r : Row → Bool) (par
     | inr high ↦ rw high (omega arith)
   ]
 
-  fails_later : (t : Row → Bool) → ((x y : Row) → R x y → t y ≡ true → t x ≡ true) → (x : Row) → t x ≡ false → (rows : List Row) → AllByRecursion (R x) rows → AllByRecursion (λ y. t y ≡ false) rows
+  pub fails_later : (t : Row → Bool) → ((x y : Row) → R x y → t y ≡ true → t x ≡ true) → (x : Row) → t x ≡ false → (rows : List Row) → AllByRecursion (R x) rows → AllByRecursion (λ y. t y ≡ false) rows
   fails_later t down x fails rows later = all_from_all (R x) (λ y. t y ≡ false) one rows later
     where
       one : (y : Row) → R x y → t y ≡ false

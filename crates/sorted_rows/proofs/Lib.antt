@@ -5,4 +5,8 @@ pub mod RowLemmas
 pub mod CutLemmas
 pub mod RunLemmas
 pub mod PartLemmas
+pub mod HeadLemmas
+pub mod ShareLemmas
+pub mod AgreeLemmas
+pub mod ChangeLemmas
 pub mod NumberLemmas

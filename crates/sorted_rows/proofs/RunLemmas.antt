@@ -1,5 +1,5 @@
 -- The rows of one number, and those of one pair of numbers, are a run.
-use Rattle.std.proofs.Common.{◌≡◌, ℕ, ◌+◌, ◌≤◌, Bool, List, ◌++◌, take, drop, arith}
+use Rattle.std.proofs.Common.{◌≡◌, ℕ, ◌≤◌, Bool, List, ◌++◌, take, drop, arith}
 use Rattle.std.specs.Prelude.{not, ◌||◌, ◌&&◌, ◌==◌, nat_lt, nat_le}
 use Rattle.std.specs.List.{filter, prefix_len}
 use Rattle.std.proofs.lemmas.Bool.Decides.{nat_tests}
@@ -8,13 +8,13 @@ use Rattle.sorted_rows.proofs.OrderLemmas.{IsBefore, in_order, first_earlier, fi
 use Rattle.sorted_rows.proofs.CutLemmas.{Parts, cut_is, front_within}
 
 module _ {Row : Type 0} (key : Row → Key) (a : ℕ) where
-  abbrev lower : Row → Bool
+  abbrev pub lower : Row → Bool
   lower x = nat_lt (key x).first a
 
-  abbrev up_to : Row → Bool
+  abbrev pub up_to : Row → Bool
   up_to x = nat_le (key x).first a
 
-  parts : Parts (IsBefore key) lower up_to (λ x. not ((key x).first == a))
+  pub parts : Parts (IsBefore key) lower up_to (λ x. not ((key x).first == a))
   parts = record {
     within = λ x low. grind (arith, nat_tests);
     lower = first_earlier key a;
@@ -29,13 +29,13 @@ module _ {Row : Type 0} (key : Row → Key) (a : ℕ) where
   run_cut rows rises = cut_is _ _ _ _ parts rows (in_order key rows rises)
 
 module _ {Row : Type 0} (key : Row → Key) (a b : ℕ) where
-  abbrev lower_pair : Row → Bool
+  abbrev pub lower_pair : Row → Bool
   lower_pair x = nat_lt (key x).first a || (((key x).first == a) && nat_lt (key x).second b)
 
-  abbrev up_to_pair : Row → Bool
+  abbrev pub up_to_pair : Row → Bool
   up_to_pair x = nat_lt (key x).first a || (((key x).first == a) && nat_le (key x).second b)
 
-  pair_parts : Parts (IsBefore key) lower_pair up_to_pair (λ x. not (is_pair a b (key x)))
+  pub pair_parts : Parts (IsBefore key) lower_pair up_to_pair (λ x. not (is_pair a b (key x)))
   pair_parts = record {
     within = λ x low. grind (arith, nat_tests);
     lower = pair_earlier key a b;

@@ -7,6 +7,11 @@ mod keyed_by_pair;
 mod keyed_by_text;
 mod places;
 mod rows;
+mod runs;
 
 pub use keyed::Keyed;
 pub use rows::{cut_row, cut_rows_of, cut_rows_of_pair, has_row, place_of, put_row, row_of};
+pub use runs::{
+    cut_first_of, first_row_of, has_row_of, has_row_of_pair, place_of_first, place_of_pair,
+    row_of_pair, rows_of, rows_of_pair,
+};

@@ -23,7 +23,7 @@ pub fn count_before<R: Keyed>(rows: &[R], first: u64, second: u64, text: &[u8]) 
 }
 
 /// How many rows have a lower first number.
-fn count_lower<R: Keyed>(rows: &[R], first: u64) -> usize
+pub fn count_lower<R: Keyed>(rows: &[R], first: u64) -> usize
     requires { Rises R.key rows.now }
     ensures count { result ≡ prefix_len (λ row. nat_lt (R.key row).first first) rows.now }
     ensures within { result ≤ length rows.now }
@@ -41,7 +41,7 @@ fn count_up_to<R: Keyed>(rows: &[R], first: u64) -> usize
 }
 
 /// How many rows have a lower pair of numbers.
-fn count_lower_pair<R: Keyed>(rows: &[R], first: u64, second: u64) -> usize
+pub fn count_lower_pair<R: Keyed>(rows: &[R], first: u64, second: u64) -> usize
     requires { Rises R.key rows.now }
     ensures count { result ≡ prefix_len (λ row. nat_lt (R.key row).first first || (((R.key row).first == first) && nat_lt (R.key row).second second)) rows.now }
     ensures within { result ≤ length rows.now }

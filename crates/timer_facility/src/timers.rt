@@ -12,7 +12,7 @@ use crate::occurrences::{DueFault, DueList, OCCURRENCE_LIMIT, count_of_all, list
 use crate::sweeps::{advance_rows, cut_rows_on};
 use slee_state::{Timer, TimerSpec};
 use slee_value::{ActivityId, NoMemory, TimerId};
-use sorted_rows::{cut_rows_of, put_row, row_of};
+use sorted_rows::{cut_rows_of, first_row_of, put_row};
 use std::alloc::Global;
 use std::marker::Model;
 
@@ -168,6 +168,6 @@ impl Timers {
     pub fn find(&self, timer: TimerId) -> Option<&Timer>
         ensures { option_copied result ≡ timer_at self.now.timers timer.0 }
     {
-        row_of(&self.rows, timer.0, 0, &[])
+        first_row_of(&self.rows, timer.0)
     }
 }

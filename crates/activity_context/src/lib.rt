@@ -1,0 +1,11 @@
+//! Activity contexts: activities with their attachments, attributes and names.
+#![tactic(auto)]
+
+mod activities;
+mod contexts;
+mod fault;
+mod links;
+mod names;
+
+pub use contexts::Contexts;
+pub use fault::AcFault;
