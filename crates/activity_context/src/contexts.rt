@@ -4,10 +4,10 @@ ghost use Rattle.slee_state.specs.Ordered.{are_below};
 ghost use Rattle.slee_state.specs.Orders.{put};
 ghost use Rattle.slee_state.specs.Contexts.{activity_at, external, with_activity, with_end, without_activity, attribute_at, with_attribute, without_attributes, is_linked, links_on, with_link, without_link, without_links_on, named_at, with_name, without_name, without_names_of};
 ghost use Rattle.activity_context.specs.Faults.{fault_of, start_fault, active_fault, bind_fault, unbind_fault};
-ghost use Rattle.activity_context.specs.Views.{HasRoom, activity_before};
+ghost use Rattle.activity_context.specs.Views.{HasRoom, activity_before, parts_of_link, parts_of_name, parts_of_attribute};
 
 use crate::AcFault;
-use crate::{activities, links, names};
+use crate::{activities, attributes, links, names};
 use slee_state::{AcKind, Activity, Attribute, Link, Named};
 use slee_value::{ActivityId, EntityId, Name, NoMemory, Text, Value};
 use sorted_rows::{cut_row, cut_rows_of, put_row, row_of, rows_of};
@@ -162,14 +162,7 @@ impl Contexts {
         ensures set { self.new ≡ record self.old { attributes = with_attribute self.old.attributes activity.0 key value; rooms = record self.old.rooms { attributes = self.new.rooms.attributes } } }
         ensures room { self.old.rooms.attributes ≤ self.new.rooms.attributes + 1 }
     {
-        put_row(
-            &mut self.attributes,
-            Attribute {
-                activity,
-                key,
-                value,
-            },
-        );
+        attributes::put_attribute(&mut self.attributes, activity, key, value);
     }
 
     fn fault_of_bind(&self, name: &Text, activity: ActivityId) -> Option<AcFault>
@@ -285,7 +278,7 @@ impl Contexts {
     /// The attachment at this place; they rise by activity, then by entity.
     pub fn links_at(&self, place: u64) -> (EntityId, ActivityId)
         requires { place < length self.now.links }
-        ensures { option_map (λ row. (row.entity, row.activity)) (slice_get self.now.links place) ≡ Some result }
+        ensures { option_map parts_of_link (slice_get self.now.links place) ≡ Some result }
     {
         let row = &self.links[place as usize];
         (row.entity, row.activity)
@@ -301,7 +294,7 @@ impl Contexts {
     /// The name at this place, with its activity; they rise in byte order.
     pub fn names_at(&self, place: u64) -> (&Text, ActivityId)
         requires { place < length self.now.names }
-        ensures { option_map (λ row. (row.name, row.activity)) (slice_get self.now.names place) ≡ Some (result.0.now, result.1) }
+        ensures { option_map parts_of_name (slice_get self.now.names place) ≡ Some (result.0.now, result.1) }
     {
         let row = &self.names[place as usize];
         (&row.name, row.activity)
@@ -317,7 +310,7 @@ impl Contexts {
     /// The attribute at this place; they rise by activity, then by key.
     pub fn attrs_at(&self, place: u64) -> (ActivityId, &Text, &Value)
         requires { place < length self.now.attributes }
-        ensures { option_map (λ row. (row.activity, row.key, row.value)) (slice_get self.now.attributes place) ≡ Some (result.0, result.1.now, result.2.now) }
+        ensures { option_map parts_of_attribute (slice_get self.now.attributes place) ≡ Some (result.0, result.1.now, result.2.now) }
     {
         let row = &self.attributes[place as usize];
         (row.activity, &row.key, &row.value)

@@ -2,6 +2,7 @@
 #![tactic(auto)]
 
 mod activities;
+mod attributes;
 mod contexts;
 mod fault;
 mod links;

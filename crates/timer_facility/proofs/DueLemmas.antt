@@ -1,5 +1,5 @@
 -- The moments of a timer's due occurrences.
-use Rattle.std.proofs.Common.{◌≡◌, ℕ, ◌+◌, ◌-◌, ◌*◌, ◌<◌, ◌≤◌, ◌^◌, ◌≢◌, zero, suc, Bool, true, false, refl, arith, inl, inr}
+use Rattle.std.proofs.Common.{◌≡◌, ℕ, ◌+◌, ◌-◌, ◌*◌, ◌<◌, ◌≤◌, ◌^◌, zero, suc, Bool, true, false, refl, arith, inl, inr}
 use Rattle.std.specs.Prelude.{◌/◌, ◌==◌, ◌&&◌, ◌||◌, nat_lt, nat_le, min}
 use Rattle.std.proofs.Math.Nat.{div-mul-le_self, suc-mul}
 use Rattle.std.proofs.lemmas.Bool.{cases_Bool}
@@ -16,16 +16,18 @@ due_few t to k few = elim (cases_Bool (nat_lt to t.next)) [
   | inl early ↦ let none : k < 0 = rw early at few in absurd (omega arith)
   | inr late ↦
       let reached : t.next ≤ to = grind (arith, nat_tests) in
-      let rest = rw late at few in
-      (reached, elim (cases_Bool (t.period == 0)) [
-        | inl once ↦ let one : k < 1 = rw once at rest in omega arith
-        | inr many ↦
-            let more = rw many at rest in
-            elim (cases_Bool (t.left == 0)) [
-              | inl endless ↦ let some : k < repeated t to = rw endless at more in omega arith
-              | inr ends ↦ let some : k < min (repeated t to) t.left = rw ends at more in omega arith
-            ]
-      ])
+      let rest = rw late at few in (
+        reached,
+        elim (cases_Bool (t.period == 0)) [
+          | inl once ↦ let one : k < 1 = rw once at rest in omega arith
+          | inr many ↦
+              let more = rw many at rest in
+              elim (cases_Bool (t.left == 0)) [
+                | inl endless ↦ let some : k < repeated t to = rw endless at more in omega arith
+                | inr ends ↦ let some : k < min (repeated t to) t.left = rw ends at more in omega arith
+              ]
+        ],
+      )
 ]
 
 -- a due occurrence's moment is no later than the moment
@@ -65,17 +67,7 @@ moment_fits t used goes fits = elim (cases_Bool (used == 0)) [
   | inl none ↦ let unused : used ≡ 0 = grind (arith, nat_tests) in rw unused (omega arith)
   | inr some ↦
       let rest : ((t.left == 0 || nat_lt used t.left) && nat_le (t.next + used * t.period) last_moment) ≡ true = rw some at goes in
-      let low = (both_true _ _ rest).1 in
+      let low = (both_true (t.left == 0 || nat_lt used t.left) (nat_le (t.next + used * t.period) last_moment) rest).1 in
       let within : t.next + used * t.period ≤ 4000000000000000 = grind (arith, nat_tests) in
       omega arith
-]
-
--- what is used up of a timer that goes on and has an end
-pub used_within : (t : Timer) (used : ℕ) → goes_on t used ≡ true → t.left ≢ 0 → used ≤ t.left
-used_within t used goes ends = elim (cases_Bool (used == 0)) [
-  | inl none ↦ let unused : used ≡ 0 = grind (arith, nat_tests) in omega arith
-  | inr some ↦
-      let rest : ((t.left == 0 || nat_lt used t.left) && nat_le (t.next + used * t.period) last_moment) ≡ true = rw some at goes in
-      let either = (both_true _ _ rest).0 in
-      grind (arith, nat_tests)
 ]

@@ -116,13 +116,13 @@ module _ {X : Type 0} (before : X → X → Bool) (o : IsStrictWeakOrder before)
   inserted_ties k x [] up = refl
   inserted_ties k x (y ∷ ys) up = elim (cases_Bool (before x y)) [
     | inl low ↦ rw low (elim (cases_Bool (ties before k x)) [
-        | inl is ↦ let none = none_kept (ties before k) (y ∷ ys) (apart_behind k x y ys low up.0 is) in rw (is, none) refl
-        | inr is ↦ rw is (sym (nothing_added (filter (ties before k) (y ∷ ys))))
-      ])
+      | inl is ↦ let none = none_kept (ties before k) (y ∷ ys) (apart_behind k x y ys low up.0 is) in rw (is, none) refl
+      | inr is ↦ rw is (sym (nothing_added (filter (ties before k) (y ∷ ys))))
+    ])
     | inr high ↦ rw high (elim (cases_Bool (ties before k y)) [
-        | inl is ↦ rw is (ap (λ rest. y ∷ rest) (inserted_ties k x ys up.1))
-        | inr is ↦ rw is (inserted_ties k x ys up.1)
-      ])
+      | inl is ↦ rw is (ap (λ rest. y ∷ rest) (inserted_ties k x ys up.1))
+      | inr is ↦ rw is (inserted_ties k x ys up.1)
+    ])
   ]
     where
       nothing_added : (zs : List X) → zs ++ [] ≡ zs

@@ -80,6 +80,7 @@ fn next_moment(timer: &Timer, to: u64) -> u64
     requires { IsTrue (goes_on timer.now (due_count timer.now to)) }
     ensures { result ≡ timer.now.next + due_count timer.now to * timer.now.period }
 {
+    let _next = timer.next;
     moment_behind(timer, to) as u64
 }
 

@@ -30,9 +30,7 @@ pub type DueList = Vec<Due>;
 #[derive(Debug, Clone, Copy, PartialEq, Eq)]
 pub enum DueFault {
     /// There would be this many.
-    TooMany {
-        count: u128,
-    },
+    TooMany { count: u128 },
     /// Memory ran out.
     NoMemory,
 }

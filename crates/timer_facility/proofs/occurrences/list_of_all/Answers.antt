@@ -6,6 +6,6 @@ use Rattle.timer_facility.specs.Occurrences.{occurrence}
 use Rattle.timer_facility.proofs.SortLemmas.{sorted_mapped}
 use Rattle.timer_facility.proofs.occurrences.list_of_all.Goals as goal
 
-pub returns-in_ok-put_in_order : goal.returns-in_ok-put_in_order
-returns-in_ok-put_in_order c =
-    ap (map occurrence) c.in_ok-put_in_order.ensures ∙ sorted_mapped occurrence occurrence_before _ ∙ ap (sorted occurrence_before) c.in_ok-list.ensures
+pub returns : goal.returns
+returns c =
+    ap (map occurrence) c.in_ok-put_in_order.ensures ∙ sorted_mapped occurrence occurrence_before c.in_ok-list.list.items ∙ ap (sorted occurrence_before) c.in_ok-list.ensures

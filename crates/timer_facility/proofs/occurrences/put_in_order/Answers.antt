@@ -13,8 +13,8 @@ ranks = record {
   chain = λ x y z one two. grind (arith, nat_tests);
 }
 
-pub returns-in_ok-sort_by : goal.returns-in_ok-sort_by
-returns-in_ok-sort_by c =
+pub returns : goal.returns
+returns c =
     let up = c.in_ok-sort_by.ensures.sorted due_before ranks (answers_always _ _ _ (λ f a r f' k. search rules)) in
-    let stable = rw c.reverse.ensures at (c.sort_by.ensures.stable due_before ranks (answers_always _ _ _ (λ f a r f' k. search rules))) in
-    sorted_is due_before ranks _ _ up stable
+    let stable = rw c.reverse.ensures.items at (c.sort_by.ensures.stable due_before ranks (answers_always _ _ _ (λ f a r f' k. search rules))) in
+    sorted_is due_before ranks c.args.list.now.items _ up stable

@@ -13,4 +13,4 @@ loop-row-preserved c =
     let x : Timer = get_or c.loop-row.rows c.loop-row.row-index d in
     let within : c.loop-row.row-index < length c.loop-row.rows = omega (arith, c.loop-row-test.true, c.loop-row.auto.rows) in
     ap (λ (row : Timer). set c.loop-row.rows c.loop-row.row-index row) c.use_up.ensures
-        ∙ map_over_more (λ t. behind t (due_count t c.args.to)) c.args.rows.now c.loop-row.rows c.loop-row.row-index x c.loop-row-test.true c.loop-row.invariant (get_or_default c.loop-row.rows c.loop-row.row-index d x within)
+    ∙ map_over_more (λ t. behind t (due_count t c.args.to)) c.args.rows.now c.loop-row.rows c.loop-row.row-index x c.loop-row-test.true c.loop-row.invariant (get_or_default c.loop-row.rows c.loop-row.row-index d x within)
