@@ -6,8 +6,7 @@ ghost use Rattle.slee_state.specs.Contexts.{activity_at, external, with_activity
 ghost use Rattle.activity_context.specs.Faults.{fault_of, start_fault, active_fault, bind_fault, unbind_fault};
 ghost use Rattle.activity_context.specs.Views.{HasRoom, activity_before, parts_of_link, parts_of_name, parts_of_attribute};
 
-use crate::AcFault;
-use crate::{activities, attributes, links, names};
+use crate::{AcFault, activities, attributes, links, names};
 use slee_state::{AcKind, Activity, Attribute, Link, Named};
 use slee_value::{ActivityId, EntityId, Name, NoMemory, Text, Value};
 use sorted_rows::{cut_row, cut_rows_of, put_row, row_of, rows_of};

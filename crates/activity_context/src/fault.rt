@@ -10,9 +10,7 @@ pub enum AcFault {
     /// The activity is Ending.
     Ending,
     /// The name stands for an activity.
-    Bound {
-        to: ActivityId,
-    },
+    Bound { to: ActivityId },
     /// The name stands for nothing.
     Unbound,
 }
