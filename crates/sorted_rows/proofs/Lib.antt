@@ -9,3 +9,4 @@ pub mod HeadLemmas
 pub mod ShareLemmas
 pub mod AgreeLemmas
 pub mod ChangeLemmas
+pub mod NumberLemmas

@@ -1,0 +1,14 @@
+-- the activity at the place ends, or none does
+use Rattle.std.proofs.Common.{sym}
+use Rattle.activity_context.proofs.EndLemmas.{one_ends, none_ends_at}
+use Rattle.activity_context.proofs.activities.end_at_place.Goals as goal
+
+pub returns-in-Some-clause-items : goal.returns-in-Some-clause-items
+returns-in-Some-clause-items c =
+    let is = rw c.deref.ensures.value at c.in-Some.ensures.place in
+    rw c.index_mut.ensures.value (one_ends c.args.activity.0 c.in-Some.place c.args.rows.now.items c.index_mut.result.now c.requires (sym is))
+
+pub returns-in-None-clause-items : goal.returns-in-None-clause-items
+returns-in-None-clause-items c =
+    let is = rw c.deref.ensures.value at c.in-None.ensures.place in
+    sym (none_ends_at c.args.activity.0 c.args.rows.now.items (sym is))

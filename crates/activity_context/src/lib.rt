@@ -1,0 +1,12 @@
+//! Activity contexts: activities with their attachments, attributes and names.
+#![tactic(auto)]
+
+mod activities;
+mod attributes;
+mod contexts;
+mod fault;
+mod links;
+mod names;
+
+pub use contexts::Contexts;
+pub use fault::AcFault;

@@ -1,0 +1,4 @@
+pub mod Occurrences
+pub mod Faults
+pub mod Views
+pub mod Kept

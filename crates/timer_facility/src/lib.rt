@@ -1,0 +1,10 @@
+//! The timer facility: timers that rise by number, what of them is due at a moment, and their change as the clock comes there.
+#![tactic(auto)]
+
+mod due;
+mod occurrences;
+mod sweeps;
+mod timers;
+
+pub use occurrences::{Due, DueFault, DueList, OCCURRENCE_LIMIT};
+pub use timers::Timers;

@@ -1,0 +1,99 @@
+//! The occurrences that are fired as the clock comes to a moment: their number, and their list.
+ghost use Rattle.std.specs.Prelude.{◌≡◌, ◌++◌, map, OnOk, IfOk};
+ghost use Rattle.std.specs.Ordering.{is_lt};
+ghost use Rattle.std.specs.List.{flat_map};
+ghost use Rattle.slee_state.specs.Orders.{sorted};
+ghost use Rattle.slee_steps.specs.Timing.{fired, fired_of, fired_in_all};
+ghost use Rattle.timer_facility.specs.Occurrences.{occurrence, due_before};
+
+use crate::due;
+use slee_state::Timer;
+use slee_value::{ActivityId, NoMemory, TimerId};
+use std::alloc::Global;
+use std::cmp::Ordering;
+
+/// How many occurrences are fired at once.
+pub const OCCURRENCE_LIMIT: u128 = 10_000;
+
+/// An occurrence that is fired: its moment, its timer, and that timer's activity.
+#[derive(Debug, Clone, Copy, PartialEq, Eq)]
+pub struct Due {
+    pub moment: u64,
+    pub timer: TimerId,
+    pub activity: ActivityId,
+}
+
+/// The occurrences that are fired, by moment and then by timer.
+pub type DueList = Vec<Due>;
+
+/// Why there is no list of occurrences.
+#[derive(Debug, Clone, Copy, PartialEq, Eq)]
+pub enum DueFault {
+    /// There would be this many.
+    TooMany { count: u128 },
+    /// Memory ran out.
+    NoMemory,
+}
+
+/// How many occurrences are fired as the clock comes to the moment.
+pub fn count_of_all(timers: &[Timer], to: u64) -> u128
+    ensures { result ≡ fired_in_all to timers.now }
+{
+    let mut count = 0;
+    for timer in timers {
+        count += due::count_of_fired(timer, to);
+    }
+    count
+}
+
+fn compare(one: &Due, other: &Due) -> Ordering
+    ensures { is_lt result ≡ due_before one.now other.now }
+{
+    one.moment
+        .cmp(&other.moment)
+        .then(one.timer.0.cmp(&other.timer.0))
+}
+
+/// Adds the timer's occurrences that are fired.
+fn add_occurrences(list: &mut DueList, timer: &Timer, to: u64) -> Result<(), NoMemory>
+    ensures { OnOk result (map occurrence list.new.items ≡ map occurrence list.old.items ++ fired_of to timer.now) }
+{
+    let count = due::count_of_due(timer, to);
+    let missed = count - due::count_of_fired(timer, to);
+    for place in missed..count {
+        list.push(Due {
+            moment: due::moment_of(timer, place, to),
+            timer: timer.number,
+            activity: timer.activity,
+        })?;
+    }
+    Ok(())
+}
+
+fn gather(alloc: Global, timers: &[Timer], to: u64) -> Result<DueList, NoMemory>
+    ensures { IfOk result (λ list. map occurrence list.items ≡ flat_map (fired_of to) timers.now) }
+{
+    let mut list = Vec::new(alloc);
+    for timer in timers {
+        add_occurrences(&mut list, timer, to)?;
+    }
+    Ok(list)
+}
+
+/// Puts the list in order. Of two that are alike the later one goes first, so the list is turned round before a stable sort.
+fn put_in_order(list: &mut DueList) -> Result<(), NoMemory>
+    ensures { OnOk result (list.new.items ≡ sorted due_before list.old.items) }
+{
+    list.reverse();
+    list.sort_by(|one, other| compare(one, other))?;
+    Ok(())
+}
+
+/// The occurrences that are fired as the clock comes to the moment.
+pub fn list_of_all(alloc: Global, timers: &[Timer], to: u64) -> Result<DueList, NoMemory>
+    ensures { IfOk result (λ list. map occurrence list.items ≡ fired to timers.now) }
+{
+    let mut list = gather(alloc, timers, to)?;
+    put_in_order(&mut list)?;
+    Ok(list)
+}
