@@ -1,0 +1,29 @@
+-- What a function of the machine answers: what the meaning of that part of a script says, from the state before to the state behind it.
+use Rattle.std.specs.Prelude.{◌≡◌, Result, Ok, Err}
+use Rattle.handler_meaning.specs.declared.outcome.FailKind.TheVariants as f
+use Rattle.handler_meaning.specs.Running.{State, Ending, Gave, Broke, Needs, Stays, Run, word_of}
+use Rattle.script_machine.specs.declared.stop.Stop.{Stop}
+use Rattle.script_machine.specs.declared.stop.Stop.TheVariants as stop
+
+-- want of memory alone may come anywhere
+abbrev pub Stops : {A : Type 0} → Ending A → State → Stop → Type 0
+Stops ending new stop.NoMemory = Unit {0}
+Stops ending new (stop.Broken kind) = ending ≡ Broke kind (word_of kind) new
+Stops ending new (stop.Thrown text) = ending ≡ Broke f.Thrown text new
+Stops ending new (stop.Need key) = ending ≡ Needs key
+Stops ending new stop.Unchecked = ending ≡ Stays
+
+abbrev pub Ends : {A : Type 0} → Ending A → State → Result A Stop → Type 0
+Ends ending new (Ok x) = ending ≡ Gave x new
+Ends ending new (Err e) = Stops ending new e
+
+abbrev pub Agrees : {A : Type 0} → Run A → State → State → Result A Stop → Type 0
+Agrees run old new result = Ends (run old) new result
+
+-- the same of an answer that is seen as something else
+abbrev pub EndsAs : {A B : Type 0} → (B → A) → Ending A → State → Result B Stop → Type 0
+EndsAs view ending new (Ok x) = ending ≡ Gave (view x) new
+EndsAs view ending new (Err e) = Stops ending new e
+
+abbrev pub AgreesAs : {A B : Type 0} → (B → A) → Run A → State → State → Result B Stop → Type 0
+AgreesAs view run old new result = EndsAs view (run old) new result

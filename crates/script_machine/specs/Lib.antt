@@ -1,0 +1,4 @@
+pub mod Variables
+pub mod Settings
+pub mod Agreeing
+pub mod Kinds

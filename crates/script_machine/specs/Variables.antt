@@ -1,0 +1,20 @@
+-- Variables in memory, as the meaning of scripts sees them.
+use Rattle.std.specs.Prelude.{Option, Some, None}
+use Rattle.slee_effect.specs.declared.value.Val.{Val}
+use Rattle.slee_effect.specs.declared.reference.Ref.{Ref}
+use Rattle.script_machine.specs.declared.variable.Held.{Held}
+use Rattle.script_machine.specs.declared.variable.Held.TheVariants as held
+use Rattle.handler_meaning.specs.Running.{Variable, Holds, Child}
+
+abbrev pub variable_of : Held → Variable
+variable_of (held.Value x) = Holds x
+variable_of (held.Child e) = Child e
+
+-- the value that a variable holds, and the child for which it stands
+abbrev pub value_in : Variable → Option Val
+value_in (Holds x) = Some x
+value_in (Child e) = None
+
+abbrev pub child_in : Variable → Option Ref
+child_in (Holds x) = None
+child_in (Child e) = Some e

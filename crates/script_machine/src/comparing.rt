@@ -1,0 +1,81 @@
+//! Comparing values, and what truth values decide.
+ghost use Rattle.std.specs.Prelude.{◌≡◌, Bool};
+ghost use Rattle.handler_meaning.specs.Values.{same_values, is_less, compare, decides, same_bool, flag};
+ghost use Rattle.handler_meaning.specs.Overlay.{same_ref};
+ghost use Rattle.script_machine.specs.Agreeing.{Agrees, AgreesAs};
+
+use crate::kinds::{activity_of, flag_of, int_of, text_of, timer_of};
+use crate::{Machine, Stop};
+use script_types::{Joint, Scale, Test};
+use slee_effect::{Ref, Val};
+use slee_value::{Kind, Value};
+use std::cmp::Ordering;
+
+/// Whether the left side of `and` or `or` alone is the whole.
+pub fn is_decided(joint: Joint, x: &Val) -> bool
+    ensures { result ≡ decides joint x.now }
+{
+    match (joint, x) {
+        (Joint::Both, Val::Plain(Value::Bool(flag))) => !*flag,
+        (Joint::Either, Val::Plain(Value::Bool(flag))) => *flag,
+        _ => false,
+    }
+}
+
+/// Whether two name the same thing of one kind.
+pub fn is_same_ref(one: Ref, other: Ref) -> bool
+    ensures { result ≡ same_ref one other }
+{
+    match (one, other) {
+        (Ref::Known(a), Ref::Known(b)) => a == b,
+        (Ref::Fresh(a), Ref::Fresh(b)) => a == b,
+        _ => false,
+    }
+}
+
+fn is_same_flag(x: bool, y: bool) -> bool
+    ensures { result ≡ same_bool x y }
+{
+    if x { y } else { !y }
+}
+
+impl Machine {
+    /// Whether two values of a type are the same.
+    #[tactic(auto, using(crate::proofs::KindLemmas::no_int_stays, crate::proofs::KindLemmas::no_text_stays, crate::proofs::KindLemmas::no_flag_stays, crate::proofs::KindLemmas::no_activity_stays, crate::proofs::KindLemmas::no_timer_stays, crate::proofs::KindLemmas::activity_given, crate::proofs::KindLemmas::timer_given))]
+    fn same_values(&self, kind: Kind, x: &Val, y: &Val) -> Result<bool, Stop>
+        ensures { Agrees (same_values kind x.now y.now) self.now self.now result }
+    {
+        match kind {
+            Kind::Int => Ok(int_of(x)? == int_of(y)?),
+            Kind::Text => Ok(text_of(x)?.as_bytes() == text_of(y)?.as_bytes()),
+            Kind::Bool => Ok(is_same_flag(flag_of(x)?, flag_of(y)?)),
+            Kind::Activity => Ok(is_same_ref(activity_of(x)?, activity_of(y)?)),
+            Kind::Timer => Ok(is_same_ref(timer_of(x)?, timer_of(y)?)),
+        }
+    }
+
+    /// Whether one value is below another, texts in byte order.
+    #[tactic(auto, using(crate::proofs::KindLemmas::no_int_stays, crate::proofs::KindLemmas::no_text_stays))]
+    fn is_less(&self, scale: Scale, x: &Val, y: &Val) -> Result<bool, Stop>
+        ensures { Agrees (is_less scale x.now y.now) self.now self.now result }
+    {
+        match scale {
+            Scale::Int => Ok(int_of(x)? < int_of(y)?),
+            Scale::Text => Ok(text_of(x)?.compare(text_of(y)?) == Ordering::Less),
+        }
+    }
+
+    /// A comparison of two values.
+    pub fn compare(&self, test: Test, x: &Val, y: &Val) -> Result<bool, Stop>
+        ensures { AgreesAs flag (compare test x.now y.now) self.now self.now result }
+    {
+        match test {
+            Test::Same(kind) => self.same_values(kind, x, y),
+            Test::Unlike(kind) => Ok(!self.same_values(kind, x, y)?),
+            Test::Below(scale) => self.is_less(scale, x, y),
+            Test::AtMost(scale) => Ok(!self.is_less(scale, y, x)?),
+            Test::Above(scale) => self.is_less(scale, y, x),
+            Test::AtLeast(scale) => Ok(!self.is_less(scale, x, y)?),
+        }
+    }
+}

@@ -1,0 +1,28 @@
+//! The machine on which scripts run: variables, units, keys that were observed, and effects. Each of its steps is what the meaning of scripts says, over the answers that were kept.
+#![tactic(auto)]
+
+mod arithmetic;
+mod comparing;
+mod effect_bytes;
+mod effects;
+mod keys;
+mod kinds;
+mod machine;
+mod observing;
+mod operators;
+mod scene;
+mod stop;
+mod texts;
+mod variable;
+mod variables;
+
+pub use comparing::{is_decided, is_same_ref};
+pub use effects::{EFFECT_BYTES_LIMIT, EFFECT_LIMIT};
+pub use keys::{is_same_key, kept_answer};
+pub use kinds::{activity_of, flag_of, int_of, text_of, timer_of};
+pub use machine::{Machine, UNIT_LIMIT};
+pub use observing::KEY_LIMIT;
+pub use scene::Scene;
+pub use stop::Stop;
+pub use texts::TEXT_LIMIT;
+pub use variable::Variable;

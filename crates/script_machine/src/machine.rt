@@ -1,0 +1,87 @@
+//! The state of a run: its variables, the units that are left, its keys and its effects.
+ghost use Rattle.std.specs.Prelude.{◌≡◌, ◌≤◌, ◌+◌, OnOk, OnErr, false};
+ghost use Rattle.handler_meaning.specs.Running.{tick, declare, assign};
+ghost use Rattle.handler_meaning.specs.Meaning.{start};
+ghost use Rattle.script_machine.specs.Agreeing.{Agrees};
+
+use crate::{Stop, Variable};
+use handler_meaning::{FailKind, Key};
+use slee_effect::{Effect, Val};
+use std::alloc::Global;
+use std::marker::Model;
+
+/// How many units a run has.
+pub const UNIT_LIMIT: u32 = 10_000;
+
+/// A run so far.
+#[derive(Debug, Drop)]
+pub struct Machine {
+    pub(crate) variables: Vec<Variable>,
+    pub(crate) left: u32,
+    pub(crate) is_asked: bool,
+    pub(crate) keys: Vec<Key>,
+    pub(crate) effects: Vec<Effect>,
+    /// How many bytes the effects have.
+    pub(crate) bytes: u32,
+}
+
+impl Model for Machine {
+    ghost use Rattle.std.specs.Prelude.{◌≡◌, ◌≤◌, length};
+    ghost use Rattle.handler_meaning.specs.Running.{State, bytes_of, effect_limit, effect_bytes_limit};
+
+    ghost Value = { State };
+
+    ghost view = { λ m. record { variables = m.variables.items; left = m.left; asked = m.is_asked; keys = m.keys.items; effects = m.effects.items } };
+
+    ghost invariant = { λ m. (m.bytes ≡ bytes_of m.effects.items) × (m.bytes ≤ effect_bytes_limit) × (length m.effects.items ≤ effect_limit) };
+}
+
+impl Machine {
+    /// The state before the first step.
+    pub fn new(alloc: Global) -> Self
+        ensures { result ≡ start }
+    {
+        Machine {
+            variables: Vec::new(alloc),
+            left: UNIT_LIMIT,
+            is_asked: false,
+            keys: Vec::new(alloc),
+            effects: Vec::new(alloc),
+            bytes: 0,
+        }
+    }
+
+    /// Spends one unit.
+    pub fn tick(&mut self) -> Result<(), Stop>
+        ensures agrees { Agrees tick self.old self.new result }
+        ensures less { OnOk result (self.new.left + 1 ≡ self.old.left) }
+        ensures spent { self.new.left ≤ self.old.left }
+    {
+        if self.left == 0 {
+            return Err(Stop::Broken(FailKind::Budget));
+        }
+        self.left -= 1;
+        Ok(())
+    }
+
+    /// A new variable behind all others.
+    pub fn declare(&mut self, variable: Variable) -> Result<(), Stop>
+        ensures agrees { Agrees (declare variable) self.old self.new result }
+        ensures spent { self.new.left ≤ self.old.left }
+    {
+        self.variables.push(variable)?;
+        Ok(())
+    }
+
+    /// Gives a value to the variable in this place.
+    pub fn assign(&mut self, place: usize, value: Val) -> Result<(), Stop>
+        ensures agrees { Agrees (assign place value) self.old self.new result }
+        ensures spent { self.new.left ≤ self.old.left }
+    {
+        if place < self.variables.len() {
+            self.variables[place] = Variable::of_value(value);
+            return Ok(());
+        }
+        Err(Stop::Unchecked)
+    }
+}

@@ -1,0 +1,70 @@
+//! A variable of a script, seen as what the meaning of scripts says of it.
+ghost use Rattle.std.specs.Prelude.{◌≡◌};
+ghost use Rattle.std.specs.Option.{option_copied};
+ghost use Rattle.handler_meaning.specs.Running.{Holds, Child};
+ghost use Rattle.script_machine.specs.Variables.{value_in, child_in};
+
+use slee_effect::{Ref, Val};
+use std::marker::Model;
+
+/// A variable: it holds a value, or stands for a child.
+#[derive(Debug, Drop)]
+pub struct Variable {
+    held: Held,
+}
+
+/// What a variable holds.
+#[derive(Debug, Drop)]
+enum Held {
+    Value(Val),
+    Child(Ref),
+}
+
+impl Model for Variable {
+    ghost use Rattle.handler_meaning.specs.Running.{Variable as ScriptVariable};
+    ghost use Rattle.script_machine.specs.Variables.{variable_of};
+
+    ghost Value = { ScriptVariable };
+
+    ghost view = { λ v. variable_of v.held };
+}
+
+impl Variable {
+    /// A variable that holds this value.
+    pub fn of_value(value: Val) -> Self
+        ensures { result ≡ Holds value }
+    {
+        Variable {
+            held: Held::Value(value),
+        }
+    }
+
+    /// A variable that stands for this child.
+    pub fn of_child(child: Ref) -> Self
+        ensures { result ≡ Child child }
+    {
+        Variable {
+            held: Held::Child(child),
+        }
+    }
+
+    /// The value that it holds.
+    pub fn as_value(&self) -> Option<&Val>
+        ensures { option_copied result ≡ value_in self.now }
+    {
+        match &self.held {
+            Held::Value(value) => Some(value),
+            Held::Child(_) => None,
+        }
+    }
+
+    /// The child for which it stands.
+    pub fn as_child(&self) -> Option<Ref>
+        ensures { result ≡ child_in self.now }
+    {
+        match &self.held {
+            Held::Value(_) => None,
+            Held::Child(child) => Some(*child),
+        }
+    }
+}

@@ -1,0 +1,77 @@
+//! Variables by their places in the scope.
+ghost use Rattle.std.specs.Prelude.{◌≡◌, ◌++◌, slice_get};
+ghost use Rattle.std.specs.Option.{option_copied};
+ghost use Rattle.handler_meaning.specs.Observing as read;
+ghost use Rattle.handler_meaning.specs.Overlay.{removes, is_removed};
+ghost use Rattle.script_machine.specs.Agreeing.{Agrees};
+ghost use Rattle.script_machine.specs.Settings.{setting_of};
+
+use crate::comparing::is_same_ref;
+use crate::{Machine, Scene, Stop, Variable};
+use handler_meaning::FailKind;
+use slee_effect::{Effect, Ref, Val};
+use std::alloc::Global;
+
+fn variable_at(variables: &[Variable], place: usize) -> Option<&Variable>
+    ensures { option_copied result ≡ slice_get variables.now place }
+{
+    variables.get(place)
+}
+
+/// Whether an effect removes the entity.
+fn removes(entity: Ref, effect: &Effect) -> bool
+    ensures { result ≡ removes entity effect.now }
+{
+    match effect {
+        Effect::Remove { entity: other } => is_same_ref(*other, entity),
+        _ => false,
+    }
+}
+
+/// Whether one of these effects removes the entity.
+fn is_removed(entity: Ref, effects: &[Effect]) -> bool
+    ensures { result ≡ is_removed entity effects.now }
+{
+    effects.iter().any(|effect| removes(entity, effect))
+}
+
+impl Machine {
+    /// The value of the variable in this place.
+    #[tactic(auto, using(crate::proofs::VariableLemmas::value_found))]
+    pub fn value(&self, alloc: Global, place: usize) -> Result<Val, Stop>
+        ensures { Agrees (read.value place) self.now self.now result }
+    {
+        let Some(variable) = variable_at(&self.variables, place) else {
+            return Err(Stop::Unchecked);
+        };
+        match variable.as_value() {
+            Some(value) => Ok(value.copy(alloc)?),
+            None => Err(Stop::Unchecked),
+        }
+    }
+
+    /// The child for which the variable in this place stands, which is gone where this run removed it.
+    #[tactic(auto, using(crate::proofs::VariableLemmas::child_found))]
+    pub fn child(&self, scene: &Scene, place: usize) -> Result<Ref, Stop>
+        ensures { Agrees (read.child (setting_of scene.now) place) self.now self.now result }
+    {
+        let Some(variable) = variable_at(&self.variables, place) else {
+            return Err(Stop::Unchecked);
+        };
+        let Some(child) = variable.as_child() else {
+            return Err(Stop::Unchecked);
+        };
+        if self.is_gone(scene, child) {
+            return Err(Stop::Broken(FailKind::Gone));
+        }
+        Ok(child)
+    }
+
+    /// Whether this run or the transaction before it removed the entity.
+    #[tactic(auto, using(crate::proofs::VariableLemmas::removed_by_both))]
+    fn is_gone(&self, scene: &Scene, entity: Ref) -> bool
+        ensures { result ≡ is_removed entity (scene.now.effects.now ++ self.now.effects) }
+    {
+        is_removed(entity, scene.effects) || is_removed(entity, &self.effects)
+    }
+}
