@@ -15,10 +15,10 @@ use Rattle.script_types.specs.ProgramOf.{term_of, ask_of, compare_of, combine_of
 
 row_combined : (x : Term) (n : _) (row : Row_of-Term-Chain-1-2 n) → combined_row x row ≡ combined x (items-the_row-Term-Chain-1-2 n row)
 row_combined x n end_of-Term-Chain-1-2 = refl
-row_combined x n (more_of-Term-Chain-1-2 joint y more) = row_combined (Combine joint x (term_of y)) _ more
+row_combined x n (more_of-Term-Chain-1-2 op y more) = row_combined (Combine op x (term_of y)) _ more
 
 abbrev chain_row : TermInMemory → (n : Count) × Row_of-Term-Chain-1-2 n
-chain_row (t.Chain' _ x joint y _ row) = (_, row)
+chain_row (t.Chain' _ x op y _ row) = (_, row)
 chain_row _ = (_, end_of-Term-Chain-1-2)
 
 pub chain_term : (x : Box (TermInMemory × Joint × TermInMemory) Global) (v : Vec (Joint × TermInMemory) Global) → term_of (t.Chain x v) ≡ combined (combine_of x.value) v.items

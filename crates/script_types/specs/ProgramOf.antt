@@ -38,12 +38,12 @@ abbrev mutual
   term_of (t.Single atom) = Single atom
   term_of (t.Ask' _ question x) = Ask question (term_of x)
   term_of (t.Compare' _ test x y) = Compare test (term_of x) (term_of y)
-  term_of (t.Chain' _ x joint y _ more) = combined_row (Combine joint (term_of x) (term_of y)) more
+  term_of (t.Chain' _ x op y _ more) = combined_row (Combine op (term_of x) (term_of y)) more
 
   -- operands that are joined from left to right
   pub combined_row : {n : _} → Term → Row_of-Term-Chain-1-2 n → Term
   combined_row x end_of-Term-Chain-1-2 = x
-  combined_row x (more_of-Term-Chain-1-2 joint y more) = combined_row (Combine joint x (term_of y)) more
+  combined_row x (more_of-Term-Chain-1-2 op y more) = combined_row (Combine op x (term_of y)) more
 
 -- a question to a value
 abbrev pub ask_of : Question × TermInMemory → Term
