@@ -85,11 +85,13 @@ impl<'a, 'v, 'b> Form for HandlerForm<'a, 'v, 'b> {
         owner: &Value,
         value: &Value,
     ) -> Result<(), DeployFault> {
+        let event = text_at(value, "event");
+        let wanted = is_custom(value);
         let table = HandlerTable {
             all: self.all,
             handlers: self.handlers,
-            event: text_at(value, "event"),
-            wanted: is_custom(value),
+            event,
+            wanted,
         };
         Object(table).check(alloc, number, owner, value)
     }

@@ -1,7 +1,8 @@
 //! What the tables look up in the whole document.
-ghost use Rattle.std.specs.Prelude.{◌≡◌, IfOk};
-ghost use Rattle.serde_json.specs.View.{view};
-ghost use Rattle.deploy_tables.specs.Names.{names_in, is_event as is_event_so, event_field as field_so};
+ghost use Rattle.std.specs.Prelude.{◌≡◌, IfOk, codes, option_and_then};
+ghost use Rattle.serde_json.specs.Find.{get_item};
+ghost use Rattle.serde_json.specs.View.{view, items_view};
+ghost use Rattle.deploy_tables.specs.Names.{names_in, kind_at as kind_at_so, is_event as is_event_so, event_field as field_so};
 ghost use Rattle.deploy_tables.specs.Lookups.{names_of};
 
 use crate::built_in::{built_in_field, is_built_in};
@@ -36,17 +37,23 @@ impl<'v> Lookup<'v> {
     }
 
     /// The type of a field of an event that is declared or built in.
-    #[tactic(auto, using(crate::proofs::Items::item_at))]
     pub(crate) fn event_field(&self, event: &str, field: &str) -> Option<Kind>
         ensures { result ≡ field_so (names_of self.now) event.now field.now }
     {
         match self.events.get(event) {
-            Some(number) => match self.event_types.get(number) {
-                Some(declared) => kind_at(declared, "fields", field),
-                None => None,
-            },
+            Some(number) => declared_field(self.event_types, number, field),
             None => built_in_field(event, field),
         }
+    }
+}
+
+/// The type of a field of the event type of this number.
+fn declared_field(types: &[Value], number: usize, field: &str) -> Option<Kind>
+    ensures { result ≡ option_and_then (λ e. kind_at_so (codes "fields") e field.now) (get_item number (items_view types.now)) }
+{
+    match types.get(number) {
+        Some(declared) => kind_at(declared, "fields", field),
+        None => None,
     }
 }
 
@@ -58,16 +65,25 @@ pub(crate) fn lookup_of<'v>(alloc: Global, document: &'v Value) -> Result<Lookup
     let profiles = items_in(document, "profiles");
     let blocks = items_in(document, "blocks");
     let services = items_in(document, "services");
+    let events = numbers_of(alloc, "key", event_types)?;
+    let profile_keys = numbers_of(alloc, "key", profiles)?;
+    let block_keys = numbers_of(alloc, "key", blocks)?;
+    let service_keys = numbers_of(alloc, "key", services)?;
+    let event_ids = ids_of(alloc, event_types)?;
+    let profile_ids = ids_of(alloc, profiles)?;
+    let block_ids = ids_of(alloc, blocks)?;
+    let service_ids = ids_of(alloc, services)?;
+    let aliases = aliases_of(alloc, blocks)?;
     Ok(Lookup {
-        events: numbers_of(alloc, "key", event_types)?,
-        profiles: numbers_of(alloc, "key", profiles)?,
-        blocks: numbers_of(alloc, "key", blocks)?,
-        services: numbers_of(alloc, "key", services)?,
-        event_ids: ids_of(alloc, event_types)?,
-        profile_ids: ids_of(alloc, profiles)?,
-        block_ids: ids_of(alloc, blocks)?,
-        service_ids: ids_of(alloc, services)?,
+        events,
+        profiles: profile_keys,
+        blocks: block_keys,
+        services: service_keys,
+        event_ids,
+        profile_ids,
+        block_ids,
+        service_ids,
         event_types,
-        aliases: aliases_of(alloc, blocks)?,
+        aliases,
     })
 }

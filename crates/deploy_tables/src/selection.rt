@@ -3,6 +3,9 @@ ghost use Rattle.std.specs.Prelude.{◌≡◌, bytes_eq, codes};
 ghost use Rattle.std.specs.List.{list_any, position_from};
 ghost use Rattle.slee_descriptor.specs.Faults.{Says};
 ghost use Rattle.serde_json.specs.View.{view, items_view};
+ghost use Rattle.deploy_shape.specs.Forms.{list_of};
+ghost use Rattle.deploy_shape.specs.Texts.{text};
+ghost use Rattle.deploy_shape.specs.Numbers.{items_of};
 ghost use Rattle.deploy_tables.specs.Lookups.{names_of};
 ghost use Rattle.deploy_tables.specs.Names.{texts_of};
 ghost use Rattle.deploy_tables.specs.Tables.{variable, initial, is_custom as custom_so, selection_rule, selection_field, custom_rule, unwanted, custom};
@@ -52,6 +55,18 @@ impl<'w> TextRule for Variable<'w> {
     }
 }
 
+fn check_variables(
+    alloc: Global,
+    number: usize,
+    owner: &Value,
+    value: &Value,
+) -> Result<(), DeployFault>
+    ensures { Says (list_of (text (variable (texts_of (items_of (view value.now))))) number (view owner.now) (view value.now)) result }
+{
+    let words = array_items(value);
+    ListOf(TextOf(Variable(words))).check(alloc, number, owner, value)
+}
+
 /// The variables of an initial event; the end of an activity never is one.
 #[derive(Drop)]
 pub(crate) struct Initial<'e>(pub &'e str);
@@ -69,7 +84,7 @@ impl<'e> Form for Initial<'e> {
         if self.0 == "activity-end" && value.is_array() {
             Err(here(alloc, DeployBad::Range))
         } else {
-            ListOf(TextOf(Variable(array_items(value)))).check(alloc, number, owner, value)
+            check_variables(alloc, number, owner, value)
         }
     }
 }
@@ -89,7 +104,8 @@ fn has_custom(words: &[Value]) -> bool
 pub(crate) fn is_custom(event: &Value) -> bool
     ensures { result ≡ custom_so (view event.now) }
 {
-    has_custom(items_in(event, "initial"))
+    let words = items_in(event, "initial");
+    has_custom(words)
 }
 
 /// The word of a rule of custom selection.
