@@ -1,11 +1,10 @@
 -- What the store of entities keeps: entities rise by number, a parent has a lower number than its children, and an index has the children of each parent.
-use Rattle.std.specs.Prelude.{◌≡◌, ℕ, ℤ, ◌<◌, ◌==◌, nat_lt, Bool, is_some, List, [], ◌∷◌, map, length, filter, ⊤}
+use Rattle.std.specs.Prelude.{◌≡◌, ℕ, ◌<◌, ◌==◌, nat_lt, Bool, is_some, List, map, filter}
 use Rattle.std.specs.List.{AllByRecursion}
 use Rattle.std.specs.Option.{option_map_or}
 use Rattle.slee_value.specs.declared.ids.EntityId.{EntityId}
 use Rattle.slee_state.specs.declared.rows.Entity.{Entity}
 use Rattle.slee_state.specs.Trees.{entity_at, parent_of, children}
-use Rattle.slee_state.specs.Paths.{path}
 use Rattle.sorted_rows.specs.Keys.{Key, Rises, entity_key, pair_key}
 use Rattle.entity_tree.specs.declared.branch.Branch.{Branch}
 
@@ -24,20 +23,6 @@ parent_at rows e = option_map_or parent_of (entity_at rows e) 0
 -- the numbers that identities have
 abbrev pub numbers_of : List EntityId → List ℕ
 numbers_of ids = map (λ id. id.0) ids
-
--- the priorities and numbers from the root down to the entity of this number
-abbrev pub path_at : List Entity → ℕ → List (ℤ × ℕ)
-path_at rows e = path (length rows) rows e
-
--- an entity's own priority and number
-abbrev pub step_of : Entity → ℤ × ℕ
-step_of row = (row.priority, row.number.0)
-
--- the first path begins with the second one
-abbrev pub BeginsWith : List (ℤ × ℕ) → List (ℤ × ℕ) → Type 0
-BeginsWith whole [] = ⊤
-BeginsWith [] (y ∷ upper) = ⊥
-BeginsWith (x ∷ whole) (y ∷ upper) = (x ≡ y) × BeginsWith whole upper
 
 -- a parent's number is below its child's
 abbrev pub AreParents : List Entity → Type 0

@@ -1,4 +1,4 @@
-//! SBB entities and their trees (JSR 240, chapter 6): an entity is found by its number, children by their parent, and two entities are compared by their paths.
+//! SBB entities and their trees (JSR 240, chapter 6): an entity is found by its number, children are found by their parent, and a tree is listed in the order in which it goes.
 #![tactic(auto)]
 
 mod branch;

@@ -2,8 +2,7 @@
 ghost use Rattle.std.specs.Prelude.{◌≡◌, ◌==◌, [], false, length, filter, nat_lt, option_copied, IfOk};
 ghost use Rattle.std.specs.Option.{option_map_or};
 ghost use Rattle.sorted_rows.specs.Keys.{Rises, entity_key};
-ghost use Rattle.slee_value.specs.declared.ids.EntityId.{EntityId};
-ghost use Rattle.slee_state.specs.Trees.{entity_at, parent_in, is_child_of, children, children_under, service_above, service_of};
+ghost use Rattle.slee_state.specs.Trees.{entity_at, parent_in, is_child_of, children_under, service_above, service_of};
 ghost use Rattle.entity_tree.specs.Kept.{IsIndex, branch_key, parent_at, numbers_of};
 
 use crate::branch::Branch;
