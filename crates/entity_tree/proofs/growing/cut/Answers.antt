@@ -1,0 +1,23 @@
+-- the index follows the entity that went
+use Rattle.std.proofs.Common.{◌==◌, List, map, sym, ap, ◌∙◌}
+use Rattle.std.specs.List.{filter}
+use Rattle.slee_state.specs.Trees.{children}
+use Rattle.slee_state.specs.declared.rows.Entity.{Entity}
+use Rattle.entity_tree.specs.declared.branch.Branch.{Branch}
+use Rattle.entity_tree.specs.Kept.{branch_of}
+use Rattle.entity_tree.proofs.IndexLemmas.{index_cut}
+use Rattle.entity_tree.proofs.RowLemmas.{cut_by_number}
+use Rattle.entity_tree.proofs.growing.cut.Goals as goal
+
+pub returns-clause-index : goal.returns-clause-index
+returns-clause-index c =
+    let parent = rw c.deref.ensures.value at c.parent_at-parent.ensures in
+    let branches = rw parent at c.cut_row.ensures.items in
+    let rows = c.cut_row-2.ensures.items ∙ cut_by_number c.args.entity.0 c.args.rows.now.items in
+    record {
+      rises = c.cut_row.ensures.rises;
+      runs = λ p.
+          ap (filter (λ (branch : Branch). branch.parent.0 == p)) branches
+          ∙ index_cut c.args.entity.0 p c.args.rows.now.items c.args.branches.now.items c.requires.rises (c.requires.index.runs p)
+          ∙ ap (λ (entities : List Entity). map branch_of (children entities p)) (sym rows);
+    }

@@ -1,0 +1,8 @@
+-- what the store keeps goes on with the entity
+use Rattle.std.proofs.Common.{arith}
+use Rattle.entity_tree.proofs.KeptLemmas.{added_keeps}
+use Rattle.entity_tree.proofs.tree.Tree.restore.Goals as goal
+
+pub invariant_of-self : goal.invariant_of-self
+invariant_of-self c =
+    (added_keeps c.self.inside.next c.self.inside.next c.args.item c.self.inside.rows.items c.add.new.rows.items c.self.invariant.0 (omega arith) (rw (← c.self.view_is) at c.requires.drawn) c.requires.parent c.add.ensures.rows c.add.ensures.rises, c.add.ensures.index)

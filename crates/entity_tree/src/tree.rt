@@ -1,0 +1,221 @@
+//! The store of entities. Clauses see it as its entities by number, the number of the next one, and how many more can be added without memory.
+ghost use Rattle.std.specs.Prelude.{◌≡◌, ◌||◌, ◌+◌, ◌<◌, ◌≤◌, ◌^◌, [], Some, None, nat_lt, length, slice_get, IsTrue, IfOk, OnOk, option_copied};
+ghost use Rattle.slee_state.specs.declared.rows.Stem.TheVariants as stems;
+ghost use Rattle.slee_state.specs.Orders.{put};
+ghost use Rattle.slee_state.specs.Ordered.{are_below};
+ghost use Rattle.slee_state.specs.Trees.{children, children_under, entity_at, is_root, number_of, parent_in, parent_of, service_of, tree_of, with_entity, with_priority, without_entity};
+ghost use Rattle.entity_tree.specs.Kept.{entity_before, is_entity, numbers_of};
+
+use crate::branch::Branch;
+use crate::{growing, reading, removal};
+use slee_state::{Entity, Stem};
+use slee_value::{EntityId, Name, NoMemory};
+use std::alloc::Global;
+use std::marker::Model;
+
+/// All entities, and the number of the next one.
+#[derive(Debug, Drop)]
+pub struct Tree {
+    rows: Vec<Entity>,
+    branches: Vec<Branch>,
+    next: u64,
+}
+
+impl Model for Tree {
+    ghost use Rattle.std.specs.Prelude.{vec_capacity, vec_len, min, ◌-◌};
+    ghost use Rattle.entity_tree.specs.Views.{TreeView};
+    ghost use Rattle.entity_tree.specs.Kept.{AreEntities, IsIndex};
+
+    ghost Value = { TreeView };
+
+    ghost view = { λ t. record { rows = t.rows.items; next = t.next; room = min (vec_capacity t.rows - vec_len t.rows) (vec_capacity t.branches - vec_len t.branches) } };
+
+    ghost invariant = { λ t. AreEntities t.next t.rows.items × IsIndex t.rows.items t.branches.items };
+}
+
+impl Tree {
+    /// No entities. The first one will have the number 1.
+    pub fn new(alloc: Global) -> Self
+        ensures rows { result.rows ≡ [] }
+        ensures next { result.next ≡ 1 }
+    {
+        Tree {
+            rows: Vec::new(alloc),
+            branches: Vec::new(alloc),
+            next: 1,
+        }
+    }
+
+    /// Makes room for this many new entities.
+    pub fn reserve(&mut self, entities: u64) -> Result<(), NoMemory>
+        ensures rows { self.new.rows ≡ self.old.rows }
+        ensures next { self.new.next ≡ self.old.next }
+        ensures room { OnOk result (entities ≤ self.new.room) }
+        ensures grown { self.old.room ≤ self.new.room }
+    {
+        self.rows.reserve(entities as usize)?;
+        self.branches.reserve(entities as usize)?;
+        Ok(())
+    }
+
+    fn create(&mut self, block: u32, stem: Stem, priority: i8) -> EntityId
+        requires room { 0 < self.old.room }
+        requires next { self.old.next + 1 < 2 ^ 64 }
+        requires parent { IsTrue (is_root stem || is_entity self.old.rows (parent_in stem)) }
+        ensures number { result.0 ≡ self.old.next }
+        ensures rows { self.new.rows ≡ with_entity self.old.rows self.old.next block stem priority }
+        ensures next { self.new.next ≡ self.old.next + 1 }
+        ensures room { self.old.room ≤ self.new.room + 1 }
+    {
+        let number = EntityId(self.next);
+        growing::add(
+            &mut self.rows,
+            &mut self.branches,
+            Entity {
+                number,
+                block,
+                stem,
+                priority,
+            },
+        );
+        self.next += 1;
+        number
+    }
+
+    /// A new root of the service. It has the next number.
+    pub fn create_root(&mut self, block: u32, service: u32, priority: i8) -> EntityId
+        requires room { 0 < self.old.room }
+        requires next { self.old.next + 1 < 2 ^ 64 }
+        ensures number { result.0 ≡ self.old.next }
+        ensures rows { self.new.rows ≡ with_entity self.old.rows self.old.next block (stems.Root service) priority }
+        ensures next { self.new.next ≡ self.old.next + 1 }
+        ensures room { self.old.room ≤ self.new.room + 1 }
+    {
+        self.create(block, Stem::Root(service), priority)
+    }
+
+    /// A new child of the entity under the relation. It has the next number.
+    pub fn create_child(
+        &mut self,
+        parent: EntityId,
+        relation: Name,
+        block: u32,
+        priority: i8,
+    ) -> EntityId
+        requires room { 0 < self.old.room }
+        requires next { self.old.next + 1 < 2 ^ 64 }
+        requires there { IsTrue (is_entity self.old.rows parent.0) }
+        ensures number { result.0 ≡ self.old.next }
+        ensures rows { self.new.rows ≡ with_entity self.old.rows self.old.next block (stems.Child parent relation) priority }
+        ensures next { self.new.next ≡ self.old.next + 1 }
+        ensures room { self.old.room ≤ self.new.room + 1 }
+    {
+        self.create(block, Stem::Child(parent, relation), priority)
+    }
+
+    /// Puts an entity of a snapshot back under its number.
+    pub fn restore(&mut self, item: Entity)
+        requires room { 0 < self.old.room }
+        requires absent { entity_at self.old.rows item.number.0 ≡ None }
+        requires drawn { item.number.0 < self.old.next }
+        requires parent { parent_of item < item.number.0 }
+        ensures rows { self.new.rows ≡ put entity_before item self.old.rows }
+        ensures next { self.new.next ≡ self.old.next }
+        ensures room { self.old.room ≤ self.new.room + 1 }
+    {
+        growing::add(&mut self.rows, &mut self.branches, item);
+    }
+
+    /// The next entity will have this number.
+    pub fn set_next(&mut self, next: u64)
+        requires one { 0 < next }
+        requires above { IsTrue (are_below number_of next self.old.rows) }
+        ensures rows { self.new.rows ≡ self.old.rows }
+        ensures next { self.new.next ≡ next }
+        ensures room { self.new.room ≡ self.old.room }
+    {
+        self.next = next;
+    }
+
+    /// The number of the next entity.
+    pub fn next_number(&self) -> u64
+        ensures { result ≡ self.now.next }
+    {
+        self.next
+    }
+
+    /// The tree of the entity in the order in which it goes: children by number, each behind its own tree, and then the entity.
+    pub fn removal(&self, alloc: Global, top: EntityId) -> Result<Vec<EntityId>, NoMemory>
+        requires { IsTrue (is_entity self.now.rows top.0) }
+        ensures { IfOk result (λ all. numbers_of all.items ≡ tree_of self.now.rows top.0) }
+    {
+        removal::removal(alloc, &self.rows, &self.branches, top)
+    }
+
+    /// The entity is gone.
+    pub fn remove(&mut self, entity: EntityId)
+        requires { children self.old.rows entity.0 ≡ [] }
+        ensures rows { self.new.rows ≡ without_entity self.old.rows entity.0 }
+        ensures next { self.new.next ≡ self.old.next }
+        ensures room { self.old.room ≤ self.new.room }
+    {
+        growing::cut(&mut self.rows, &mut self.branches, entity);
+    }
+
+    /// Whether the entity has a child.
+    pub fn has_child(&self, entity: EntityId) -> bool
+        ensures { result ≡ nat_lt 0 (length (children self.now.rows entity.0)) }
+    {
+        reading::has_child(&self.branches, entity)
+    }
+
+    /// The children of the entity under the relation, by number.
+    pub fn children(
+        &self,
+        alloc: Global,
+        entity: EntityId,
+        relation: &Name,
+    ) -> Result<Vec<EntityId>, NoMemory>
+        ensures { IfOk result (λ all. numbers_of all.items ≡ children_under self.now.rows entity.0 relation.now) }
+    {
+        reading::children_under(alloc, &self.rows, &self.branches, entity, relation)
+    }
+
+    /// The entity has this priority.
+    pub fn set_priority(&mut self, entity: EntityId, priority: i8)
+        ensures rows { self.new.rows ≡ with_priority self.old.rows entity.0 priority }
+        ensures next { self.new.next ≡ self.old.next }
+        ensures room { self.old.room ≤ self.new.room }
+    {
+        growing::set_priority(&mut self.rows, entity, priority);
+    }
+
+    /// The service of the tree in which this entity of the store stands.
+    pub fn service(&self, row: &Entity) -> Option<u32>
+        ensures { result ≡ service_of self.now.rows row.now }
+    {
+        reading::service_of(&self.rows, row)
+    }
+
+    /// The entity of this number.
+    pub fn find(&self, entity: EntityId) -> Option<&Entity>
+        ensures { option_copied result ≡ entity_at self.now.rows entity.0 }
+    {
+        reading::entity_in(&self.rows, entity)
+    }
+
+    /// How many entities there are.
+    pub fn len(&self) -> u64
+        ensures { result ≡ length self.now.rows }
+    {
+        self.rows.len() as u64
+    }
+
+    /// The entity at this place by number, counted from 0.
+    pub fn at(&self, place: u64) -> &Entity
+        requires { place < length self.now.rows }
+        ensures { slice_get self.now.rows place ≡ Some result.now }
+    {
+        &self.rows[place as usize]
+    }
+}
