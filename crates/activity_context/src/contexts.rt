@@ -1,8 +1,8 @@
 //! The contexts of activities; clauses see them as four lists, with the next number and the room.
 ghost use Rattle.std.specs.Prelude.{◌≡◌, ◌+◌, ◌-◌, ◌<◌, ◌≤◌, ◌^◌, not, [], length, Some, IsTrue, IfOk, OnOk, OnErr, slice_get, option_copied, option_map};
-ghost use Rattle.slee_state.specs.Ordered.{are_below};
-ghost use Rattle.slee_state.specs.Orders.{put};
-ghost use Rattle.slee_state.specs.Contexts.{activity_at, external, with_activity, with_end, without_activity, attribute_at, with_attribute, without_attributes, is_linked, links_on, with_link, without_link, without_links_on, named_at, with_name, without_name, without_names_of};
+ghost use Rattle.slee_state.specs.Ordered.{rises_in, are_below};
+ghost use Rattle.slee_state.specs.Orders.{put, rises_by};
+ghost use Rattle.slee_state.specs.Contexts.{activity_at, external, with_activity, with_end, without_activity, attribute_at, attribute_before, link_before, name_before, with_attribute, without_attributes, is_linked, links_on, with_link, without_link, without_links_on, named_at, with_name, without_name, without_names_of};
 ghost use Rattle.activity_context.specs.Faults.{fault_of, start_fault, active_fault, bind_fault, unbind_fault};
 ghost use Rattle.activity_context.specs.Views.{HasRoom, activity_before, parts_of_link, parts_of_name, parts_of_attribute};
 
@@ -51,6 +51,17 @@ impl Contexts {
             names: Vec::new(alloc),
             next: 1,
         }
+    }
+
+    /// Passes on that the lists rise, and that activities' numbers are below the next one.
+    pub fn ordered(&self)
+        ensures activities { IsTrue (rises_in (λ row. row.number.0) self.now.activities) }
+        ensures below { IsTrue (are_below (λ row. row.number.0) self.now.next self.now.activities) }
+        ensures attributes { IsTrue (rises_by attribute_before self.now.attributes) }
+        ensures links { IsTrue (rises_by link_before self.now.links) }
+        ensures names { IsTrue (rises_by name_before self.now.names) }
+    {
+        let _next = self.next;
     }
 
     /// Makes room for so many more rows in each list.

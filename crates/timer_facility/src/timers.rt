@@ -1,6 +1,6 @@
 //! The timers, rising by number; clauses see them as a list, with the next number and the room.
 ghost use Rattle.std.specs.Prelude.{◌≡◌, ◌+◌, ◌-◌, ◌<◌, ◌≤◌, ◌^◌, ◌++◌, ◌∷◌, [], map, length, filter, nat_lt, Some, IsTrue, OnOk, IfErr, IfOk, slice_get, option_copied};
-ghost use Rattle.slee_state.specs.Ordered.{are_below};
+ghost use Rattle.slee_state.specs.Ordered.{rises_in, are_below};
 ghost use Rattle.slee_state.specs.Orders.{put};
 ghost use Rattle.slee_state.specs.Timers.{timer_at, with_timer, without_timer, without_timers_on, advanced, behind, due_count, goes_on};
 ghost use Rattle.slee_steps.specs.Timing.{fired, fired_in_all, occurrence_limit};
@@ -45,6 +45,14 @@ impl Timers {
             rows: Vec::new(alloc),
             next: 1,
         }
+    }
+
+    /// Passes on that the timers rise, and that their numbers are below the next one.
+    pub fn ordered(&self)
+        ensures rises { IsTrue (rises_in (λ row. row.number.0) self.now.timers) }
+        ensures below { IsTrue (are_below (λ row. row.number.0) self.now.next self.now.timers) }
+    {
+        let _next = self.next;
     }
 
     /// Makes room for so many more timers.

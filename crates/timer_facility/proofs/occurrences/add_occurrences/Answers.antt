@@ -1,7 +1,6 @@
 -- an occurrence more, up to the last one
-use Rattle.std.proofs.Common.{◌≡◌, ◌++◌, map, ap, ◌∙◌, arith}
+use Rattle.std.proofs.Common.{map, ap, ◌∙◌, arith}
 use Rattle.std.proofs.lemmas.List.{map-append}
-use Rattle.slee_steps.specs.Timing.{Occurrence, occurrence_of}
 use Rattle.timer_facility.specs.Occurrences.{occurrence}
 use Rattle.timer_facility.proofs.ListLemmas.{one_more, all_there}
 use Rattle.timer_facility.proofs.occurrences.add_occurrences.Goals as goal

@@ -1,5 +1,5 @@
 -- the next timer goes on, and is done
-use Rattle.std.proofs.Common.{◌≡◌, ◌<◌, ap, ◌∙◌, length, get_or, arith, set}
+use Rattle.std.proofs.Common.{◌<◌, ap, ◌∙◌, length, get_or, arith, set}
 use Rattle.std.proofs.lemmas.List.{get_or_default}
 use Rattle.std.proofs.lemmas.List.Edits.{map_over_more}
 use Rattle.slee_value.specs.declared.keep.Keep.TheVariants as keeps
