@@ -1,0 +1,116 @@
+-- Effects done in order, where it doesn't matter how many things were made before.
+use Rattle.std.proofs.Common.{◌≡◌, ℕ, ◌+◌, Bool, List, [], ◌∷◌, ◌++◌, Option, refl, ap, ◌∙◌}
+use Rattle.slee_effect.specs.declared.reference.Ref.{Ref}
+use Rattle.slee_effect.specs.declared.value.Val.{Val}
+use Rattle.slee_effect.specs.declared.effect.Effect.{Effect}
+use Rattle.slee_effect.specs.declared.effect.Effect.TheVariants as ef
+use Rattle.handler_meaning.specs.Overlay.{overlay, overlay_from, field_after, attr_after, attached_after, named_after, entities_by, activities_by}
+use Rattle.script_reading.specs.Done.{done}
+
+plain : {A : Type 0} (makes : Effect → ℕ) (does : ℕ → Effect → A → A) → ((n : ℕ) (e : Effect) (x : A) → does n e x ≡ does 0 e x) → (n : ℕ) (es : List Effect) (x : A) → overlay_from makes does n es x ≡ done (does 0) es x
+plain makes does same n [] x = refl
+plain makes does same n (e ∷ es) x = ap (λ y. overlay_from makes does (n + makes e) es y) (same n e x) ∙ plain makes does same (n + makes e) es (does 0 e x)
+
+behind : {A : Type 0} (does : Effect → A → A) (xs ys : List Effect) (x : A) → done does (xs ++ ys) x ≡ done does ys (done does xs x)
+behind does [] ys x = refl
+behind does (e ∷ xs) ys x = behind does xs ys (does e x)
+
+field_same : (who : Ref) (name : List ℕ) (n : ℕ) (eff : Effect) (x : Val) → field_after who name n eff x ≡ field_after who name 0 eff x
+field_same who name n (ef.SetField p q r) x = refl
+field_same who name n (ef.SetAttr p q r) x = refl
+field_same who name n (ef.Create p q r) x = refl
+field_same who name n (ef.Remove p) x = refl
+field_same who name n (ef.SetPriority p q) x = refl
+field_same who name n (ef.Attach p q) x = refl
+field_same who name n (ef.Detach p q) x = refl
+field_same who name n (ef.SetMask p q r s) x = refl
+field_same who name n (ef.Fire p q r s) x = refl
+field_same who name n ef.NewNull x = refl
+field_same who name n (ef.EndNull p) x = refl
+field_same who name n (ef.SetTimer p q r s t) x = refl
+field_same who name n (ef.CancelTimer p) x = refl
+field_same who name n (ef.Bind p q) x = refl
+field_same who name n (ef.Unbind p) x = refl
+field_same who name n (ef.Emit p q) x = refl
+field_same who name n (ef.Usage p q r) x = refl
+field_same who name n (ef.Suspend p q) x = refl
+field_same who name n (ef.Resume p) x = refl
+
+-- effects of two lists, one behind the other
+pub field_laid : (who : Ref) (name : List ℕ) (xs ys : List Effect) (x : Val) → overlay entities_by (field_after who name) (xs ++ ys) x ≡ done (field_after who name 0) ys (done (field_after who name 0) xs x)
+field_laid who name xs ys x = plain entities_by (field_after who name) (field_same who name) 0 (xs ++ ys) x ∙ behind (field_after who name 0) xs ys x
+
+attribute_same : (who : Ref) (name : List ℕ) (n : ℕ) (eff : Effect) (x : Val) → attr_after who name n eff x ≡ attr_after who name 0 eff x
+attribute_same who name n (ef.SetField p q r) x = refl
+attribute_same who name n (ef.SetAttr p q r) x = refl
+attribute_same who name n (ef.Create p q r) x = refl
+attribute_same who name n (ef.Remove p) x = refl
+attribute_same who name n (ef.SetPriority p q) x = refl
+attribute_same who name n (ef.Attach p q) x = refl
+attribute_same who name n (ef.Detach p q) x = refl
+attribute_same who name n (ef.SetMask p q r s) x = refl
+attribute_same who name n (ef.Fire p q r s) x = refl
+attribute_same who name n ef.NewNull x = refl
+attribute_same who name n (ef.EndNull p) x = refl
+attribute_same who name n (ef.SetTimer p q r s t) x = refl
+attribute_same who name n (ef.CancelTimer p) x = refl
+attribute_same who name n (ef.Bind p q) x = refl
+attribute_same who name n (ef.Unbind p) x = refl
+attribute_same who name n (ef.Emit p q) x = refl
+attribute_same who name n (ef.Usage p q r) x = refl
+attribute_same who name n (ef.Suspend p q) x = refl
+attribute_same who name n (ef.Resume p) x = refl
+
+-- effects of two lists, one behind the other
+pub attribute_laid : (who : Ref) (name : List ℕ) (xs ys : List Effect) (x : Val) → overlay activities_by (attr_after who name) (xs ++ ys) x ≡ done (attr_after who name 0) ys (done (attr_after who name 0) xs x)
+attribute_laid who name xs ys x = plain activities_by (attr_after who name) (attribute_same who name) 0 (xs ++ ys) x ∙ behind (attr_after who name 0) xs ys x
+
+attached_same : (who on : Ref) (n : ℕ) (eff : Effect) (x : Bool) → attached_after who on n eff x ≡ attached_after who on 0 eff x
+attached_same who on n (ef.SetField p q r) x = refl
+attached_same who on n (ef.SetAttr p q r) x = refl
+attached_same who on n (ef.Create p q r) x = refl
+attached_same who on n (ef.Remove p) x = refl
+attached_same who on n (ef.SetPriority p q) x = refl
+attached_same who on n (ef.Attach p q) x = refl
+attached_same who on n (ef.Detach p q) x = refl
+attached_same who on n (ef.SetMask p q r s) x = refl
+attached_same who on n (ef.Fire p q r s) x = refl
+attached_same who on n ef.NewNull x = refl
+attached_same who on n (ef.EndNull p) x = refl
+attached_same who on n (ef.SetTimer p q r s t) x = refl
+attached_same who on n (ef.CancelTimer p) x = refl
+attached_same who on n (ef.Bind p q) x = refl
+attached_same who on n (ef.Unbind p) x = refl
+attached_same who on n (ef.Emit p q) x = refl
+attached_same who on n (ef.Usage p q r) x = refl
+attached_same who on n (ef.Suspend p q) x = refl
+attached_same who on n (ef.Resume p) x = refl
+
+-- effects of two lists, one behind the other
+pub attached_laid : (who on : Ref) (xs ys : List Effect) (x : Bool) → overlay activities_by (attached_after who on) (xs ++ ys) x ≡ done (attached_after who on 0) ys (done (attached_after who on 0) xs x)
+attached_laid who on xs ys x = plain activities_by (attached_after who on) (attached_same who on) 0 (xs ++ ys) x ∙ behind (attached_after who on 0) xs ys x
+
+named_same : (name : List ℕ) (n : ℕ) (eff : Effect) (x : (Option Ref)) → named_after name n eff x ≡ named_after name 0 eff x
+named_same name n (ef.SetField p q r) x = refl
+named_same name n (ef.SetAttr p q r) x = refl
+named_same name n (ef.Create p q r) x = refl
+named_same name n (ef.Remove p) x = refl
+named_same name n (ef.SetPriority p q) x = refl
+named_same name n (ef.Attach p q) x = refl
+named_same name n (ef.Detach p q) x = refl
+named_same name n (ef.SetMask p q r s) x = refl
+named_same name n (ef.Fire p q r s) x = refl
+named_same name n ef.NewNull x = refl
+named_same name n (ef.EndNull p) x = refl
+named_same name n (ef.SetTimer p q r s t) x = refl
+named_same name n (ef.CancelTimer p) x = refl
+named_same name n (ef.Bind p q) x = refl
+named_same name n (ef.Unbind p) x = refl
+named_same name n (ef.Emit p q) x = refl
+named_same name n (ef.Usage p q r) x = refl
+named_same name n (ef.Suspend p q) x = refl
+named_same name n (ef.Resume p) x = refl
+
+-- effects of two lists, one behind the other
+pub named_laid : (name : List ℕ) (xs ys : List Effect) (x : (Option Ref)) → overlay activities_by (named_after name) (xs ++ ys) x ≡ done (named_after name 0) ys (done (named_after name 0) xs x)
+named_laid name xs ys x = plain activities_by (named_after name) (named_same name) 0 (xs ++ ys) x ∙ behind (named_after name 0) xs ys x

@@ -1,0 +1,101 @@
+//! Attachments, and the activity on which a name or a timer stands.
+ghost use Rattle.std.specs.Prelude.{◌≡◌, ◌≤◌, ◌<◌, ◌+◌, ◌++◌, ◌^◌, length, IfOk};
+ghost use Rattle.handler_meaning.specs.Overlay.{overlay, overlay_from, activities_by, timers_by, attached_after, named_after, timer_after, stands_on};
+ghost use Rattle.handler_meaning.specs.Observing as read;
+ghost use Rattle.handler_meaning.specs.Observing.{key_of, key_of_two};
+ghost use Rattle.handler_meaning.specs.declared.key.Key.TheVariants as k;
+ghost use Rattle.script_machine.specs.Agreeing.{Agrees};
+ghost use Rattle.script_machine.specs.Settings.{setting_of};
+ghost use Rattle.script_reading.specs.Done.{done};
+
+use crate::answers::{flag_in, refers_in};
+use crate::things::{Thing, count_made, made_by};
+use handler_meaning::Key;
+use script_machine::{Machine, Scene, Stop, is_same_ref};
+use slee_effect::{Effect, Ref};
+use slee_value::{ActivityId, EntityId, Text, TimerId};
+
+/// Whether the entity is attached behind effects.
+fn attached_over(entity: Ref, activity: Ref, effects: &[Effect], first: bool) -> bool
+    ensures { result ≡ done (attached_after entity activity 0) effects.now first }
+{
+    let mut current = first;
+    for effect in effects {
+        match effect {
+            Effect::Attach {
+                entity: who,
+                activity: on,
+            } if is_same_ref(*who, entity) && is_same_ref(*on, activity) => current = true,
+            Effect::Detach {
+                entity: who,
+                activity: on,
+            } if is_same_ref(*who, entity) && is_same_ref(*on, activity) => current = false,
+            _ => {}
+        }
+    }
+    current
+}
+
+fn attached_key(entity: Ref, activity: Ref) -> Option<Key>
+    ensures { result ≡ key_of_two (λ m n. k.Attached (record { 0 = m }) (record { 0 = n })) entity activity }
+{
+    match (entity, activity) {
+        (Ref::Known(entity), Ref::Known(activity)) => {
+            Some(Key::Attached(EntityId(entity), ActivityId(activity)))
+        }
+        _ => None,
+    }
+}
+
+#[tactic(auto, using(crate::proofs::OverlayLemmas::attached_laid))]
+fn attached_laid(machine: &Machine, scene: &Scene, activity: Ref, first: bool) -> bool
+    ensures { result ≡ overlay activities_by (attached_after scene.now.me activity) (scene.now.effects.now ++ machine.now.effects) first }
+{
+    let first = attached_over(scene.me, activity, scene.effects, first);
+    attached_over(scene.me, activity, machine.effects(), first)
+}
+
+/// Whether the entity is attached to the activity.
+pub fn attached(machine: &mut Machine, scene: &Scene, activity: Ref) -> Result<bool, Stop>
+    ensures agrees { Agrees (read.attached (setting_of scene.now) activity) machine.old machine.new result }
+    ensures spent { machine.new.left ≤ machine.old.left }
+{
+    let seen = machine.look(scene, attached_key(scene.me, activity))?;
+    Ok(attached_laid(machine, scene, activity, flag_in(seen)))
+}
+
+/// The activity for which a name stands behind effects.
+fn named_over(name: &Text, effects: &[Effect], first: Option<Ref>) -> Option<Ref>
+    ensures { result ≡ done (named_after name.now 0) effects.now first }
+{
+    let mut current = first;
+    for effect in effects {
+        match effect {
+            Effect::Bind {
+                name: other,
+                activity,
+            } if other.as_bytes() == name.as_bytes() => current = Some(*activity),
+            Effect::Unbind { name: other } if other.as_bytes() == name.as_bytes() => current = None,
+            _ => {}
+        }
+    }
+    current
+}
+
+#[tactic(auto, using(crate::proofs::OverlayLemmas::named_laid))]
+fn named_laid(machine: &Machine, scene: &Scene, name: &Text, first: Option<Ref>) -> Option<Ref>
+    ensures { result ≡ overlay activities_by (named_after name.now) (scene.now.effects.now ++ machine.now.effects) first }
+{
+    let first = named_over(name, scene.effects, first);
+    named_over(name, machine.effects(), first)
+}
+
+/// The activity for which a name stands.
+pub fn named(machine: &mut Machine, scene: &Scene, name: &Text) -> Result<Option<Ref>, Stop>
+    ensures agrees { Agrees (read.named (setting_of scene.now) name.now) machine.old machine.new result }
+    ensures spent { machine.new.left ≤ machine.old.left }
+{
+    let key = Key::Named(name.copy(scene.alloc)?);
+    let seen = machine.look(scene, Some(key))?;
+    Ok(named_laid(machine, scene, name, refers_in(seen)))
+}
