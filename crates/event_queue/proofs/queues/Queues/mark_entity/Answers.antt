@@ -1,0 +1,9 @@
+-- the mark is put in its place
+use Rattle.std.proofs.Common.{refl, ◌∙◌}
+use Rattle.sorted_rows.proofs.AgreeLemmas.{entity_mark_put}
+use Rattle.event_queue.proofs.queues.Queues.mark_entity.Goals as goal
+
+pub returns-clause-rows : goal.returns-clause-rows
+returns-clause-rows c =
+    let made = c.put_row.ensures.items ∙ entity_mark_put (record { activity = c.args.activity; entity = c.args.entity }) c.self.inside.delivered.items in
+    rw (← c.self.view_is, made) refl

@@ -1,0 +1,249 @@
+//! The store of events. Contracts see it as four lists in order, and the number of rows that each of them takes without memory.
+ghost use Rattle.std.specs.Prelude.{ℕ, ◌≡◌, ◌==◌, ◌+◌, ◌≤◌, ◌<◌, [], Some, length, slice_get, filter, IsTrue, OnOk, option_copied, option_map};
+ghost use Rattle.slee_state.specs.Orders.{rises_by};
+ghost use Rattle.event_queue.specs.Views.{HasRoom};
+ghost use Rattle.slee_state.specs.Queues.{queued_before, service_mark_before, entity_mark_before, suspension_before, queue, head_event, is_waiting, is_done, is_delivered, is_suspended, suspended_until, with_event, without_head, with_service_mark, without_service_marks, with_entity_mark, without_entity_marks, with_suspension, without_suspension};
+
+use slee_state::{EntityMark, Event, Queued, ServiceMark, Suspension};
+use slee_value::{ActivityId, EntityId, NoMemory};
+use sorted_rows::{
+    cut_first_of, cut_rows_of, first_row_of, has_row_of, has_row_of_pair, put_row, rows_of,
+};
+use std::alloc::Global;
+use std::marker::Model;
+
+/// The events that wait on all activities, with marks and suspensions.
+#[derive(Debug, Drop)]
+pub struct Queues {
+    events: Vec<Queued>,
+    services_done: Vec<ServiceMark>,
+    delivered: Vec<EntityMark>,
+    suspensions: Vec<Suspension>,
+}
+
+impl Model for Queues {
+    ghost use Rattle.std.specs.Prelude.{vec_capacity, vec_len, ◌-◌};
+    ghost use Rattle.sorted_rows.specs.Keys.{Rises, queued_key, service_mark_key, entity_mark_key, suspension_key};
+    ghost use Rattle.event_queue.specs.Views.{QueuesView};
+
+    ghost Value = { QueuesView };
+
+    ghost view = { λ t. record {
+      events = t.events.items;
+      services_done = t.services_done.items;
+      delivered = t.delivered.items;
+      suspensions = t.suspensions.items;
+      events_room = vec_capacity t.events - vec_len t.events;
+      services_room = vec_capacity t.services_done - vec_len t.services_done;
+      entities_room = vec_capacity t.delivered - vec_len t.delivered;
+      suspensions_room = vec_capacity t.suspensions - vec_len t.suspensions;
+    } };
+
+    ghost invariant = { λ t. Rises queued_key t.events.items × Rises service_mark_key t.services_done.items × Rises entity_mark_key t.delivered.items × Rises suspension_key t.suspensions.items };
+}
+
+impl Queues {
+    /// No events.
+    pub fn new(alloc: Global) -> Self
+        ensures events { result.events ≡ [] }
+        ensures services_done { result.services_done ≡ [] }
+        ensures delivered { result.delivered ≡ [] }
+        ensures suspensions { result.suspensions ≡ [] }
+    {
+        Queues {
+            events: Vec::new(alloc),
+            services_done: Vec::new(alloc),
+            delivered: Vec::new(alloc),
+            suspensions: Vec::new(alloc),
+        }
+    }
+
+    /// Makes room for this many new rows in each list.
+    pub fn reserve(&mut self, rows: u64) -> Result<(), NoMemory>
+        ensures kept { self.new ≡ record self.old { events_room = self.new.events_room; services_room = self.new.services_room; entities_room = self.new.entities_room; suspensions_room = self.new.suspensions_room } }
+        ensures room { OnOk result (HasRoom rows self.new) }
+        ensures grown { (n : ℕ) → HasRoom n self.old → HasRoom n self.new }
+    {
+        self.events.reserve(rows as usize)?;
+        self.services_done.reserve(rows as usize)?;
+        self.delivered.reserve(rows as usize)?;
+        self.suspensions.reserve(rows as usize)?;
+        Ok(())
+    }
+
+    /// The event waits on the activity, in the room that was made. A new event has the greatest number, and so waits last.
+    pub fn push(&mut self, activity: ActivityId, event: Event)
+        requires { 0 < self.old.events_room }
+        ensures rows { self.new ≡ record self.old { events = with_event self.old.events activity.0 event; events_room = self.new.events_room } }
+        ensures room { self.old.events_room ≤ self.new.events_room + 1 }
+    {
+        put_row(&mut self.events, Queued { activity, event });
+    }
+
+    /// Puts an event of a snapshot back.
+    pub fn restore(&mut self, item: Queued)
+        requires { 0 < self.old.events_room }
+        ensures rows { self.new ≡ record self.old { events = with_event self.old.events item.activity.0 item.event; events_room = self.new.events_room } }
+        ensures room { self.old.events_room ≤ self.new.events_room + 1 }
+    {
+        put_row(&mut self.events, item);
+    }
+
+    /// The head event of the activity is gone, with its marks, and is handed out.
+    pub fn pop(&mut self, activity: ActivityId) -> Option<Event>
+        ensures event { result ≡ head_event self.old.events activity.0 }
+        ensures rows { self.new ≡ record self.old {
+          events = without_head self.old.events activity.0;
+          services_done = without_service_marks self.old.services_done activity.0;
+          delivered = without_entity_marks self.old.delivered activity.0;
+          events_room = self.new.events_room;
+          services_room = self.new.services_room;
+          entities_room = self.new.entities_room;
+        } }
+        ensures room { (n : ℕ) → HasRoom n self.old → HasRoom n self.new }
+    {
+        cut_rows_of(&mut self.services_done, activity.0);
+        cut_rows_of(&mut self.delivered, activity.0);
+        match cut_first_of(&mut self.events, activity.0) {
+            Some(queued) => Some(queued.event),
+            None => None,
+        }
+    }
+
+    /// The service's selection was done for the head event of the activity.
+    pub fn mark_service(&mut self, activity: ActivityId, service: u32)
+        requires { 0 < self.old.services_room }
+        ensures rows { self.new ≡ record self.old { services_done = with_service_mark self.old.services_done activity.0 service; services_room = self.new.services_room } }
+        ensures room { self.old.services_room ≤ self.new.services_room + 1 }
+    {
+        put_row(&mut self.services_done, ServiceMark { activity, service });
+    }
+
+    /// The entity has received the head event of the activity.
+    pub fn mark_entity(&mut self, activity: ActivityId, entity: EntityId)
+        requires { 0 < self.old.entities_room }
+        ensures rows { self.new ≡ record self.old { delivered = with_entity_mark self.old.delivered activity.0 entity.0; entities_room = self.new.entities_room } }
+        ensures room { self.old.entities_room ≤ self.new.entities_room + 1 }
+    {
+        put_row(&mut self.delivered, EntityMark { activity, entity });
+    }
+
+    /// The head event of the activity is suspended until this moment.
+    #[tactic(auto, using(sorted_rows::proofs::AgreeLemmas::suspension_put))]
+    pub fn hold(&mut self, activity: ActivityId, until: u64)
+        requires { 0 < self.old.suspensions_room }
+        ensures rows { self.new ≡ record self.old { suspensions = with_suspension self.old.suspensions activity.0 until; suspensions_room = self.new.suspensions_room } }
+        ensures room { self.old.suspensions_room ≤ self.new.suspensions_room + 1 }
+    {
+        put_row(&mut self.suspensions, Suspension { activity, until });
+    }
+
+    /// The head event of the activity isn't suspended. Answers whether it was.
+    pub fn release(&mut self, activity: ActivityId) -> bool
+        ensures was { result ≡ is_suspended self.old.suspensions activity.0 }
+        ensures rows { self.new ≡ record self.old { suspensions = without_suspension self.old.suspensions activity.0; suspensions_room = self.new.suspensions_room } }
+        ensures room { self.old.suspensions_room ≤ self.new.suspensions_room }
+    {
+        let was = self.suspended_until(activity).is_some();
+        cut_rows_of(&mut self.suspensions, activity.0);
+        was
+    }
+
+    /// The moment until which the head event of the activity is suspended.
+    pub fn suspended_until(&self, activity: ActivityId) -> Option<u64>
+        ensures { result ≡ suspended_until self.now.suspensions activity.0 }
+    {
+        match first_row_of(&self.suspensions, activity.0) {
+            Some(row) => Some(row.until),
+            None => None,
+        }
+    }
+
+    /// The head event of the activity: the one that comes next.
+    pub fn front(&self, activity: ActivityId) -> Option<&Event>
+        ensures { option_copied result ≡ head_event self.now.events activity.0 }
+    {
+        match first_row_of(&self.events, activity.0) {
+            Some(row) => Some(&row.event),
+            None => None,
+        }
+    }
+
+    /// The event at this place of the activity's queue, counted from 0.
+    pub fn event_at(&self, activity: ActivityId, place: u64) -> Option<&Event>
+        ensures { option_copied result ≡ slice_get (queue self.now.events activity.0) place }
+    {
+        match rows_of(&self.events, activity.0).get(place as usize) {
+            Some(row) => Some(&row.event),
+            None => None,
+        }
+    }
+
+    /// Whether an event waits on the activity.
+    pub fn is_waiting(&self, activity: ActivityId) -> bool
+        ensures { result ≡ is_waiting self.now.events activity.0 }
+    {
+        has_row_of(&self.events, activity.0)
+    }
+
+    /// Whether the service's selection was done for the head event of the activity.
+    pub fn is_done(&self, activity: ActivityId, service: u32) -> bool
+        ensures { result ≡ is_done self.now.services_done activity.0 service }
+    {
+        has_row_of_pair(&self.services_done, activity.0, service as u64)
+    }
+
+    /// Whether the entity has received the head event of the activity.
+    pub fn is_delivered(&self, activity: ActivityId, entity: EntityId) -> bool
+        ensures { result ≡ is_delivered self.now.delivered activity.0 entity.0 }
+    {
+        has_row_of_pair(&self.delivered, activity.0, entity.0)
+    }
+
+    /// The marks of services for the head event of the activity, rising by service.
+    pub fn services_done(&self, activity: ActivityId) -> &[ServiceMark]
+        ensures { result.now ≡ filter (λ m. m.activity.0 == activity.0) self.now.services_done }
+    {
+        rows_of(&self.services_done, activity.0)
+    }
+
+    /// The marks of entities for the head event of the activity, rising by entity.
+    pub fn delivered(&self, activity: ActivityId) -> &[EntityMark]
+        ensures { result.now ≡ filter (λ m. m.activity.0 == activity.0) self.now.delivered }
+    {
+        rows_of(&self.delivered, activity.0)
+    }
+
+    /// All suspensions, rising by activity.
+    pub fn suspensions(&self) -> &[Suspension]
+        ensures { result.now ≡ self.now.suspensions }
+    {
+        &self.suspensions
+    }
+
+    /// How many events wait.
+    pub fn len(&self) -> u64
+        ensures { result ≡ length self.now.events }
+    {
+        self.events.len() as u64
+    }
+
+    /// The event at this place of all that wait, counted from 0.
+    pub fn at(&self, place: u64) -> &Queued
+        requires { place < length self.now.events }
+        ensures { slice_get self.now.events place ≡ Some result.now }
+    {
+        &self.events[place as usize]
+    }
+
+    /// Passes on that each list stands in its order.
+    #[tactic(auto, using(sorted_rows::proofs::AgreeLemmas::queued_order, sorted_rows::proofs::AgreeLemmas::service_mark_order, sorted_rows::proofs::AgreeLemmas::entity_mark_order, sorted_rows::proofs::AgreeLemmas::suspension_order))]
+    pub fn in_order(&self)
+        ensures events { IsTrue (rises_by queued_before self.now.events) }
+        ensures services_done { IsTrue (rises_by service_mark_before self.now.services_done) }
+        ensures delivered { IsTrue (rises_by entity_mark_before self.now.delivered) }
+        ensures suspensions { IsTrue (rises_by suspension_before self.now.suspensions) }
+    {
+        let _events = &self.events;
+    }
+}
