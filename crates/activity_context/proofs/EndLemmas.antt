@@ -1,5 +1,5 @@
 -- One activity is made Ending.
-use Rattle.std.proofs.Common.{◌≡◌, ℕ, suc, ◌+◌, ◌==◌, Bool, true, false, List, [], ◌∷◌, Some, None, map, get_or, set, refl, ap, arith, inl, inr}
+use Rattle.std.proofs.Common.{◌≡◌, ℕ, suc, ◌+◌, ◌==◌, true, false, List, [], ◌∷◌, Some, None, map, get_or, set, refl, ap, arith, inl, inr}
 use Rattle.std.specs.List.{AllByRecursion, position_from}
 use Rattle.std.proofs.lemmas.Bool.{cases_Bool}
 use Rattle.std.proofs.lemmas.Bool.Decides.{nat_tests}
