@@ -1,0 +1,5 @@
+pub mod LookupLemmas
+pub mod ChainLemmas
+pub mod MakingLemmas
+pub mod LinkLemmas
+pub mod Depths

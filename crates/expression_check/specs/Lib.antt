@@ -1,0 +1,6 @@
+pub mod Answers
+pub mod ScopeOf
+pub mod SettingOf
+pub mod TypedTerms
+pub mod Rules
+pub mod Links
