@@ -84,7 +84,11 @@ pub fn check_expression(
             let start = behind(at, 1)?;
             let one = check_expression(setting, scope, start, operand)?;
             let kind = prefix_kind(*op);
-            check_test(CheckBad::Mismatch, start, expr_serves(operand, one.kind, kind))?;
+            check_test(
+                CheckBad::Mismatch,
+                start,
+                expr_serves(operand, one.kind, kind),
+            )?;
             Ok(TypedTerm {
                 kind,
                 term: ask(setting.alloc, question_before(*op), one.term)?,
@@ -119,7 +123,11 @@ fn check_ask(
     ensures end { IfOk result (λ m. m.end ≡ at + tokens_in (Ask parts.now.0 (tree_of parts.now.1))) }
 {
     let (query, x) = parts;
-    check_test(CheckBad::Name, behind(at, 2)?, is_query_known(setting.codes, query))?;
+    check_test(
+        CheckBad::Name,
+        behind(at, 2)?,
+        is_query_known(setting.codes, query),
+    )?;
     let start = behind(at, tokens_before(query))?;
     let one = check_expression(setting, scope, start, x)?;
     check_test(CheckBad::Mismatch, start, takes(query, x, one.kind))?;
@@ -146,7 +154,11 @@ fn check_pair(
 {
     let (x, op, y) = first;
     let one = side_of(check_expression(setting, scope, at, x)?, is_nothing(x));
-    check_test(CheckBad::Mismatch, at, left_fits(rule_of(*op), one.operand()))?;
+    check_test(
+        CheckBad::Mismatch,
+        at,
+        left_fits(rule_of(*op), one.operand()),
+    )?;
     let start = behind(one.made.end, 1)?;
     let other = side_of(check_expression(setting, scope, start, y)?, is_nothing(y));
     check_joined(setting.alloc, *op, start, one, other)
@@ -167,7 +179,11 @@ fn check_links(
     let mut left = first;
     'links: for (op, y) in links {
         let one = side_of(left, false);
-        check_test(CheckBad::Mismatch, at, left_fits(rule_of(*op), one.operand()))?;
+        check_test(
+            CheckBad::Mismatch,
+            at,
+            left_fits(rule_of(*op), one.operand()),
+        )?;
         let start = behind(one.made.end, 1)?;
         let other = side_of(check_expression(setting, scope, start, y)?, is_nothing(y));
         left = check_joined(setting.alloc, *op, start, one, other)?;

@@ -6,7 +6,9 @@ ghost use Rattle.script_types.specs.CodesOf.{codes_of, block_of_code};
 ghost use Rattle.script_types.specs.Elaboration.{attribute_named};
 
 use script_tree::Identifier;
-use script_types::{AttributeCode, BlockCode, Codes, EventCode, FieldCode, RelationCode, TableCode};
+use script_types::{
+    AttributeCode, BlockCode, Codes, EventCode, FieldCode, RelationCode, TableCode,
+};
 use slee_value::{Kind, Name, NoMemory};
 use std::alloc::Global;
 
@@ -39,7 +41,9 @@ pub fn relation_named<'a>(block: &'a BlockCode, name: &[u8]) -> Option<&'a Relat
     ensures { option_copied result ≡ relation_named name.now (block_of_code block.now) }
 {
     let relations = block.relations.as_slice();
-    relations.iter().find(|relation| relation.name.as_bytes() == name)
+    relations
+        .iter()
+        .find(|relation| relation.name.as_bytes() == name)
 }
 
 /// The block's attribute of activities with that name.
@@ -47,7 +51,9 @@ pub fn attribute_named<'a>(block: &'a BlockCode, name: &[u8]) -> Option<&'a Attr
     ensures { option_copied result ≡ attribute_named name.now (block_of_code block.now) }
 {
     let attributes = block.attributes.as_slice();
-    attributes.iter().find(|attribute| attribute.name.as_bytes() == name)
+    attributes
+        .iter()
+        .find(|attribute| attribute.name.as_bytes() == name)
 }
 
 /// The place of the table of that name.
@@ -55,7 +61,9 @@ pub fn place_of_table(codes: &Codes, name: &[u8]) -> Option<usize>
     ensures { result ≡ position (λ x. bytes_eq x.name name.now) codes.now.tables }
 {
     let tables = codes.tables.as_slice();
-    tables.iter().position(|table| table.name.as_bytes() == name)
+    tables
+        .iter()
+        .position(|table| table.name.as_bytes() == name)
 }
 
 /// The table of that name.

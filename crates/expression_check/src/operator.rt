@@ -38,10 +38,8 @@ pub fn rule_of(op: Operator) -> Rule
     match op {
         Operator::Or | Operator::And => Rule::Both(Kind::Bool),
         Operator::Equal | Operator::NotEqual => Rule::Equated,
-        Operator::Less
-        | Operator::LessOrEqual
-        | Operator::Greater
-        | Operator::GreaterOrEqual => Rule::Ordered,
+        Operator::Less | Operator::LessOrEqual | Operator::Greater | Operator::GreaterOrEqual =>
+            Rule::Ordered,
         Operator::Join => Rule::Both(Kind::Text),
         Operator::Plus
         | Operator::Minus

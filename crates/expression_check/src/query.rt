@@ -18,7 +18,7 @@ use crate::lookup::{attribute_named, is_event, is_table, kind_in_row, name_of};
 use crate::{ScriptFault, Setting, check_known, check_not_on_remove};
 use script_tree::{Expr, Function, Identifier, Query};
 use script_types::{Codes, Question};
-use slee_value::{Kind};
+use slee_value::Kind;
 
 /// What a function gives, and the question that it is.
 #[derive(Drop)]
@@ -172,7 +172,10 @@ fn check_profile(
 ) -> Result<Asking, ScriptFault>
     ensures { Gives asking_in result (asking_of (setting_of setting.now) at found (queries.Profile table.now name.now)) }
 {
-    let kind = check_known(at, kind_in_row(setting.codes, table.as_bytes(), name.as_bytes()))?;
+    let kind = check_known(
+        at,
+        kind_in_row(setting.codes, table.as_bytes(), name.as_bytes()),
+    )?;
     let table = name_of(setting.alloc, table)?;
     let name = name_of(setting.alloc, name)?;
     Ok(Asking {

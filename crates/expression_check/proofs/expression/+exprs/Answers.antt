@@ -36,25 +36,31 @@ pub check_links-returns-in_err-check_test : goal.check_links-returns-in_err-chec
 check_links-returns-in_err-check_test t c =
     let p = err_from_is_err_and c.from_residual.result c.from_residual.ensures.1 in
     rw (p.1, p.2) (λ x h.
-      let m = c.links.invariant x h in
-      (link_refuses (setting_of c.args.setting.now) c.args.scope.now c.args.at x c.args.links.now c.links.op-index c.links-item.result _ c.links-test.true c.links-item.is
-        (left_unfit (setting_of c.args.setting.now) c.args.scope.now c.args.at c.links-item.result.0 (joined x (take c.links.op-index c.args.links.now)) (tree_of c.links-item.result.1) _ _ _ m.made (fits_left c.rule_of.result c.links-item.result.0 c.operand.result c.side_of-one.result c.links.left false c.left_fits.result (joined x (take c.links.op-index c.args.links.now)) c.left_fits.ensures c.rule_of.ensures c.operand.ensures c.side_of-one.ensures m.something) c.in_err-check_test.ensures), tt))
+    let m = c.links.invariant x h in (
+      link_refuses (setting_of c.args.setting.now) c.args.scope.now c.args.at x c.args.links.now c.links.op-index c.links-item.result _ c.links-test.true c.links-item.is
+          (left_unfit (setting_of c.args.setting.now) c.args.scope.now c.args.at c.links-item.result.0 (joined x (take c.links.op-index c.args.links.now)) (tree_of c.links-item.result.1) _ _ _ m.made (fits_left c.rule_of.result c.links-item.result.0 c.operand.result c.side_of-one.result c.links.left false c.left_fits.result (joined x (take c.links.op-index c.args.links.now)) c.left_fits.ensures c.rule_of.ensures c.operand.ensures c.side_of-one.ensures m.something) c.in_err-check_test.ensures),
+      tt,
+    ))
 
 pub check_links-returns-in_err-check_expression : goal.check_links-returns-in_err-check_expression
 check_links-returns-in_err-check_expression t c =
     let p = err_from_is_err_and c.from_residual-in_err-check_expression.result c.from_residual-in_err-check_expression.ensures.1 in
     rw (p.1, p.2) (λ x h.
-      let m = c.links.invariant x h in
-      (link_refuses (setting_of c.args.setting.now) c.args.scope.now c.args.at x c.args.links.now c.links.op-index c.links-item.result _ c.links-test.true c.links-item.is
-        (right_refused (setting_of c.args.setting.now) c.args.scope.now c.args.at c.in_ok-start.start c.links-item.result.0 (joined x (take c.links.op-index c.args.links.now)) (tree_of c.links-item.result.1) _ _ m.made (sym (fits_left c.rule_of.result c.links-item.result.0 c.operand.result c.side_of-one.result c.links.left false c.left_fits.result (joined x (take c.links.op-index c.args.links.now)) c.left_fits.ensures c.rule_of.ensures c.operand.ensures c.side_of-one.ensures m.something) ∙ passed _ _ _ _ c.in_ok-check_test.ensures) (start_is c.args.at c.in_ok-start.start c.links.left.end (joined x (take c.links.op-index c.args.links.now)) (c.in_ok-start.ensures.place ∙ ap (λ z. z.made.end + 1) c.side_of-one.ensures) m.end) c.in_err-check_expression.ensures.made), tt))
+    let m = c.links.invariant x h in (
+      link_refuses (setting_of c.args.setting.now) c.args.scope.now c.args.at x c.args.links.now c.links.op-index c.links-item.result _ c.links-test.true c.links-item.is
+          (right_refused (setting_of c.args.setting.now) c.args.scope.now c.args.at c.in_ok-start.start c.links-item.result.0 (joined x (take c.links.op-index c.args.links.now)) (tree_of c.links-item.result.1) _ _ m.made (sym (fits_left c.rule_of.result c.links-item.result.0 c.operand.result c.side_of-one.result c.links.left false c.left_fits.result (joined x (take c.links.op-index c.args.links.now)) c.left_fits.ensures c.rule_of.ensures c.operand.ensures c.side_of-one.ensures m.something) ∙ passed _ _ _ _ c.in_ok-check_test.ensures) (start_is c.args.at c.in_ok-start.start c.links.left.end (joined x (take c.links.op-index c.args.links.now)) (c.in_ok-start.ensures.place ∙ ap (λ z. z.made.end + 1) c.side_of-one.ensures) m.end) c.in_err-check_expression.ensures.made),
+      tt,
+    ))
 
 pub check_links-returns-in_err-left : goal.check_links-returns-in_err-left
 check_links-returns-in_err-left t c =
     let p = err_from_is_err_and c.from_residual-in_err-left.result c.from_residual-in_err-left.ensures.1 in
     rw (p.1, p.2) (λ x h.
-      let m = c.links.invariant x h in
-      (link_refuses (setting_of c.args.setting.now) c.args.scope.now c.args.at x c.args.links.now c.links.op-index c.links-item.result _ c.links-test.true c.links-item.is
-        (step_gives (setting_of c.args.setting.now) c.args.scope.now c.args.at c.in_ok-start.start c.links-item.result.0 (joined x (take c.links.op-index c.args.links.now)) (tree_of c.links-item.result.1) c.links.left c.in_ok-check_expression.field-0 false c.is_nothing.result c.side_of-one.result c.side_of-other.result (Err c.in_err-left.field-0.0) c.in_err-left.ensures.made c.side_of-one.ensures c.side_of-other.ensures m.something (sym c.is_nothing.ensures) m.made (sym (fits_left c.rule_of.result c.links-item.result.0 c.operand.result c.side_of-one.result c.links.left false c.left_fits.result (joined x (take c.links.op-index c.args.links.now)) c.left_fits.ensures c.rule_of.ensures c.operand.ensures c.side_of-one.ensures m.something) ∙ passed _ _ _ _ c.in_ok-check_test.ensures) (start_is c.args.at c.in_ok-start.start c.links.left.end (joined x (take c.links.op-index c.args.links.now)) (c.in_ok-start.ensures.place ∙ ap (λ z. z.made.end + 1) c.side_of-one.ensures) m.end) c.in_ok-check_expression.ensures.made), tt))
+    let m = c.links.invariant x h in (
+      link_refuses (setting_of c.args.setting.now) c.args.scope.now c.args.at x c.args.links.now c.links.op-index c.links-item.result _ c.links-test.true c.links-item.is
+          (step_gives (setting_of c.args.setting.now) c.args.scope.now c.args.at c.in_ok-start.start c.links-item.result.0 (joined x (take c.links.op-index c.args.links.now)) (tree_of c.links-item.result.1) c.links.left c.in_ok-check_expression.field-0 false c.is_nothing.result c.side_of-one.result c.side_of-other.result (Err c.in_err-left.field-0.0) c.in_err-left.ensures.made c.side_of-one.ensures c.side_of-other.ensures m.something (sym c.is_nothing.ensures) m.made (sym (fits_left c.rule_of.result c.links-item.result.0 c.operand.result c.side_of-one.result c.links.left false c.left_fits.result (joined x (take c.links.op-index c.args.links.now)) c.left_fits.ensures c.rule_of.ensures c.operand.ensures c.side_of-one.ensures m.something) ∙ passed _ _ _ _ c.in_ok-check_test.ensures) (start_is c.args.at c.in_ok-start.start c.links.left.end (joined x (take c.links.op-index c.args.links.now)) (c.in_ok-start.ensures.place ∙ ap (λ z. z.made.end + 1) c.side_of-one.ensures) m.end) c.in_ok-check_expression.ensures.made),
+      tt,
+    ))
 
 pub check_links-links-init : goal.check_links-links-init
 check_links-links-init t c =
@@ -63,16 +69,16 @@ check_links-links-init t c =
 pub check_links-links-preserved : goal.check_links-links-preserved
 check_links-links-preserved t c =
     λ x h.
-      let m = c.links.invariant x h in
-      makes_next (setting_of c.args.setting.now) c.args.scope.now c.args.at x c.args.links.now c.links.op-index c.links-item.result c.in_ok-left.left c.links-test.true c.links-item.is
-        (step_gives (setting_of c.args.setting.now) c.args.scope.now c.args.at c.in_ok-start.start c.links-item.result.0 (joined x (take c.links.op-index c.args.links.now)) (tree_of c.links-item.result.1) c.links.left c.in_ok-check_expression.field-0 false c.is_nothing.result c.side_of-one.result c.side_of-other.result (Ok c.in_ok-left.left) c.in_ok-left.ensures.made c.side_of-one.ensures c.side_of-other.ensures m.something (sym c.is_nothing.ensures) m.made (sym (fits_left c.rule_of.result c.links-item.result.0 c.operand.result c.side_of-one.result c.links.left false c.left_fits.result (joined x (take c.links.op-index c.args.links.now)) c.left_fits.ensures c.rule_of.ensures c.operand.ensures c.side_of-one.ensures m.something) ∙ passed _ _ _ _ c.in_ok-check_test.ensures) (start_is c.args.at c.in_ok-start.start c.links.left.end (joined x (take c.links.op-index c.args.links.now)) (c.in_ok-start.ensures.place ∙ ap (λ z. z.made.end + 1) c.side_of-one.ensures) m.end) c.in_ok-check_expression.ensures.made)
-        (step_end c.args.at c.in_ok-start.start c.in_ok-left.left.end c.links-item.result.0 (joined x (take c.links.op-index c.args.links.now)) (tree_of c.links-item.result.1) (start_is c.args.at c.in_ok-start.start c.links.left.end (joined x (take c.links.op-index c.args.links.now)) (c.in_ok-start.ensures.place ∙ ap (λ z. z.made.end + 1) c.side_of-one.ensures) m.end) (c.in_ok-left.ensures.end ∙ ap (λ z. z.made.end) c.side_of-other.ensures ∙ c.in_ok-check_expression.ensures.end))
+    let m = c.links.invariant x h in
+    makes_next (setting_of c.args.setting.now) c.args.scope.now c.args.at x c.args.links.now c.links.op-index c.links-item.result c.in_ok-left.left c.links-test.true c.links-item.is
+    (step_gives (setting_of c.args.setting.now) c.args.scope.now c.args.at c.in_ok-start.start c.links-item.result.0 (joined x (take c.links.op-index c.args.links.now)) (tree_of c.links-item.result.1) c.links.left c.in_ok-check_expression.field-0 false c.is_nothing.result c.side_of-one.result c.side_of-other.result (Ok c.in_ok-left.left) c.in_ok-left.ensures.made c.side_of-one.ensures c.side_of-other.ensures m.something (sym c.is_nothing.ensures) m.made (sym (fits_left c.rule_of.result c.links-item.result.0 c.operand.result c.side_of-one.result c.links.left false c.left_fits.result (joined x (take c.links.op-index c.args.links.now)) c.left_fits.ensures c.rule_of.ensures c.operand.ensures c.side_of-one.ensures m.something) ∙ passed _ _ _ _ c.in_ok-check_test.ensures) (start_is c.args.at c.in_ok-start.start c.links.left.end (joined x (take c.links.op-index c.args.links.now)) (c.in_ok-start.ensures.place ∙ ap (λ z. z.made.end + 1) c.side_of-one.ensures) m.end) c.in_ok-check_expression.ensures.made)
+    (step_end c.args.at c.in_ok-start.start c.in_ok-left.left.end c.links-item.result.0 (joined x (take c.links.op-index c.args.links.now)) (tree_of c.links-item.result.1) (start_is c.args.at c.in_ok-start.start c.links.left.end (joined x (take c.links.op-index c.args.links.now)) (c.in_ok-start.ensures.place ∙ ap (λ z. z.made.end + 1) c.side_of-one.ensures) m.end) (c.in_ok-left.ensures.end ∙ ap (λ z. z.made.end) c.side_of-other.ensures ∙ c.in_ok-check_expression.ensures.end))
 
 pub check_links-returns : goal.check_links-returns
 check_links-returns t c =
     λ x h.
-      let m = c.links.invariant x h in
-      subst (GivesEnded (Ok c.links.left) (setting_of c.args.setting.now) c.args.scope.now c.args.at) (ap (joined x) (take_all c.links.op-index c.args.links.now c.links-test.false)) (m.made, m.end)
+    let m = c.links.invariant x h in
+    subst (GivesEnded (Ok c.links.left) (setting_of c.args.setting.now) c.args.scope.now c.args.at) (ap (joined x) (take_all c.links.op-index c.args.links.now c.links-test.false)) (m.made, m.end)
 
 pub check_expression-returns-in_err-left-in-Chain-clause-made : goal.check_expression-returns-in_err-left-in-Chain-clause-made
 check_expression-returns-in_err-left-in-Chain-clause-made t c =
