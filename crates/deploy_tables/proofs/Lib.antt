@@ -1,0 +1,2 @@
+pub mod NotingIds
+pub mod Items

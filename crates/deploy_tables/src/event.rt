@@ -1,0 +1,57 @@
+//! Event types.
+ghost use Rattle.slee_descriptor.specs.Faults.{Says};
+ghost use Rattle.deploy_shape.specs.Forms.{object};
+ghost use Rattle.deploy_shape.specs.Numbers.{answer_of};
+ghost use Rattle.deploy_tables.specs.Lookups.{names_of};
+ghost use Rattle.deploy_tables.specs.Tables.{event_key, event_members};
+
+use crate::component::{Version, component};
+use crate::lookup::Lookup;
+use deploy_shape::{
+    End, Form, Label, MapOf, May, Named, Need, Numbers, Object, TextOf, TextRule, TypeWord,
+    check_fresh, check_name, unless,
+};
+use serde_json::Value;
+use slee_descriptor::{DeployBad, DeployFault};
+use std::alloc::Global;
+
+/// The key of an event type.
+#[derive(Drop)]
+struct EventKey<'a, 'v>(&'a Numbers<'v>);
+
+impl<'a, 'v> TextRule for EventKey<'a, 'v> {
+    ghost text_fault = { λ s. event_key (answer_of s.0.now) };
+
+    fn check_text(
+        &self,
+        alloc: Global,
+        number: usize,
+        _owner: &Value,
+        text: &str,
+    ) -> Result<(), DeployFault> {
+        check_name(alloc, text)?;
+        unless(alloc, !(text == "timer"), DeployBad::Repeated)?;
+        check_fresh(alloc, self.0.get(text), number)
+    }
+}
+
+/// An event type.
+#[derive(Drop)]
+pub(crate) struct EventForm<'a, 'v>(pub &'a Lookup<'v>);
+
+impl<'a, 'v> Form for EventForm<'a, 'v> {
+    ghost fault = { λ s. object (event_members (names_of s.0.now)) };
+
+    fn check(
+        &self,
+        alloc: Global,
+        number: usize,
+        owner: &Value,
+        value: &Value,
+    ) -> Result<(), DeployFault> {
+        let all = self.0;
+        let key = TextOf(EventKey(&all.events.keys));
+        let fields = May("fields", MapOf(Named(TextOf(TypeWord))), End);
+        Object(component!(key, &all.events.ids, fields)).check(alloc, number, owner, value)
+    }
+}
