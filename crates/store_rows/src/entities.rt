@@ -55,6 +55,7 @@ fn order(tree: &Tree, alloc: Global, top: u64) -> Result<Vec<EntityId>, NoMemory
 }
 
 // The entity goes, unless it has a child.
+#[tactic(auto, using(crate::proofs::GoneLemmas::none_there))]
 fn remove(tree: &mut Tree, entity: EntityId) {
     if !tree.has_child(entity) {
         tree.remove(entity);
