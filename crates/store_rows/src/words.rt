@@ -1,0 +1,19 @@
+//! Names and texts that the tests are written with.
+
+use slee_value::{Name, NoMemory, Text};
+use std::alloc::Global;
+
+/// The name that is spelled so. What is no name fails the test, as want of memory does.
+pub fn name(alloc: Global, spelled: &str) -> Result<Name, NoMemory> {
+    let bytes = spelled.as_bytes();
+    if Name::is_name(bytes) {
+        Name::from_slice(alloc, bytes)
+    } else {
+        Err(NoMemory)
+    }
+}
+
+/// The text that is spelled so.
+pub fn text(alloc: Global, spelled: &str) -> Result<Text, NoMemory> {
+    Text::from_str(alloc, spelled)
+}
