@@ -1,6 +1,6 @@
 #!/usr/bin/env python3
 """Deployments and the first fault of each, worked out by hand from docs/FORMATS.md, and a check that the definitions of
-slee_descriptor say the same. Without the tool that evaluates definitions (deployments.py says where it is looked for) nothing
+deployment_parts say the same. Without the tool that evaluates definitions (deployments.py says where it is looked for) nothing
 is run, and it says so. With no fault the answer is None."""
 import sys
 
@@ -163,7 +163,7 @@ class Builder:
         self.kinds = {word: getattr(kind, "value", kind) for word, kind in found.items()}
 
     def record(self, kind_of_row, /, **fields):
-        return self.world.record(f"slee_descriptor.parts.{kind_of_row}", **fields)
+        return self.world.record(f"deployment_parts.parts.{kind_of_row}", **fields)
 
     def text(self, s):
         return self.rundefs.codes(s)
@@ -237,7 +237,7 @@ def main():
     import rundefs
 
     builder = Builder(rundefs, world)
-    fault_of = builder.world.eval("slee_descriptor.specs.Tables.parts_fault")
+    fault_of = builder.world.eval("deployment_parts.specs.Tables.parts_fault")
     wrong = 0
     for name, row, wanted in ROWS:
         found = rundefs.deep(lambda row=row: answer(fault_of(builder.parts(row))))

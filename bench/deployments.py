@@ -142,10 +142,10 @@ class Deployment:
         )
 
     def given(self, kind, **fields):
-        return self.world.record("slee_descriptor.specs.Deployed." + kind, **fields)
+        return self.world.record("deployment_parts.specs.Deployed." + kind, **fields)
 
     def choice(self, kind, word):
-        return self.world.variant("slee_descriptor.choice." + kind, word)()
+        return self.world.variant("deployment_parts.choice." + kind, word)()
 
     def handling(self, handler):
         initial, custom = handler.get("initial"), handler.get("custom")

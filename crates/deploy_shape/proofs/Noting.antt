@@ -4,7 +4,7 @@ use Rattle.std.specs.Option.{option_copied}
 use Rattle.std.proofs.lemmas.Slice.Eq.{bytes_eq-Decides}
 use Rattle.std.specs.Str.{bytes_eq}
 use Rattle.std.specs.Map.{update}
-use Rattle.slee_descriptor.specs.Rules.{or_later}
+use Rattle.deployment_parts.specs.Rules.{or_later}
 use Rattle.deploy_shape.specs.Numbers.{where_named}
 
 turned_at : (x y : List ℕ) (a b : Bool) → bytes_eq x y ≡ a → bytes_eq y x ≡ b → a ≡ b

@@ -1,8 +1,8 @@
 -- Steps of a walk.
 use Rattle.std.proofs.Common.{◌≡◌, Option}
-use Rattle.slee_descriptor.specs.declared.fault.DeployFault.{DeployFault}
-use Rattle.slee_descriptor.specs.declared.fault.DeployFault.TheVariants as answers
-use Rattle.slee_descriptor.specs.Faults.{Fault, Tells, and_then}
+use Rattle.deployment_parts.specs.declared.fault.DeployFault.{DeployFault}
+use Rattle.deployment_parts.specs.declared.fault.DeployFault.TheVariants as answers
+use Rattle.deployment_parts.specs.Faults.{Fault, Tells, and_then}
 
 -- the fault of the first of two is that of both
 pub first_told : (m later : Option Fault) (e : DeployFault) → Tells m e → Tells (and_then m later) e

@@ -4,8 +4,8 @@ use Rattle.serde_json.specs.Data.{Data, Items, no_items, item, Members, no_membe
 use Rattle.serde_json.specs.Find.{as_array, as_object, as_bool, as_null, as_number, as_i64, get}
 use Rattle.slee_value.specs.Name.{is_name}
 use Rattle.script_tree.specs.Tree.{Bytes}
-use Rattle.slee_descriptor.specs.declared.fault.DeployBad.TheVariants as bad
-use Rattle.slee_descriptor.specs.Faults.{Fault, here, unless, under, and_then}
+use Rattle.deployment_parts.specs.declared.fault.DeployBad.TheVariants as bad
+use Rattle.deployment_parts.specs.Faults.{Fault, here, unless, under, and_then}
 use Rattle.deploy_shape.specs.Pointers.{escaped}
 
 -- The first fault of a value, by the number of the list's item in which it stands and by the object that has it.

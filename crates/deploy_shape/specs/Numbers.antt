@@ -7,7 +7,7 @@ use denote.Ref.{Bor}
 use Rattle.serde_json.specs.Data.{Data, Items, no_items, item}
 use Rattle.serde_json.specs.Find.{get, as_str, as_array}
 use Rattle.script_tree.specs.Tree.{Bytes}
-use Rattle.slee_descriptor.specs.Rules.{Numbering, or_later}
+use Rattle.deployment_parts.specs.Rules.{Numbering, or_later}
 use Rattle.deploy_shape.specs.declared.firsts.Firsts.{Firsts}
 
 -- The text that an object has at a member.

@@ -3,7 +3,7 @@ use Rattle.std.specs.Prelude.{Option, Some, None}
 use Rattle.serde_json.specs.Data.{Items, null}
 use Rattle.serde_json.specs.Find.{as_str, as_array}
 use Rattle.script_tree.specs.Tree.{Bytes}
-use Rattle.slee_descriptor.specs.Faults.{Fault}
+use Rattle.deployment_parts.specs.Faults.{Fault}
 use Rattle.deploy_shape.specs.Forms.{Form, list_or_type}
 use Rattle.deploy_shape.specs.Texts.{text, any_text}
 

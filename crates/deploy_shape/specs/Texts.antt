@@ -6,9 +6,9 @@ use Rattle.slee_value.specs.Name.{is_name}
 use Rattle.slee_value.specs.declared.kind.Kind.{Kind}
 use Rattle.slee_value.specs.declared.kind.Kind.TheVariants as kinds
 use Rattle.script_tree.specs.Tree.{Bytes}
-use Rattle.slee_descriptor.specs.declared.fault.DeployBad.TheVariants as bad
-use Rattle.slee_descriptor.specs.Faults.{Fault, here, unless, and_then}
-use Rattle.slee_descriptor.specs.Rules.{Numbering, fresh, known, label as label_rule, profile_kind}
+use Rattle.deployment_parts.specs.declared.fault.DeployBad.TheVariants as bad
+use Rattle.deployment_parts.specs.Faults.{Fault, here, unless, and_then}
+use Rattle.deployment_parts.specs.Rules.{Numbering, fresh, known, label as label_rule, profile_kind}
 use Rattle.deploy_shape.specs.Forms.{Form, name_rule}
 
 -- The first fault of a text, by the number of the list's item in which it stands and by the object that has it.

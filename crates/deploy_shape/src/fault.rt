@@ -1,9 +1,9 @@
 //! Faults of JSON values: their places as JSON pointers.
 ghost use Rattle.std.specs.Prelude.{◌≡◌, ◌∷◌, ◌++◌, Option, IfOk, OnOk, string_bytes};
-ghost use Rattle.slee_descriptor.specs.Faults.{Fault, Tells, Says, here as first_here, unless as unless_so, under};
+ghost use Rattle.deployment_parts.specs.Faults.{Fault, Tells, Says, here as first_here, unless as unless_so, under};
 ghost use Rattle.deploy_shape.specs.Pointers.{escaped, printed as printed_so};
 
-use slee_descriptor::{DeployBad, DeployFault};
+use deployment_parts::{DeployBad, DeployFault};
 use slee_value::{NoMemory, Text};
 use std::alloc::Global;
 

@@ -1,7 +1,7 @@
 //! What the first of each name stands for, by an index over texts that a JSON value lends.
 ghost use Rattle.std.specs.Prelude.{◌≡◌, Option, OnOk};
 ghost use Rattle.script_tree.specs.Tree.{Bytes};
-ghost use Rattle.slee_descriptor.specs.Rules.{or_later};
+ghost use Rattle.deployment_parts.specs.Rules.{or_later};
 ghost use Rattle.deploy_shape.specs.Numbers.{answer_of, where_named};
 
 use indexmap::IndexMap;

@@ -1,9 +1,9 @@
 //! Forms that JSON values may have.
-ghost use Rattle.slee_descriptor.specs.Faults.{Fault, Says};
+ghost use Rattle.deployment_parts.specs.Faults.{Fault, Says};
 ghost use Rattle.serde_json.specs.View.{view};
 
 use serde_json::Value;
-use slee_descriptor::DeployFault;
+use deployment_parts::DeployFault;
 use std::alloc::Global;
 
 /// A form of values.

@@ -1,11 +1,11 @@
 //! Forms of numbers and truth values.
-ghost use Rattle.slee_descriptor.specs.Faults.{Says};
+ghost use Rattle.deployment_parts.specs.Faults.{Says};
 ghost use Rattle.deploy_shape.specs.Forms.{priority, flag, or_null};
 
 use crate::fault::here;
 use crate::form::Form;
 use serde_json::Value;
-use slee_descriptor::{DeployBad, DeployFault};
+use deployment_parts::{DeployBad, DeployFault};
 use std::alloc::Global;
 
 /// The least priority.

@@ -1,13 +1,13 @@
 //! Arrays.
 ghost use Rattle.std.specs.Prelude.{decimal};
-ghost use Rattle.slee_descriptor.specs.Faults.{under, Says};
+ghost use Rattle.deployment_parts.specs.Faults.{under, Says};
 ghost use Rattle.serde_json.specs.View.{view, items_view};
 ghost use Rattle.deploy_shape.specs.Forms.{list_of, items_fault};
 
 use crate::fault::{here, under_step};
 use crate::form::Form;
 use serde_json::Value;
-use slee_descriptor::{DeployBad, DeployFault};
+use deployment_parts::{DeployBad, DeployFault};
 use std::alloc::Global;
 
 /// An array, each item of one form.

@@ -1,5 +1,5 @@
 //! Objects that stand for maps.
-ghost use Rattle.slee_descriptor.specs.Faults.{under, Says};
+ghost use Rattle.deployment_parts.specs.Faults.{under, Says};
 ghost use Rattle.serde_json.specs.View.{view, members_view};
 ghost use Rattle.deploy_shape.specs.Pointers.{escaped};
 ghost use Rattle.deploy_shape.specs.Forms.{map_of, entries_fault, named};
@@ -8,7 +8,7 @@ use crate::fault::{here, under_name};
 use crate::form::{EntryForm, Form};
 use crate::text::check_name;
 use serde_json::{Map, Value};
-use slee_descriptor::{DeployBad, DeployFault};
+use deployment_parts::{DeployBad, DeployFault};
 use std::alloc::Global;
 
 /// An object whose members have one form, which may go by their names.

@@ -1,7 +1,7 @@
 //! Which item of an array has a text at a member, and the items and texts that a value has.
 ghost use Rattle.std.specs.Prelude.{◌≡◌, Option, IfOk, OnOk, option_map};
 ghost use Rattle.script_tree.specs.Tree.{Bytes};
-ghost use Rattle.slee_descriptor.specs.Rules.{or_later};
+ghost use Rattle.deployment_parts.specs.Rules.{or_later};
 ghost use Rattle.serde_json.specs.View.{view, items_view};
 ghost use Rattle.deploy_shape.specs.Numbers.{answer_of, where_named, numbers_from, member_text as text_so, items_of, items_at};
 ghost use Rattle.deploy_shape.specs.Texts.{name_number};

@@ -1,6 +1,6 @@
 //! Objects with a table of members.
 ghost use Rattle.std.specs.Prelude.{◌≡◌, ◌∷◌, []};
-ghost use Rattle.slee_descriptor.specs.Faults.{under, Says};
+ghost use Rattle.deployment_parts.specs.Faults.{under, Says};
 ghost use Rattle.serde_json.specs.Find.{get};
 ghost use Rattle.serde_json.specs.View.{view, members_view};
 ghost use Rattle.deploy_shape.specs.Forms.{Want, object, wants_fault, others_fault, other_fault, value_fault, knows as known_to, need, may};
@@ -8,7 +8,7 @@ ghost use Rattle.deploy_shape.specs.Forms.{Want, object, wants_fault, others_fau
 use crate::fault::{here, under_name, under_step};
 use crate::form::Form;
 use serde_json::{Map, Value};
-use slee_descriptor::{DeployBad, DeployFault};
+use deployment_parts::{DeployBad, DeployFault};
 use std::alloc::Global;
 
 /// The members that an object may have, in order.

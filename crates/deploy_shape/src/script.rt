@@ -1,12 +1,12 @@
 //! The form of scripts.
-ghost use Rattle.slee_descriptor.specs.Faults.{Says};
+ghost use Rattle.deployment_parts.specs.Faults.{Says};
 ghost use Rattle.deploy_shape.specs.Scripts.{script};
 
 use crate::form::Form;
 use crate::list::ListOf;
 use crate::text::{AnyText, TextOf};
 use serde_json::Value;
-use slee_descriptor::DeployFault;
+use deployment_parts::DeployFault;
 use std::alloc::Global;
 
 /// A text, or an array of texts.

@@ -1,6 +1,6 @@
 //! Forms of texts.
-ghost use Rattle.slee_descriptor.specs.Faults.{Fault, Says};
-ghost use Rattle.slee_descriptor.specs.Rules.{fresh as fresh_so, label as label_rule};
+ghost use Rattle.deployment_parts.specs.Faults.{Fault, Says};
+ghost use Rattle.deployment_parts.specs.Rules.{fresh as fresh_so, label as label_rule};
 ghost use Rattle.serde_json.specs.View.{view};
 ghost use Rattle.deploy_shape.specs.Forms.{name_rule};
 ghost use Rattle.deploy_shape.specs.Numbers.{answer_of};
@@ -11,7 +11,7 @@ use crate::firsts::Numbers;
 use crate::form::Form;
 use crate::numbers::number_of_name;
 use serde_json::Value;
-use slee_descriptor::{DeployBad, DeployFault, LABEL_LIMIT};
+use deployment_parts::{DeployBad, DeployFault, LABEL_LIMIT};
 use slee_value::Name;
 use std::alloc::Global;
 

@@ -1,13 +1,13 @@
 //! The words of types.
 ghost use Rattle.std.specs.Prelude.{◌≡◌};
-ghost use Rattle.slee_descriptor.specs.Faults.{Says};
-ghost use Rattle.slee_descriptor.specs.Rules.{is_profile_kind};
+ghost use Rattle.deployment_parts.specs.Faults.{Says};
+ghost use Rattle.deployment_parts.specs.Rules.{is_profile_kind};
 ghost use Rattle.deploy_shape.specs.Texts.{kind_of_word as kind_so, type_word, profile_word};
 
 use crate::fault::{here, unless};
 use crate::text::TextRule;
 use serde_json::Value;
-use slee_descriptor::{DeployBad, DeployFault};
+use deployment_parts::{DeployBad, DeployFault};
 use slee_value::Kind;
 use std::alloc::Global;
 

@@ -6,7 +6,7 @@ use Rattle.serde_json.specs.Data.{Items}
 use Rattle.serde_json.specs.Find.{get_item}
 use Rattle.serde_json.specs.View.{view, items_view}
 use Rattle.serde_json.specs.declared.value.Value.{Value}
-use Rattle.slee_descriptor.specs.Tables.{wants_custom}
+use Rattle.deployment_parts.specs.Tables.{wants_custom}
 use Rattle.deploy_shape.specs.Numbers.{items_or_none}
 use Rattle.deploy_tables.specs.Names.{texts_of}
 

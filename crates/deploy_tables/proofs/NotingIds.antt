@@ -4,8 +4,8 @@ use Rattle.std.proofs.lemmas.Slice.Eq.{bytes_eq-Decides}
 use Rattle.std.proofs.lemmas.Bool.{and_parts}
 use Rattle.std.specs.Str.{bytes_eq}
 use Rattle.slee_value.specs.declared.component.ComponentId.{ComponentId}
-use Rattle.slee_descriptor.specs.Rules.{or_later, is_same_id}
-use Rattle.slee_descriptor.specs.Ids.{only_id}
+use Rattle.deployment_parts.specs.Rules.{or_later, is_same_id}
+use Rattle.deployment_parts.specs.Ids.{only_id}
 use Rattle.deploy_shape.proofs.Noting.{turned, later_none}
 
 -- a component by its three texts

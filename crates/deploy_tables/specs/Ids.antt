@@ -4,9 +4,9 @@ use Rattle.std.specs.Option.{unwrap_or}
 use Rattle.serde_json.specs.Data.{Data, Items, no_items, item}
 use Rattle.slee_value.specs.declared.component.ComponentId.{ComponentId}
 use Rattle.script_tree.specs.Tree.{Bytes}
-use Rattle.slee_descriptor.specs.Rules.{or_later}
-use Rattle.slee_descriptor.specs.Tables.{IdNumbering}
-use Rattle.slee_descriptor.specs.Ids.{only_id}
+use Rattle.deployment_parts.specs.Rules.{or_later}
+use Rattle.deployment_parts.specs.Tables.{IdNumbering}
+use Rattle.deployment_parts.specs.Ids.{only_id}
 use Rattle.deploy_shape.specs.Numbers.{member_text}
 
 -- The text that an object has at a member, empty where there is none.

@@ -5,7 +5,7 @@ use Rattle.std.specs.declared.hash.FoldHasher.{FoldHasher}
 use Rattle.std.specs.declared.hash.BuildHasherDefault.{BuildHasherDefault}
 use Rattle.serde_json.specs.View.{items_view}
 use Rattle.slee_value.specs.declared.component.ComponentId.{ComponentId}
-use Rattle.slee_descriptor.specs.Tables.{IdNumbering}
+use Rattle.deployment_parts.specs.Tables.{IdNumbering}
 use Rattle.deploy_shape.specs.Numbers.{answer_of}
 use Rattle.deploy_tables.specs.Names.{Names}
 use Rattle.deploy_tables.specs.declared.ids.Triple.{Triple}

@@ -5,8 +5,8 @@ use Rattle.serde_json.specs.Data.{Data, Items, no_items, item, Members, no_membe
 use Rattle.serde_json.specs.Find.{get, get_item, as_str, as_array, as_object}
 use Rattle.slee_value.specs.declared.kind.Kind.{Kind}
 use Rattle.script_tree.specs.Tree.{Bytes}
-use Rattle.slee_descriptor.specs.Rules.{Numbering, or_later}
-use Rattle.slee_descriptor.specs.Tables.{IdNumbering, aliased, is_built_in, built_in_field}
+use Rattle.deployment_parts.specs.Rules.{Numbering, or_later}
+use Rattle.deployment_parts.specs.Tables.{IdNumbering, aliased, is_built_in, built_in_field}
 use Rattle.deploy_shape.specs.Texts.{kind_of_word, name_number}
 use Rattle.deploy_shape.specs.Numbers.{member_text, items_at, numbers_from}
 use Rattle.deploy_tables.specs.Ids.{ids_from}

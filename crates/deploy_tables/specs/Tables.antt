@@ -4,10 +4,10 @@ use Rattle.serde_json.specs.Data.{Data}
 use Rattle.serde_json.specs.Find.{get, as_array, as_object}
 use Rattle.slee_value.specs.declared.kind.Kind.{Kind}
 use Rattle.script_tree.specs.Tree.{Bytes}
-use Rattle.slee_descriptor.specs.declared.fault.DeployBad.TheVariants as bad
-use Rattle.slee_descriptor.specs.Faults.{Fault, here, unless, and_then}
-use Rattle.slee_descriptor.specs.Rules.{Numbering, fresh, known, alias, variable_word, rule_word, text_field}
-use Rattle.slee_descriptor.specs.Tables.{IdNumbering, version as component_version, is_taken, wants_custom}
+use Rattle.deployment_parts.specs.declared.fault.DeployBad.TheVariants as bad
+use Rattle.deployment_parts.specs.Faults.{Fault, here, unless, and_then}
+use Rattle.deployment_parts.specs.Rules.{Numbering, fresh, known, alias, variable_word, rule_word, text_field}
+use Rattle.deployment_parts.specs.Tables.{IdNumbering, version as component_version, is_taken, wants_custom}
 use Rattle.deploy_shape.specs.Forms.{Form, Want, need, may, list_of, map_of, named, object, name_rule, priority, flag, or_null}
 use Rattle.deploy_shape.specs.Texts.{TextRule, text, label, fresh_name, reference, type_word, profile_word}
 use Rattle.deploy_shape.specs.Scripts.{script}

@@ -1,7 +1,7 @@
 //! Blocks.
 ghost use Rattle.std.specs.Prelude.{◌≡◌};
-ghost use Rattle.slee_descriptor.specs.Faults.{Says};
-ghost use Rattle.slee_descriptor.specs.Rules.{alias as alias_so, is_same_kind as same_so};
+ghost use Rattle.deployment_parts.specs.Faults.{Says};
+ghost use Rattle.deployment_parts.specs.Rules.{alias as alias_so, is_same_kind as same_so};
 ghost use Rattle.deploy_shape.specs.Forms.{object};
 ghost use Rattle.deploy_tables.specs.Lookups.{names_of};
 ghost use Rattle.deploy_tables.specs.Tables.{alias_name, alias_entry, relation, callbacks, block_parts, block_values, block_members};
@@ -16,7 +16,7 @@ use deploy_shape::{
     ScriptForm, Table, TextOf, TextRule, TypeWord, check_name, here, unless,
 };
 use serde_json::Value;
-use slee_descriptor::{DeployBad, DeployFault};
+use deployment_parts::{DeployBad, DeployFault};
 use slee_value::Kind;
 use std::alloc::Global;
 

@@ -1,6 +1,6 @@
 //! The events that no deployment declares.
 ghost use Rattle.std.specs.Prelude.{◌≡◌, Option, bytes_eq, if◌then◌else◌};
-ghost use Rattle.slee_descriptor.specs.Tables.{is_built_in as built_in_so, built_in_field as built_in_field_so};
+ghost use Rattle.deployment_parts.specs.Tables.{is_built_in as built_in_so, built_in_field as built_in_field_so};
 
 use slee_value::Kind;
 

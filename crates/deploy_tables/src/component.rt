@@ -1,12 +1,12 @@
 //! The members that each array's items have.
-ghost use Rattle.slee_descriptor.specs.Faults.{Says};
+ghost use Rattle.deployment_parts.specs.Faults.{Says};
 ghost use Rattle.deploy_tables.specs.Lookups.{id_answer};
 ghost use Rattle.deploy_tables.specs.Tables.{version};
 
 use crate::ids::Ids;
 use deploy_shape::{TextRule, check_fresh, check_label};
 use serde_json::Value;
-use slee_descriptor::DeployFault;
+use deployment_parts::DeployFault;
 use std::alloc::Global;
 
 /// The version of a component of which no earlier item has all three texts.

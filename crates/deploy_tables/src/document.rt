@@ -1,5 +1,5 @@
 //! The whole document.
-ghost use Rattle.slee_descriptor.specs.Faults.{Says};
+ghost use Rattle.deployment_parts.specs.Faults.{Says};
 ghost use Rattle.serde_json.specs.View.{view};
 ghost use Rattle.deploy_tables.specs.Lookups.{names_of};
 ghost use Rattle.deploy_tables.specs.Tables.{top_members, fault_by, shape_fault};
@@ -11,7 +11,7 @@ use crate::profile::ProfileForm;
 use crate::service::ServiceForm;
 use deploy_shape::{End, Form, ListOf, MapOf, May, Named, Object, Reference, Table, TextOf};
 use serde_json::Value;
-use slee_descriptor::DeployFault;
+use deployment_parts::DeployFault;
 use std::alloc::Global;
 
 /// The members of the whole document.

@@ -1,5 +1,5 @@
 //! The events that a block handles.
-ghost use Rattle.slee_descriptor.specs.Faults.{Says};
+ghost use Rattle.deployment_parts.specs.Faults.{Says};
 ghost use Rattle.deploy_shape.specs.Numbers.{answer_of};
 ghost use Rattle.deploy_tables.specs.Lookups.{names_of};
 ghost use Rattle.deploy_tables.specs.Tables.{event_name, handler_members, handler, handlers};
@@ -12,7 +12,7 @@ use deploy_shape::{
     TextRule, array_items, check_fresh, here, numbers_of,
 };
 use serde_json::Value;
-use slee_descriptor::{DeployBad, DeployFault};
+use deployment_parts::{DeployBad, DeployFault};
 use std::alloc::Global;
 
 /// The event that a handler is for; a block has one handler for each.

@@ -1,8 +1,8 @@
 //! Which item of an array has a name, vendor and version first.
 ghost use Rattle.std.specs.Prelude.{◌≡◌, Option, IfOk, OnOk};
 ghost use Rattle.slee_value.specs.declared.component.ComponentId.{ComponentId};
-ghost use Rattle.slee_descriptor.specs.Rules.{or_later};
-ghost use Rattle.slee_descriptor.specs.Ids.{only_id};
+ghost use Rattle.deployment_parts.specs.Rules.{or_later};
+ghost use Rattle.deployment_parts.specs.Ids.{only_id};
 ghost use Rattle.serde_json.specs.View.{view, items_view};
 ghost use Rattle.deploy_tables.specs.Ids.{id_with, id_of, ids_from};
 ghost use Rattle.deploy_tables.specs.Lookups.{id_answer, component_of};

@@ -1,7 +1,7 @@
 //! The types that a document gives to names, and to aliases.
 ghost use Rattle.std.specs.Prelude.{◌≡◌, Option, IfOk, OnOk, codes};
 ghost use Rattle.script_tree.specs.Tree.{Bytes};
-ghost use Rattle.slee_descriptor.specs.Rules.{or_later};
+ghost use Rattle.deployment_parts.specs.Rules.{or_later};
 ghost use Rattle.serde_json.specs.View.{view, items_view, members_view};
 ghost use Rattle.serde_json.specs.Find.{as_str};
 ghost use Rattle.deploy_shape.specs.Numbers.{answer_of};

@@ -1,6 +1,6 @@
 //! Methods.
 ghost use Rattle.std.specs.Prelude.{◌≡◌};
-ghost use Rattle.slee_descriptor.specs.Faults.{Says};
+ghost use Rattle.deployment_parts.specs.Faults.{Says};
 ghost use Rattle.deploy_shape.specs.Numbers.{answer_of};
 ghost use Rattle.deploy_tables.specs.Tables.{parameter, parameters, method};
 
@@ -9,7 +9,7 @@ use deploy_shape::{
     array_items, numbers_of,
 };
 use serde_json::Value;
-use slee_descriptor::DeployFault;
+use deployment_parts::DeployFault;
 use std::alloc::Global;
 
 /// A parameter, whose name no earlier one has.

@@ -1,5 +1,5 @@
 //! Profile specifications.
-ghost use Rattle.slee_descriptor.specs.Faults.{Says};
+ghost use Rattle.deployment_parts.specs.Faults.{Says};
 ghost use Rattle.deploy_shape.specs.Forms.{object};
 ghost use Rattle.deploy_tables.specs.Lookups.{names_of};
 ghost use Rattle.deploy_tables.specs.Tables.{attribute_name, profile_members};
@@ -12,7 +12,7 @@ use deploy_shape::{
     TextRule, unless,
 };
 use serde_json::Value;
-use slee_descriptor::{DeployBad, DeployFault};
+use deployment_parts::{DeployBad, DeployFault};
 use std::alloc::Global;
 
 /// The name of an attribute of the profile.

@@ -1,7 +1,7 @@
 //! Initial event selection: its variables, and custom selection.
 ghost use Rattle.std.specs.Prelude.{◌≡◌, bytes_eq, codes};
 ghost use Rattle.std.specs.List.{list_any, position_from};
-ghost use Rattle.slee_descriptor.specs.Faults.{Says};
+ghost use Rattle.deployment_parts.specs.Faults.{Says};
 ghost use Rattle.serde_json.specs.View.{view, items_view};
 ghost use Rattle.deploy_shape.specs.Forms.{list_of};
 ghost use Rattle.deploy_shape.specs.Texts.{text};
@@ -17,7 +17,7 @@ use deploy_shape::{
     unless,
 };
 use serde_json::Value;
-use slee_descriptor::{DeployBad, DeployFault, rule_of, variable_of};
+use deployment_parts::{DeployBad, DeployFault, rule_of, variable_of};
 use slee_value::Kind;
 use std::alloc::Global;
 

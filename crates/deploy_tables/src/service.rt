@@ -1,5 +1,5 @@
 //! Services.
-ghost use Rattle.slee_descriptor.specs.Faults.{Says};
+ghost use Rattle.deployment_parts.specs.Faults.{Says};
 ghost use Rattle.deploy_shape.specs.Forms.{object};
 ghost use Rattle.deploy_tables.specs.Lookups.{names_of};
 ghost use Rattle.deploy_tables.specs.Tables.{service_members};
@@ -10,7 +10,7 @@ use deploy_shape::{
     End, Flag, Form, FreshName, Label, May, Need, Object, Priority, Reference, TextOf,
 };
 use serde_json::Value;
-use slee_descriptor::DeployFault;
+use deployment_parts::DeployFault;
 use std::alloc::Global;
 
 /// A service.

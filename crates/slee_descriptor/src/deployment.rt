@@ -1,11 +1,11 @@
 //! Deployments: parts in which the walk finds no fault.
 ghost use Rattle.std.specs.Prelude.{◌≡◌, IfOk, IsTrue};
-ghost use Rattle.slee_descriptor.specs.Faults.{Says};
-ghost use Rattle.slee_descriptor.specs.Tables.{parts_fault, is_deployment};
+ghost use Rattle.deployment_parts.specs.Faults.{Says};
+ghost use Rattle.deployment_parts.specs.Tables.{parts_fault, is_deployment};
 
-use crate::fault::DeployFault;
-use crate::parts::{Block, EventType, Parts, ProfileSpec, Service, Table};
-use crate::walk::check_parts;
+use deployment_parts::{
+    Block, DeployFault, EventType, Parts, ProfileSpec, Service, Table, check_parts,
+};
 use std::alloc::Global;
 
 /// A deployment. It is made once and lent to all that need it; an item's number is its place in its list, from 0.

@@ -1,23 +1,10 @@
-//! Deployments as data: their parts, what names stand for, and the first fault of parts that are no deployment.
+//! Deployments as data, with every name resolved; their parts, and the faults of parts that are no deployment.
 #![tactic(auto)]
 
-mod choice;
 mod deployment;
-mod fault;
-mod first;
-mod handling;
-mod ids;
-mod leaf;
-mod lookup;
-mod parts;
-mod rule;
-mod walk;
 
-pub use choice::{SelectRule, Variable};
-pub use deployment::Deployment;
-pub use fault::{DeployBad, DeployFault};
-pub use handling::{rule_of, variable_of};
-pub use leaf::LABEL_LIMIT;
-pub use parts::{
-    Block, BlockEvent, CustomRule, EventType, Method, Parts, ProfileSpec, Relation, Service, Table,
+pub use crate::deployment::Deployment;
+pub use deployment_parts::{
+    Block, BlockEvent, CustomRule, DeployBad, DeployFault, EventType, LABEL_LIMIT, Method, Parts,
+    ProfileSpec, Relation, SelectRule, Service, Table, Variable,
 };

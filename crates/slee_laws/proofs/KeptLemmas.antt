@@ -4,7 +4,7 @@ use Rattle.std.specs.Option.{option_map_or}
 use Rattle.std.proofs.lemmas.Bool.{cond_both}
 use Rattle.slee_value.specs.declared.convergence.ConvName.{ConvName}
 use Rattle.script_types.specs.declared.codes.RelationCode.{RelationCode}
-use Rattle.slee_descriptor.specs.Deployed.{DeployedService, service_at}
+use Rattle.deployment_parts.specs.Deployed.{DeployedService, service_at}
 use Rattle.slee_effect.specs.declared.effect.Effect.{Effect}
 use Rattle.slee_effect.specs.declared.effect.Effect.TheVariants as effects
 use Rattle.slee_state.specs.State.{State}

@@ -3,8 +3,8 @@ use Rattle.std.specs.Prelude.{ℕ, ℤ, pos, negsuc, true, false, List, [], ◌�
 use Rattle.script_types.specs.Program.{Program, Nothing}
 use Rattle.signal_script.specs.declared.signal.Signal.{Signal}
 use Rattle.signal_script.specs.declared.signal.Signal.TheVariants as signals
-use Rattle.slee_descriptor.specs.Deployed.{Deployed}
-use Rattle.slee_descriptor.specs.declared.choice.Variable.TheVariants as variables
+use Rattle.deployment_parts.specs.Deployed.{Deployed}
+use Rattle.deployment_parts.specs.declared.choice.Variable.TheVariants as variables
 use Rattle.slee_state.specs.State.{State}
 use Rattle.slee_state.specs.Initial.{initial}
 use Rattle.slee_state.specs.declared.rows.Timer.{Timer}

@@ -1,7 +1,7 @@
 //! Worked examples, by computation.
 ghost use Rattle.std.specs.Prelude.{◌≡◌, ℕ, pos, negsuc, true, false, [], ◌∷◌, map, codes, Some, None, option_map, Err};
 ghost use Rattle.signal_script.specs.declared.signal.Signal.TheVariants as signals;
-ghost use Rattle.slee_descriptor.specs.declared.choice.SelectRule.TheVariants as rules;
+ghost use Rattle.deployment_parts.specs.declared.choice.SelectRule.TheVariants as rules;
 ghost use Rattle.slee_laws.specs.Samples.{low_and_high, at_first, started, fired_ping, selected, periodic, three_timers};
 ghost use Rattle.slee_state.specs.Next.{next, receives_at, service_order, least};
 ghost use Rattle.slee_state.specs.Paths.{path_before};

@@ -2,7 +2,7 @@
 use Rattle.std.specs.Prelude.{ℕ, nat_lt, nat_le, ◌==◌, Bool, true, false, ◌&&◌, ◌||◌, not, is_some, is_none, IsTrue, List, [], ◌∷◌, length}
 use Rattle.std.specs.Option.{option_map_or}
 use Rattle.std.specs.List.{list_any, list_all}
-use Rattle.slee_descriptor.specs.Deployed.{Deployed, table_attributes}
+use Rattle.deployment_parts.specs.Deployed.{Deployed, table_attributes}
 use Rattle.slee_state.specs.State.{State}
 use Rattle.slee_state.specs.Fits.{has_next, are_declared}
 use Rattle.slee_state.specs.Timers.{last_moment}

@@ -1,7 +1,7 @@
 -- The state of a deployment in which nothing has happened: services as deployed, and an Active activity for each table.
 use Rattle.std.specs.Prelude.{ℕ, ◌+◌, false, if◌then◌else◌, List, [], ◌∷◌, map, length}
 use Rattle.script_types.specs.Program.{Program}
-use Rattle.slee_descriptor.specs.Deployed.{Deployed, DeployedTable, DeployedService}
+use Rattle.deployment_parts.specs.Deployed.{Deployed, DeployedTable, DeployedService}
 use Rattle.slee_state.specs.State.{State}
 use Rattle.slee_state.specs.declared.rows.AcKind.TheVariants as kinds
 use Rattle.slee_state.specs.declared.rows.Activity.{Activity}

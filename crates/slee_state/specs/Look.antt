@@ -9,7 +9,7 @@ use Rattle.handler_meaning.specs.declared.key.Key.TheVariants as keys
 use Rattle.handler_meaning.specs.declared.seen.AcSeen.{AcSeen}
 use Rattle.handler_meaning.specs.declared.seen.Seen.{Seen}
 use Rattle.handler_meaning.specs.declared.seen.Seen.TheVariants as seen
-use Rattle.slee_descriptor.specs.Deployed.{table_named}
+use Rattle.deployment_parts.specs.Deployed.{table_named}
 use Rattle.slee_state.specs.State.{State}
 use Rattle.slee_state.specs.Fields.{field_at}
 use Rattle.slee_state.specs.Trees.{entity_at, children_under}

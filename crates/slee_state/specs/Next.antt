@@ -2,7 +2,7 @@
 use Rattle.std.specs.Prelude.{ℕ, ◌+◌, Bool, true, false, ◌&&◌, ◌==◌, not, if◌then◌else◌, is_some, List, [], ◌∷◌, filter, find, Option, Some, None, option_map, option_and_then}
 use Rattle.std.specs.List.{list_any}
 use Rattle.std.specs.Option.{option_map_or}
-use Rattle.slee_descriptor.specs.Deployed.{DeployedService, handles, is_initial}
+use Rattle.deployment_parts.specs.Deployed.{DeployedService, handles, is_initial}
 use Rattle.slee_state.specs.State.{State}
 use Rattle.slee_state.specs.Orders.{sorted}
 use Rattle.slee_state.specs.Trees.{service_of}

@@ -8,7 +8,7 @@ use Rattle.slee_value.specs.declared.convergence.ConvName.{ConvName}
 use Rattle.slee_value.specs.declared.ids.ActivityId.{ActivityId}
 use Rattle.slee_value.specs.declared.ids.EventId.{EventId}
 use Rattle.slee_value.specs.declared.value.Value.{Value}
-use Rattle.slee_descriptor.specs.Deployed.{Deployed, service_named, table_named, block_named}
+use Rattle.deployment_parts.specs.Deployed.{Deployed, service_named, table_named, block_named}
 use Rattle.slee_state.specs.declared.rows.ServiceState.{ServiceState}
 use Rattle.slee_state.specs.declared.rows.ServiceState.TheVariants as states
 use Rattle.slee_state.specs.declared.rows.Service.{Service}

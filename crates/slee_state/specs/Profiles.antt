@@ -4,7 +4,7 @@ use Rattle.std.specs.List.{list_all}
 use Rattle.std.specs.Str.{bytes_eq}
 use Rattle.slee_value.specs.declared.value.Value.{Value}
 use Rattle.handler_meaning.specs.Same.{same_option, same_value}
-use Rattle.slee_descriptor.specs.Deployed.{Deployed, table_unique}
+use Rattle.deployment_parts.specs.Deployed.{Deployed, table_unique}
 use Rattle.slee_state.specs.Orders.{put, text_before, same_text}
 use Rattle.slee_state.specs.declared.rows.ProfileRow.{ProfileRow}
 

@@ -3,7 +3,7 @@ use Rattle.std.specs.Prelude.{◌≡◌, ℕ, ◌==◌, ◌&&◌, if◌then◌el
 use Rattle.std.specs.Str.{bytes_eq}
 use Rattle.slee_value.specs.Reading.{Fault, Part, ◌>>=◌}
 use Rattle.script_types.specs.Program.{Program}
-use Rattle.slee_descriptor.specs.Deployed.{Deployed}
+use Rattle.deployment_parts.specs.Deployed.{Deployed}
 use Rattle.slee_state.specs.State.{State}
 use Rattle.slee_state.specs.Parsing.{EntityPart, ActivityPart, LinkPart, list_at, u64_at, service_at, entity_at, activity_at, link_at, named_at, timer_at, row_at, suspensions_at}
 use Rattle.slee_state.specs.Initial.{initial}

@@ -5,7 +5,7 @@ use Rattle.std.specs.Fmt.{signed_decimal}
 use Rattle.slee_value.specs.Escape.{escaped}
 use Rattle.slee_value.specs.declared.value.Value.{Value}
 use Rattle.slee_value.specs.declared.value.Value.TheVariants as values
-use Rattle.slee_descriptor.specs.Deployed.{Deployed, block_key, service_key, table_name}
+use Rattle.deployment_parts.specs.Deployed.{Deployed, block_key, service_key, table_name}
 use Rattle.slee_state.specs.State.{State}
 use Rattle.slee_state.specs.Orders.{sorted}
 use Rattle.slee_state.specs.Fields.{fields_of}

@@ -5,7 +5,7 @@ use Rattle.slee_value.specs.Bytes.{spelled_u32, spelled_u64, spelled_i8, spelled
 use Rattle.slee_value.specs.declared.convergence.ConvName.{ConvName}
 use Rattle.slee_value.specs.declared.value.Value.{Value}
 use Rattle.slee_effect.specs.Bytes.{spelled_keep}
-use Rattle.slee_descriptor.specs.Deployed.{Deployed, block_key, service_key, table_name}
+use Rattle.deployment_parts.specs.Deployed.{Deployed, block_key, service_key, table_name}
 use Rattle.slee_state.specs.State.{State}
 use Rattle.slee_state.specs.Fields.{fields_of}
 use Rattle.slee_state.specs.Trees.{root_name_at}

@@ -1,7 +1,7 @@
 -- The state of a service container, as plain lists.
 use Rattle.std.specs.Prelude.{ℕ, ◌^◌, Bool, ◌||◌, nat_lt, List}
 use Rattle.script_types.specs.Program.{Program}
-use Rattle.slee_descriptor.specs.Deployed.{Deployed}
+use Rattle.deployment_parts.specs.Deployed.{Deployed}
 use Rattle.slee_state.specs.declared.rows.Service.{Service}
 use Rattle.slee_state.specs.declared.rows.Entity.{Entity}
 use Rattle.slee_state.specs.declared.rows.RootName.{RootName}

@@ -3,7 +3,7 @@ use Rattle.std.specs.Prelude.{ℕ, ◌+◌, nat_lt, ◌==◌, Bool, true, false,
 use Rattle.std.specs.Option.{option_map_or}
 use Rattle.std.specs.List.{list_all}
 use Rattle.slee_value.specs.Name.{is_name}
-use Rattle.slee_descriptor.specs.Deployed.{Deployed, DeployedTable, attribute_kind, is_event}
+use Rattle.deployment_parts.specs.Deployed.{Deployed, DeployedTable, attribute_kind, is_event}
 use Rattle.slee_state.specs.Orders.{rises_by}
 use Rattle.slee_state.specs.Ordered.{rises_in}
 use Rattle.slee_state.specs.Fits.{is_drawn, is_text, is_value, is_of_kind}

@@ -4,7 +4,7 @@ use Rattle.std.specs.Option.{option_map_or}
 use Rattle.std.specs.List.{list_all}
 use Rattle.slee_value.specs.declared.convergence.ConvName.{ConvName}
 use Rattle.handler_meaning.specs.Same.{same_option, same_name}
-use Rattle.slee_descriptor.specs.Deployed.{Deployed, block_fields, relation_of, service_at, is_event}
+use Rattle.deployment_parts.specs.Deployed.{Deployed, block_fields, relation_of, service_at, is_event}
 use Rattle.slee_state.specs.Orders.{rises_by}
 use Rattle.slee_state.specs.Ordered.{rises_in}
 use Rattle.slee_state.specs.Fits.{is_drawn, is_priority, is_text, is_value, none_or, are_declared}

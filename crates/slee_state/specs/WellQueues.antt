@@ -3,7 +3,7 @@ use Rattle.std.specs.Prelude.{ℕ, nat_lt, nat_le, ◌==◌, Bool, false, ◌&&�
 use Rattle.std.specs.Option.{option_map_or}
 use Rattle.std.specs.List.{list_all}
 use Rattle.std.specs.Str.{bytes_eq}
-use Rattle.slee_descriptor.specs.Deployed.{Deployed, event_fields}
+use Rattle.deployment_parts.specs.Deployed.{Deployed, event_fields}
 use Rattle.slee_state.specs.Orders.{rises_by}
 use Rattle.slee_state.specs.Fits.{is_drawn, is_value, none_or, are_declared}
 use Rattle.slee_state.specs.Timers.{last_moment}

@@ -1,7 +1,7 @@
 -- Tests of timers, of the rows of profile tables, and of counts. Each test takes the lists that it reads.
 use Rattle.std.specs.Prelude.{ℕ, nat_lt, nat_le, ◌==◌, Bool, ◌&&◌, ◌||◌, List, length}
 use Rattle.std.specs.List.{list_all}
-use Rattle.slee_descriptor.specs.Deployed.{Deployed, table_attributes}
+use Rattle.deployment_parts.specs.Deployed.{Deployed, table_attributes}
 use Rattle.slee_state.specs.State.{State}
 use Rattle.slee_state.specs.Orders.{rises_by}
 use Rattle.slee_state.specs.Ordered.{rises_in}

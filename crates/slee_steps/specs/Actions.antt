@@ -8,7 +8,7 @@ use Rattle.script_types.specs.declared.codes.EventCode.{EventCode}
 use Rattle.script_types.specs.declared.codes.FieldCode.{FieldCode}
 use Rattle.signal_script.specs.declared.signal.Signal.{Signal}
 use Rattle.signal_script.specs.declared.signal.Signal.TheVariants as signals
-use Rattle.slee_descriptor.specs.Deployed.{Deployed, service_named, table_named, table_attributes}
+use Rattle.deployment_parts.specs.Deployed.{Deployed, service_named, table_named, table_attributes}
 use Rattle.slee_state.specs.State.{State}
 use Rattle.slee_state.specs.Contexts.{external}
 use Rattle.slee_state.specs.Profiles.{row_at, is_row, are_unique}

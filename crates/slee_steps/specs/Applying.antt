@@ -11,7 +11,7 @@ use Rattle.script_types.specs.declared.codes.FieldCode.{FieldCode}
 use Rattle.slee_effect.specs.declared.effect.Effect.{Effect}
 use Rattle.slee_effect.specs.declared.effect.Effect.TheVariants as effects
 use Rattle.slee_effect.specs.declared.value.Val.{Val}
-use Rattle.slee_descriptor.specs.Deployed.{block_fields, attribute_kind, is_event}
+use Rattle.deployment_parts.specs.Deployed.{block_fields, attribute_kind, is_event}
 use Rattle.slee_state.specs.State.{State}
 use Rattle.slee_state.specs.Contexts.{activity_at, is_active, is_null, is_linked, named_at}
 use Rattle.slee_state.specs.Fits.{is_priority, is_text, is_value, is_of_kind, are_declared, none_or}

@@ -1,6 +1,6 @@
 -- Closing a step: roots in whose trees nothing is attached go, Stopping services without a tree are Inactive, and null activities that aren't in use end.
 use Rattle.std.specs.Prelude.{ℕ, ◌+◌, Bool, if◌then◌else◌, List, [], ◌∷◌, ◌++◌, codes}
-use Rattle.slee_descriptor.specs.Deployed.{service_key}
+use Rattle.deployment_parts.specs.Deployed.{service_key}
 use Rattle.slee_state.specs.State.{State}
 use Rattle.slee_state.specs.Closed.{is_loose, is_stopped, is_unused}
 use Rattle.slee_state.specs.Trees.{roots}

@@ -3,7 +3,7 @@ use Rattle.std.specs.Prelude.{ℕ, ℤ, List, ◌∷◌, map}
 use Rattle.std.specs.Option.{option_map_or}
 use Rattle.slee_value.specs.declared.convergence.ConvName.{ConvName}
 use Rattle.script_types.specs.declared.codes.FieldCode.{FieldCode}
-use Rattle.slee_descriptor.specs.Deployed.{DeployedService, block_fields, service_at}
+use Rattle.deployment_parts.specs.Deployed.{DeployedService, block_fields, service_at}
 use Rattle.slee_state.specs.State.{State}
 use Rattle.slee_state.specs.Changes.{after_changes}
 use Rattle.slee_state.specs.declared.change.Change.{Change}

@@ -13,7 +13,7 @@ use Rattle.slee_effect.specs.declared.reference.Ref.TheVariants as references
 use Rattle.slee_effect.specs.declared.value.Val.{Val}
 use Rattle.slee_effect.specs.declared.value.Val.TheVariants as vals
 use Rattle.handler_meaning.specs.Removal.{said}
-use Rattle.slee_descriptor.specs.Deployed.{relation_of, service_named}
+use Rattle.deployment_parts.specs.Deployed.{relation_of, service_named}
 use Rattle.slee_state.specs.State.{State}
 use Rattle.slee_state.specs.Changes.{after_change}
 use Rattle.slee_state.specs.Queues.{head_event}

@@ -2,7 +2,7 @@
 use Rattle.std.specs.Prelude.{ℕ, ◌+◌, ◌==◌, if◌then◌else◌, List, [], ◌∷◌, ◌++◌, None, Option, flat_map, filter, map}
 use Rattle.std.specs.Option.{option_map_or}
 use Rattle.slee_value.specs.declared.value.Value.{Value}
-use Rattle.slee_descriptor.specs.Deployed.{masked_on_attach}
+use Rattle.deployment_parts.specs.Deployed.{masked_on_attach}
 use Rattle.slee_state.specs.State.{State}
 use Rattle.slee_state.specs.Contexts.{is_linked, links_on}
 use Rattle.slee_state.specs.Queues.{activity_end, head_event, is_suspended}

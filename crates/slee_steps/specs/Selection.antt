@@ -7,11 +7,11 @@ use Rattle.slee_value.specs.declared.convergence.ConvName.{ConvName}
 use Rattle.slee_value.specs.declared.value.Value.{Value}
 use Rattle.slee_value.specs.declared.value.Value.TheVariants as values
 use Rattle.handler_meaning.specs.Same.{same_name}
-use Rattle.slee_descriptor.specs.Deployed.{DeployedService, Handling, CustomChoice, block_event, service_at}
-use Rattle.slee_descriptor.specs.declared.choice.SelectRule.{SelectRule}
-use Rattle.slee_descriptor.specs.declared.choice.SelectRule.TheVariants as rules
-use Rattle.slee_descriptor.specs.declared.choice.Variable.{Variable}
-use Rattle.slee_descriptor.specs.declared.choice.Variable.TheVariants as variables
+use Rattle.deployment_parts.specs.Deployed.{DeployedService, Handling, CustomChoice, block_event, service_at}
+use Rattle.deployment_parts.specs.declared.choice.SelectRule.{SelectRule}
+use Rattle.deployment_parts.specs.declared.choice.SelectRule.TheVariants as rules
+use Rattle.deployment_parts.specs.declared.choice.Variable.{Variable}
+use Rattle.deployment_parts.specs.declared.choice.Variable.TheVariants as variables
 use Rattle.slee_state.specs.State.{State}
 use Rattle.slee_state.specs.Profiles.{value_of}
 use Rattle.slee_state.specs.Trees.{entity_at, is_root_of}

@@ -7,7 +7,7 @@ use Rattle.handler_meaning.specs.Delivery.{Delivered}
 use Rattle.handler_meaning.specs.declared.outcome.Outcome.{Outcome}
 use Rattle.signal_script.specs.Signals.{spelled}
 use Rattle.signal_script.specs.declared.signal.Signal.{Signal}
-use Rattle.slee_descriptor.specs.Deployed.{service_key}
+use Rattle.deployment_parts.specs.Deployed.{service_key}
 use Rattle.trace_history.specs.declared.choice.Choice.{Choice}
 use Rattle.trace_history.specs.declared.choice.Choice.TheVariants as choices
 use Rattle.trace_history.specs.declared.entry.Entry.{Entry}

@@ -2,7 +2,7 @@
 use Rattle.std.specs.Prelude.{ℕ, ◌==◌, if◌then◌else◌, List, [], ◌∷◌, ◌++◌, codes, Some, None, Result, Ok, Err}
 use Rattle.slee_value.specs.declared.value.Value.{Value}
 use Rattle.slee_value.specs.declared.value.Value.TheVariants as values
-use Rattle.slee_descriptor.specs.Deployed.{service_key}
+use Rattle.deployment_parts.specs.Deployed.{service_key}
 use Rattle.slee_state.specs.State.{State}
 use Rattle.slee_state.specs.Changes.{after_change}
 use Rattle.slee_state.specs.Initial.{table_activity}

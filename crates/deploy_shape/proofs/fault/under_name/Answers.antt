@@ -1,5 +1,5 @@
 use Rattle.std.proofs.Common.{◌≡◌, ◌∙◌, subst, List, ℕ}
-use Rattle.slee_descriptor.specs.Faults.{Tells, under}
+use Rattle.deployment_parts.specs.Faults.{Tells, under}
 use Rattle.deploy_shape.specs.Pointers.{escaped}
 use Rattle.deploy_shape.proofs.fault.under_name.Goals as goal
 

@@ -1,7 +1,7 @@
 use Rattle.std.proofs.Common.{◌≡◌, ◌∙◌, subst, List, ℕ}
 use Rattle.std.specs.Prelude.{decimal}
 use Rattle.serde_json.specs.View.{view}
-use Rattle.slee_descriptor.specs.Faults.{Tells, under}
+use Rattle.deployment_parts.specs.Faults.{Tells, under}
 use Rattle.deploy_shape.proofs.list.check_item.Goals as goal
 
 pub returns-in_ok-format-in-Err : goal.returns-in_ok-format-in-Err

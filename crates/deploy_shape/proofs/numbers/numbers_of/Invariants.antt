@@ -1,6 +1,6 @@
 use Rattle.std.proofs.Common.{◌≡◌, ℕ, List, drop}
 use Rattle.serde_json.specs.View.{items_view}
-use Rattle.slee_descriptor.specs.Rules.{or_later}
+use Rattle.deployment_parts.specs.Rules.{or_later}
 use Rattle.deploy_shape.specs.Numbers.{numbers_from, answer_of}
 use Rattle.deploy_shape.proofs.numbers.numbers_of.Given as goal
 

@@ -1,6 +1,6 @@
 use Rattle.std.proofs.Common.{subst}
 use Rattle.serde_json.specs.View.{view}
-use Rattle.slee_descriptor.specs.Faults.{Says}
+use Rattle.deployment_parts.specs.Faults.{Says}
 use Rattle.deploy_tables.specs.Names.{Names}
 use Rattle.deploy_tables.specs.Tables.{fault_by}
 use Rattle.deploy_tables.proofs.document.check_document.Goals as goal

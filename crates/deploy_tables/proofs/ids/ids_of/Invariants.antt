@@ -1,7 +1,7 @@
 use Rattle.std.proofs.Common.{◌≡◌, drop}
 use Rattle.serde_json.specs.View.{items_view}
 use Rattle.slee_value.specs.declared.component.ComponentId.{ComponentId}
-use Rattle.slee_descriptor.specs.Rules.{or_later}
+use Rattle.deployment_parts.specs.Rules.{or_later}
 use Rattle.deploy_tables.specs.Ids.{ids_from}
 use Rattle.deploy_tables.specs.Lookups.{id_answer}
 use Rattle.deploy_tables.proofs.ids.ids_of.Given as goal

@@ -1,6 +1,6 @@
 use Rattle.std.proofs.Common.{◌≡◌, ℕ, List, drop}
 use Rattle.serde_json.specs.View.{items_view}
-use Rattle.slee_descriptor.specs.Rules.{or_later}
+use Rattle.deployment_parts.specs.Rules.{or_later}
 use Rattle.deploy_shape.specs.Numbers.{answer_of}
 use Rattle.deploy_tables.specs.Names.{alias_kind}
 use Rattle.deploy_tables.proofs.kinds.aliases_of.Given as goal

@@ -1,6 +1,6 @@
 use Rattle.std.proofs.Common.{◌≡◌, ℕ, List}
 use Rattle.serde_json.specs.View.{view, members_view}
-use Rattle.slee_descriptor.specs.Rules.{or_later}
+use Rattle.deployment_parts.specs.Rules.{or_later}
 use Rattle.deploy_shape.specs.Numbers.{answer_of}
 use Rattle.deploy_tables.specs.Names.{attribute_kind, alias_in}
 use Rattle.deploy_tables.proofs.kinds.note_aliases.Given as goal

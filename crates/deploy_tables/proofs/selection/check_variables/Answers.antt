@@ -1,7 +1,7 @@
 use Rattle.std.proofs.Common.{subst}
 use Rattle.serde_json.specs.Data.{Items}
 use Rattle.serde_json.specs.View.{view}
-use Rattle.slee_descriptor.specs.Faults.{Says}
+use Rattle.deployment_parts.specs.Faults.{Says}
 use Rattle.deploy_shape.specs.Forms.{list_of}
 use Rattle.deploy_shape.specs.Texts.{text}
 use Rattle.deploy_tables.specs.Names.{texts_of}

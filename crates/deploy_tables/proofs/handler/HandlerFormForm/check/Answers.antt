@@ -2,7 +2,7 @@ use Rattle.std.proofs.Common.{subst, Bool}
 use Rattle.std.specs.Prelude.{codes}
 use Rattle.serde_json.specs.View.{view}
 use Rattle.script_tree.specs.Tree.{Bytes}
-use Rattle.slee_descriptor.specs.Faults.{Says}
+use Rattle.deployment_parts.specs.Faults.{Says}
 use Rattle.deploy_shape.specs.Forms.{object}
 use Rattle.deploy_shape.specs.Numbers.{answer_of}
 use Rattle.deploy_tables.specs.Ids.{text_at}

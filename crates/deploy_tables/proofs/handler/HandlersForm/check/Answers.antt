@@ -1,8 +1,8 @@
 use Rattle.std.proofs.Common.{◌≡◌, ◌∙◌, subst}
 use Rattle.std.specs.Prelude.{codes}
 use Rattle.serde_json.specs.View.{view}
-use Rattle.slee_descriptor.specs.Faults.{Says}
-use Rattle.slee_descriptor.specs.Rules.{Numbering}
+use Rattle.deployment_parts.specs.Faults.{Says}
+use Rattle.deployment_parts.specs.Rules.{Numbering}
 use Rattle.deploy_shape.specs.Forms.{list_of}
 use Rattle.deploy_shape.specs.Numbers.{answer_of, numbers_from, items_of}
 use Rattle.deploy_tables.specs.Lookups.{names_of}

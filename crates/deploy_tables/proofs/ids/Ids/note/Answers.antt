@@ -1,6 +1,6 @@
 use Rattle.std.proofs.Common.{◌≡◌, ◌∙◌, sym, cond, Some}
 use Rattle.slee_value.specs.declared.component.ComponentId.{ComponentId}
-use Rattle.slee_descriptor.specs.Rules.{is_same_id}
+use Rattle.deployment_parts.specs.Rules.{is_same_id}
 use Rattle.deploy_shape.proofs.Noting.{absent_by}
 use Rattle.deploy_tables.specs.declared.ids.Triple.{Triple}
 use Rattle.deploy_tables.specs.Lookups.{number_in, component_of}
