@@ -1,0 +1,14 @@
+pub mod Runs
+pub mod Places
+pub mod Observed
+pub mod Operators
+pub mod Expressions
+pub mod Composed
+pub mod Questions
+pub mod Checked
+pub mod Doing
+pub mod Steps
+pub mod Blocks
+pub mod Scripts
+pub mod Programs
+pub mod Calls
