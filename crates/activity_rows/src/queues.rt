@@ -1,9 +1,8 @@
 //! The store of events: queues, marks beside head events, and suspensions.
 
-use crate::words::text;
 use event_queue::Queues;
 use slee_state::{Event, Queued};
-use slee_value::{ActivityId, EntityId, EventId, NoMemory, Payload};
+use slee_value::{ActivityId, EntityId, EventId, NoMemory, Payload, Text};
 use std::alloc::Global;
 use std::test::Fail;
 
@@ -18,7 +17,7 @@ const SERVICE: u32 = 3;
 fn event(alloc: Global, number: u64) -> Result<Event, NoMemory> {
     Ok(Event {
         id: EventId(number),
-        name: text(alloc, "ring")?,
+        name: Text::from_str(alloc, "ring")?,
         fields: Payload::new(alloc),
         target: None,
     })

@@ -1,6 +1,6 @@
-//! Names and texts that the tests are written with.
+//! Names that the tests are written with.
 
-use slee_value::{Name, NoMemory, Text};
+use slee_value::{Name, NoMemory};
 use std::alloc::Global;
 
 /// The name that is spelled so. What is no name fails the test, as want of memory does.
@@ -11,9 +11,4 @@ pub fn name(alloc: Global, spelled: &str) -> Result<Name, NoMemory> {
     } else {
         Err(NoMemory)
     }
-}
-
-/// The text that is spelled so.
-pub fn text(alloc: Global, spelled: &str) -> Result<Text, NoMemory> {
-    Text::from_str(alloc, spelled)
 }

@@ -1,9 +1,8 @@
 //! Activity contexts: each fault alone and in its order, and what goes with an activity.
 
-use crate::words::{name, text};
 use activity_context::{AcFault, Contexts};
 use slee_state::AcKind;
-use slee_value::{ActivityId, EntityId, NoMemory, Value};
+use slee_value::{ActivityId, EntityId, Name, NoMemory, Text, Value};
 use std::alloc::Global;
 use std::test::Fail;
 
@@ -28,7 +27,10 @@ fn start(contexts: &mut Contexts, kind: AcKind) -> Result<Result<ActivityId, AcF
 // Activity 1 is external, of the name call, and activity 2 a null activity.
 fn two_activities(alloc: Global) -> Result<Contexts, NoMemory> {
     let mut contexts = Contexts::new(alloc);
-    let _first = start(&mut contexts, AcKind::External(name(alloc, "call")?))?;
+    let _first = start(
+        &mut contexts,
+        AcKind::External(Name::from_slice(alloc, b"call")?),
+    )?;
     let _second = start(&mut contexts, AcKind::Null)?;
     Ok(contexts)
 }
@@ -40,7 +42,7 @@ fn bind(
     spelled: &str,
     activity: ActivityId,
 ) -> Result<Result<(), AcFault>, NoMemory> {
-    let name = text(alloc, spelled)?;
+    let name = Text::from_str(alloc, spelled)?;
     contexts.reserve(1)?;
     Ok(contexts.bind(name, activity))
 }
@@ -53,7 +55,7 @@ fn attach(contexts: &mut Contexts, activity: ActivityId) -> Result<bool, NoMemor
 
 // Room is made for an attribute, and then the activity has it.
 fn count(contexts: &mut Contexts, alloc: Global, activity: ActivityId) -> Result<(), NoMemory> {
-    let key = text(alloc, "count")?;
+    let key = Text::from_str(alloc, "count")?;
     contexts.reserve(1)?;
     contexts.set_attr(activity, key, Value::Int(5));
     Ok(())
@@ -63,9 +65,12 @@ fn count(contexts: &mut Contexts, alloc: Global, activity: ActivityId) -> Result
 fn an_external_name_is_in_use_once(rt: HostRuntime) -> Result<(), Fail> {
     let alloc = rt.alloc();
     let mut contexts = two_activities(alloc)?;
-    let call = name(alloc, "call")?;
+    let call = Name::from_slice(alloc, b"call")?;
     assert_eq!(rt; contexts.external(&call), Some(ONE));
-    let again = start(&mut contexts, AcKind::External(name(alloc, "call")?))?;
+    let again = start(
+        &mut contexts,
+        AcKind::External(Name::from_slice(alloc, b"call")?),
+    )?;
     assert_eq!(rt; again, Err(AcFault::Exists));
     assert_eq!(rt; contexts.len(), 2);
     assert_eq!(rt; contexts.next_number(), 3);
@@ -92,7 +97,7 @@ fn an_activity_ends_once(rt: HostRuntime) -> Result<(), Fail> {
 fn a_name_is_bound_to_an_active_activity(rt: HostRuntime) -> Result<(), Fail> {
     let alloc = rt.alloc();
     let mut contexts = two_activities(alloc)?;
-    let credit = text(alloc, "credit")?;
+    let credit = Text::from_str(alloc, "credit")?;
     assert_eq!(rt; contexts.unbind(&credit), Err(AcFault::Unbound));
     for (activity, wanted) in [
         (ONE, Ok(())),
@@ -144,7 +149,14 @@ fn what_an_activity_has_goes_with_it(rt: HostRuntime) -> Result<(), Fail> {
     assert_eq!(rt; contexts.names_len(), 1);
     assert_eq!(rt; contexts.links_len(), 1);
     assert_eq!(rt; contexts.links_at(0), (ME, TWO));
-    assert_eq!(rt; contexts.named(&text(alloc, "second")?), Some(TWO));
-    assert!(rt; contexts.attr(ONE, &text(alloc, "count")?).is_none());
+    assert_eq!(rt;
+        contexts.named(&Text::from_str(alloc, "second")?),
+        Some(TWO)
+    );
+    assert!(rt;
+        contexts
+            .attr(ONE, &Text::from_str(alloc, "count")?)
+            .is_none()
+    );
     Ok(())
 }

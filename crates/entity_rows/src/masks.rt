@@ -1,6 +1,5 @@
 //! The store of event masks: masks of one attachment, set and forgotten.
 
-use crate::words::text;
 use event_mask::Masks;
 use slee_state::Mask;
 use slee_value::{ActivityId, EntityId, NoMemory, Text};
@@ -15,7 +14,7 @@ const CALL: ActivityId = ActivityId(7);
 
 // Room is made for the mask, and then the event is masked on the call.
 fn mask(masks: &mut Masks, alloc: Global, entity: EntityId, event: &str) -> Result<(), NoMemory> {
-    let event = text(alloc, event)?;
+    let event = Text::from_str(alloc, event)?;
     masks.reserve(1)?;
     masks.set(entity, CALL, event, true);
     Ok(())
@@ -36,7 +35,7 @@ fn an_attachment_begins_with_its_own_masks(rt: HostRuntime) -> Result<(), Fail> 
     mask(&mut masks, alloc, OTHER, "busy")?;
     let mut events = Vec::new(alloc);
     for event in ["ring", "answer"] {
-        events.push(text(alloc, event)?)?;
+        events.push(Text::from_str(alloc, event)?)?;
     }
     attach(&mut masks, ME, events)?;
     for (entity, event, is_masked) in [
@@ -47,7 +46,7 @@ fn an_attachment_begins_with_its_own_masks(rt: HostRuntime) -> Result<(), Fail> 
         (OTHER, "ring", false),
     ] {
         assert_eq!(rt;
-            masks.is_masked(entity, CALL, &text(alloc, event)?),
+            masks.is_masked(entity, CALL, &Text::from_str(alloc, event)?),
             is_masked
         );
     }
@@ -64,7 +63,7 @@ fn a_mask_is_set_once_and_taken_away(rt: HostRuntime) -> Result<(), Fail> {
     mask(&mut masks, alloc, ME, "ring")?;
     assert_eq!(rt; masks.len(), 1);
     for _ in 0..2 {
-        masks.set(ME, CALL, text(alloc, "ring")?, false);
+        masks.set(ME, CALL, Text::from_str(alloc, "ring")?, false);
         assert_eq!(rt; masks.len(), 0);
     }
     Ok(())
@@ -80,7 +79,7 @@ fn an_attachment_that_goes_takes_its_own_masks(rt: HostRuntime) -> Result<(), Fa
     masks.restore(Mask {
         entity: ME,
         activity: ActivityId(6),
-        event: text(alloc, "ring")?,
+        event: Text::from_str(alloc, "ring")?,
     });
     masks.forget(ME, CALL);
     assert_eq!(rt; masks.len(), 2);

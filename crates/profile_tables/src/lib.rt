@@ -1,0 +1,13 @@
+//! Profile tables (JSR 240, chapter 10): rows with attributes, some of which differ from row to row of a table.
+#![tactic(auto)]
+
+mod fault;
+mod fitting;
+mod profiles;
+mod rivals;
+mod same;
+mod table_spec;
+
+pub use fault::RowFault;
+pub use profiles::Profiles;
+pub use table_spec::TableSpec;

@@ -1,0 +1,276 @@
+//! The rows of profile tables; clauses see them as a list, with what is declared for each table and the room.
+ghost use Rattle.std.specs.Prelude.{◌≡◌, ◌+◌, ◌<◌, ◌≤◌, ◌||◌, [], Some, nat_lt, length, find, IsTrue, IfOk, OnOk, OnErr, slice_get, option_copied};
+ghost use Rattle.slee_state.specs.Orders.{rises_by};
+ghost use Rattle.slee_state.specs.Fitting.{has_row};
+ghost use Rattle.slee_state.specs.Profiles.{is_row, row_at, row_before, with_row, without_row};
+ghost use Rattle.profile_tables.specs.Faults.{fault_of, fault_of_add, fault_of_asking, fault_of_update, fault_of_values};
+
+use crate::fitting::are_declared;
+use crate::rivals::place_of_rival;
+use crate::{RowFault, TableSpec};
+use slee_state::ProfileRow;
+use slee_value::{NoMemory, Payload, Text};
+use sorted_rows::{cut_row, put_row, row_of};
+use std::alloc::Global;
+use std::marker::Model;
+
+/// The rows of all profile tables.
+#[derive(Debug, Drop)]
+pub struct Profiles {
+    tables: Vec<TableSpec>,
+    rows: Vec<ProfileRow>,
+}
+
+impl Model for Profiles {
+    ghost use Rattle.std.specs.Prelude.{vec_capacity, vec_len, ◌-◌, IsTrue};
+    ghost use Rattle.slee_state.specs.Profiles.{row_before};
+    ghost use Rattle.slee_state.specs.Orders.{rises_by};
+    ghost use Rattle.profile_tables.specs.Views.{ProfilesView};
+
+    ghost Value = { ProfilesView };
+
+    ghost view = { λ t. record { tables = t.tables.items; rows = t.rows.items; room = vec_capacity t.rows - vec_len t.rows } };
+
+    ghost invariant = { λ t. IsTrue (rises_by row_before t.rows.items) };
+}
+
+/// Why the values aren't those of a row of the table, if they aren't.
+fn fault_of_values(
+    spec: &TableSpec,
+    rows: &[ProfileRow],
+    table: u32,
+    row: &Text,
+    fields: &Payload,
+) -> Option<RowFault>
+    ensures { result ≡ fault_of_values spec.now rows.now (record { table = table; row = row.now; attributes = fields.now }) }
+{
+    if !are_declared(spec.attributes.as_slice(), fields.as_slice()) {
+        return Some(RowFault::BadAttribute);
+    }
+    match place_of_rival(rows, spec.unique.as_slice(), table, row, fields) {
+        Some(place) => Some(RowFault::Duplicate { place }),
+        None => None,
+    }
+}
+
+/// A fault as an answer.
+fn answer(fault: Option<RowFault>) -> Result<(), RowFault>
+    ensures { fault_of result ≡ fault }
+{
+    match fault {
+        Some(fault) => Err(fault),
+        None => Ok(()),
+    }
+}
+
+impl Profiles {
+    /// No rows, in tables of which these are declared.
+    pub fn new(alloc: Global, tables: Vec<TableSpec>) -> Self
+        ensures tables { result.tables ≡ tables.items }
+        ensures rows { result.rows ≡ [] }
+    {
+        Profiles {
+            tables,
+            rows: Vec::new(alloc),
+        }
+    }
+
+    /// Makes room for this many new rows.
+    pub fn reserve(&mut self, rows: u64) -> Result<(), NoMemory>
+        ensures tables { self.new.tables ≡ self.old.tables }
+        ensures rows { self.new.rows ≡ self.old.rows }
+        ensures room { OnOk result (rows ≤ self.new.room) }
+        ensures grown { self.old.room ≤ self.new.room }
+    {
+        self.rows.reserve(rows as usize)?;
+        Ok(())
+    }
+
+    fn spec_of(&self, table: u32) -> Option<&TableSpec>
+        ensures { option_copied result ≡ slice_get self.now.tables table }
+    {
+        self.tables.get(table as usize)
+    }
+
+    fn find(&self, table: u32, row: &Text) -> Option<&ProfileRow>
+        ensures { option_copied result ≡ find (is_row table row.now) self.now.rows }
+    {
+        row_of(&self.rows, table as u64, 0, row.as_bytes())
+    }
+
+    fn has_row(&self, table: u32, row: &Text) -> bool
+        ensures { result ≡ has_row self.now.rows table row.now }
+    {
+        match self.find(table, row) {
+            Some(_) => true,
+            None => false,
+        }
+    }
+
+    fn fault_of_asking(&self, table: u32, row: &Text) -> Option<RowFault>
+        ensures { result ≡ fault_of_asking self.now.tables self.now.rows table row.now }
+    {
+        match self.spec_of(table) {
+            None => Some(RowFault::NoTable),
+            Some(_) => if self.has_row(table, row) {
+                None
+            } else {
+                Some(RowFault::NoRow)
+            },
+        }
+    }
+
+    fn fault_of_add(&self, table: u32, row: &Text, fields: &Payload) -> Option<RowFault>
+        ensures { result ≡ fault_of_add self.now.tables self.now.rows (record { table = table; row = row.now; attributes = fields.now }) }
+    {
+        match self.spec_of(table) {
+            None => Some(RowFault::NoTable),
+            Some(spec) => if self.has_row(table, row) {
+                Some(RowFault::RowExists)
+            } else {
+                fault_of_values(spec, &self.rows, table, row, fields)
+            },
+        }
+    }
+
+    fn fault_of_update(&self, table: u32, row: &Text, fields: &Payload) -> Option<RowFault>
+        ensures { result ≡ fault_of_update self.now.tables self.now.rows (record { table = table; row = row.now; attributes = fields.now }) }
+    {
+        match self.spec_of(table) {
+            None => Some(RowFault::NoTable),
+            Some(spec) => if self.has_row(table, row) {
+                fault_of_values(spec, &self.rows, table, row, fields)
+            } else {
+                Some(RowFault::NoRow)
+            },
+        }
+    }
+
+    /// Whether a new row may be added.
+    pub fn test_add(&self, table: u32, row: &Text, fields: &Payload) -> Result<(), RowFault>
+        ensures { fault_of result ≡ fault_of_add self.now.tables self.now.rows (record { table = table; row = row.now; attributes = fields.now }) }
+    {
+        answer(self.fault_of_add(table, row, fields))
+    }
+
+    /// Whether a row may have other values.
+    pub fn test_update(&self, table: u32, row: &Text, fields: &Payload) -> Result<(), RowFault>
+        ensures { fault_of result ≡ fault_of_update self.now.tables self.now.rows (record { table = table; row = row.now; attributes = fields.now }) }
+    {
+        answer(self.fault_of_update(table, row, fields))
+    }
+
+    /// The row stands in its place. Another one of its name gives way.
+    #[tactic(auto, using(crate::proofs::RowLemmas::any_row))]
+    fn put(&mut self, item: ProfileRow)
+        requires { IsTrue (has_row self.old.rows item.table item.row || nat_lt 0 self.old.room) }
+        ensures tables { self.new.tables ≡ self.old.tables }
+        ensures rows { self.new.rows ≡ with_row self.old.rows item.table item.row item.attributes }
+        ensures room { self.old.room ≤ self.new.room + 1 }
+        ensures replaced { IsTrue (has_row self.old.rows item.table item.row) → self.old.room ≤ self.new.room }
+    {
+        put_row(&mut self.rows, item);
+    }
+
+    /// A new row stands in the room that was made.
+    pub fn add(&mut self, table: u32, row: Text, fields: Payload) -> Result<(), RowFault>
+        requires { 0 < self.old.room }
+        ensures fault { fault_of result ≡ fault_of_add self.old.tables self.old.rows (record { table = table; row = row; attributes = fields }) }
+        ensures tables { self.new.tables ≡ self.old.tables }
+        ensures rows { OnOk result (self.new.rows ≡ with_row self.old.rows table row fields) }
+        ensures room { self.old.room ≤ self.new.room + 1 }
+        ensures kept { OnErr result (self.new ≡ self.old) }
+    {
+        match self.fault_of_add(table, &row, &fields) {
+            Some(fault) => Err(fault),
+            None => {
+                self.put(ProfileRow {
+                    table,
+                    row,
+                    attributes: fields,
+                });
+                Ok(())
+            }
+        }
+    }
+
+    /// The row has other values.
+    #[tactic(auto, using(crate::proofs::RowLemmas::there_to_update))]
+    pub fn update(&mut self, table: u32, row: Text, fields: Payload) -> Result<(), RowFault>
+        ensures fault { fault_of result ≡ fault_of_update self.old.tables self.old.rows (record { table = table; row = row; attributes = fields }) }
+        ensures tables { self.new.tables ≡ self.old.tables }
+        ensures rows { OnOk result (self.new.rows ≡ with_row self.old.rows table row fields) }
+        ensures room { self.old.room ≤ self.new.room }
+        ensures kept { OnErr result (self.new ≡ self.old) }
+    {
+        match self.fault_of_update(table, &row, &fields) {
+            Some(fault) => Err(fault),
+            None => {
+                self.put(ProfileRow {
+                    table,
+                    row,
+                    attributes: fields,
+                });
+                Ok(())
+            }
+        }
+    }
+
+    /// The row is gone.
+    pub fn remove(&mut self, table: u32, row: &Text) -> Result<(), RowFault>
+        ensures fault { fault_of result ≡ fault_of_asking self.old.tables self.old.rows table row.now }
+        ensures tables { self.new.tables ≡ self.old.tables }
+        ensures rows { OnOk result (self.new.rows ≡ without_row self.old.rows table row.now) }
+        ensures room { self.old.room ≤ self.new.room }
+        ensures kept { OnErr result (self.new ≡ self.old) }
+    {
+        match self.fault_of_asking(table, row) {
+            Some(fault) => Err(fault),
+            None => {
+                cut_row(&mut self.rows, table as u64, 0, row.as_bytes());
+                Ok(())
+            }
+        }
+    }
+
+    /// The attributes of a row.
+    pub fn get(&self, table: u32, row: &Text) -> Result<&Payload, RowFault>
+        ensures fault { fault_of result ≡ fault_of_asking self.now.tables self.now.rows table row.now }
+        ensures row { IfOk result (λ fields. row_at self.now.rows table row.now ≡ Some fields.now) }
+    {
+        match self.spec_of(table) {
+            None => Err(RowFault::NoTable),
+            Some(_) => match self.find(table, row) {
+                Some(row) => Ok(&row.attributes),
+                None => Err(RowFault::NoRow),
+            },
+        }
+    }
+
+    /// Puts a row of a snapshot back. Another one of its name gives way.
+    pub fn restore(&mut self, item: ProfileRow)
+        requires { 0 < self.old.room }
+        ensures tables { self.new.tables ≡ self.old.tables }
+        ensures rows { self.new.rows ≡ with_row self.old.rows item.table item.row item.attributes }
+        ensures room { self.old.room ≤ self.new.room + 1 }
+    {
+        self.put(item);
+    }
+
+    /// How many rows there are.
+    pub fn len(&self) -> u64
+        ensures length { result ≡ length self.now.rows }
+        ensures order { IsTrue (rises_by row_before self.now.rows) }
+    {
+        self.rows.len() as u64
+    }
+
+    /// The row at this place, counted from 0.
+    pub fn at(&self, place: u64) -> &ProfileRow
+        requires { place < length self.now.rows }
+        ensures row { slice_get self.now.rows place ≡ Some result.now }
+        ensures order { IsTrue (rises_by row_before self.now.rows) }
+    {
+        &self.rows[place as usize]
+    }
+}
