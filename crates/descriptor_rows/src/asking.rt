@@ -25,7 +25,7 @@ pub(crate) fn answer(
     if words.is_empty() {
         println!(rt; "  {kind} {name}:")?;
     } else {
-        println!(rt; "  {kind} {name}: {}", words.join(" ")?)?;
+        println!(rt; "  {kind} {name}: {}", words.join(rt.alloc(), " ")?)?;
     }
     Ok(())
 }

@@ -1,5 +1,5 @@
 -- What stands first with a name, by its place.
-use Rattle.std.proofs.Common.{◌≡◌, ◌+◌, ℕ, Bool, true, false, List, [], ◌∷◌, cond, Option, Some, None, find, slice_get, option_map, option_and_then, refl, sym, ◌∙◌, ap}
+use Rattle.std.proofs.Common.{◌≡◌, ◌+◌, ℕ, Bool, true, false, List, [], ◌∷◌, cond, Option, Some, None, find, slice_get, option_map, option_and_then, refl, sym, ◌∙◌, ap, add-one}
 use Rattle.std.specs.List.{position_from}
 
 shifted_by : (b : Bool) (n : ℕ) (o p : Option ℕ) → o ≡ option_map (λ k. k + 1) p → cond b (Some (n + 1)) o ≡ option_map (λ k. k + 1) (cond b (Some n) p)
@@ -12,7 +12,7 @@ shifted t (x ∷ xs) n = shifted_by (t x) n _ _ (shifted t xs (n + 1))
 
 behind : {A : Type 0} → (x : A) (xs : List A) (o : Option ℕ) → option_and_then (slice_get (x ∷ xs)) (option_map (λ k. k + 1) o) ≡ option_and_then (slice_get xs) o
 behind x xs None = refl
-behind x xs (Some k) = refl
+behind x xs (Some k) = ap (slice_get (x ∷ xs)) (add-one k)
 
 found_by : {A : Type 0} → (b : Bool) (x : A) (xs : List A) (o : Option ℕ) (r : Option A) → option_and_then (slice_get (x ∷ xs)) o ≡ r → option_and_then (slice_get (x ∷ xs)) (cond b (Some 0) o) ≡ cond b (Some x) r
 found_by true x xs o r e = refl

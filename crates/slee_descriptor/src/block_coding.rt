@@ -11,9 +11,9 @@ ghost use Rattle.deployment_parts.specs.Tables.{key_number};
 use crate::coding::{Coding, codes_by};
 use crate::keys::Keys;
 use crate::part_coding::{field_codes, number_of};
+use deployment_parts::{Block, BlockEvent, Method, Numbers, Relation, numbers_of};
 use script_tree::Script;
 use script_types::{AttributeCode, BlockCode, CodeList, HandlerCode, MethodCode, RelationCode};
-use deployment_parts::{Block, BlockEvent, Method, Numbers, Relation, numbers_of};
 use slee_value::{Kind, Name, NoMemory, Text};
 use std::alloc::Global;
 

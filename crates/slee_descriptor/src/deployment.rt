@@ -11,10 +11,10 @@ use crate::block_coding::BlockCoding;
 use crate::coding::codes_by;
 use crate::indexes::{Indexes, indexes_of};
 use crate::part_coding::{EventCoding, ServiceCoding, TableCoding};
-use script_types::{BlockSteps, CodeList, Codes};
 use deployment_parts::{
     Block, DeployFault, EventType, Parts, ProfileSpec, Service, Table, check_parts,
 };
+use script_types::{BlockSteps, CodeList, Codes};
 use slee_value::{NoMemory, Text};
 use std::alloc::Global;
 
@@ -56,6 +56,21 @@ fn codes_of(alloc: Global, parts: &Parts, indexes: &Indexes) -> Result<Codes, No
     })
 }
 
+/// The deployment that parts without fault are.
+fn deployment_of(alloc: Global, parts: Parts) -> Result<Deployment, NoMemory>
+    requires { IsTrue (is_deployment parts) }
+    ensures same { IfOk result (λ d. d.parts ≡ parts) }
+    ensures unchecked { IfOk result (λ d. d.codes.programs ≡ []) }
+{
+    let indexes = indexes_of(alloc, &parts)?;
+    let codes = codes_of(alloc, &parts, &indexes)?;
+    Ok(Deployment {
+        parts,
+        codes,
+        indexes,
+    })
+}
+
 impl Deployment {
     /// The deployment that the parts are, or the first fault that they have. The types of scripts are no matter of it.
     pub fn build(alloc: Global, parts: Parts) -> Result<Self, DeployFault>
@@ -64,13 +79,7 @@ impl Deployment {
         ensures fault { Says (parts_fault parts) result }
     {
         check_parts(alloc, &parts)?;
-        let indexes = indexes_of(alloc, &parts)?;
-        let codes = codes_of(alloc, &parts, &indexes)?;
-        Ok(Deployment {
-            parts,
-            codes,
-            indexes,
-        })
+        Ok(deployment_of(alloc, parts)?)
     }
 
     /// The same deployment with its checked scripts.

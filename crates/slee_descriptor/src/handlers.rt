@@ -7,8 +7,8 @@ ghost use Rattle.deployment_parts.specs.Firsts.{answer_of};
 ghost use Rattle.deployment_parts.specs.Rules.{is_number};
 
 use crate::keys::item_number;
-use indexmap::IndexMap;
 use deployment_parts::{Block, BlockEvent, Numbers, numbers_of};
+use indexmap::IndexMap;
 use slee_value::NoMemory;
 use std::alloc::Global;
 

@@ -6,8 +6,8 @@ ghost use Rattle.deployment_parts.specs.Firsts.{only_at};
 ghost use Rattle.deployment_parts.specs.Rules.{or_later};
 ghost use Rattle.deployment_parts.specs.Tables.{key_number};
 
-use indexmap::IndexMap;
 use deployment_parts::Named;
+use indexmap::IndexMap;
 use slee_value::NoMemory;
 use std::alloc::Global;
 
@@ -45,7 +45,7 @@ impl Keys {
     }
 }
 
-/// A place as the number of an item. No list has room for more items than there are numbers.
+/// A place as the number of an item. A list of more items than there are numbers finds no memory.
 pub(crate) fn item_number(place: usize) -> Result<u32, NoMemory>
     ensures { IfOk result (λ n. n ≡ place) }
 {

@@ -7,8 +7,8 @@ ghost use Rattle.deployment_parts.specs.Resolving.{number_of as number_so, field
 
 use crate::coding::{Coding, codes_by};
 use crate::keys::Keys;
-use script_types::{CodeList, EventCode, FieldCode, TableCode};
 use deployment_parts::{EventType, ProfileSpec, Service, Table};
+use script_types::{CodeList, EventCode, FieldCode, TableCode};
 use slee_value::{Kind, Name, NoMemory};
 use std::alloc::Global;
 
