@@ -1,5 +1,5 @@
 -- What stands first with a name, by its place.
-use Rattle.std.proofs.Common.{◌≡◌, ◌+◌, ℕ, Bool, true, false, List, [], ◌∷◌, cond, Option, Some, None, find, slice_get, option_map, option_and_then, refl, sym, ◌∙◌, ap, add-one}
+use Rattle.std.proofs.Common.{◌≡◌, ◌+◌, ℕ, Bool, true, false, List, [], ◌∷◌, cond, Option, Some, None, find, slice_get, option_map, option_and_then, refl, ◌∙◌, ap, add-one}
 use Rattle.std.specs.List.{position_from}
 
 shifted_by : (b : Bool) (n : ℕ) (o p : Option ℕ) → o ≡ option_map (λ k. k + 1) p → cond b (Some (n + 1)) o ≡ option_map (λ k. k + 1) (cond b (Some n) p)

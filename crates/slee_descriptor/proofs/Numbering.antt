@@ -1,5 +1,5 @@
 -- The number of a key, as parts and as a deployment say it, and the alias that stands first.
-use Rattle.std.proofs.Common.{◌≡◌, ◌+◌, ℕ, List, [], ◌∷◌, cond, map, Option, Some, None, position, find, slice_get, option_and_then, bytes_eq, refl, ◌∙◌}
+use Rattle.std.proofs.Common.{◌≡◌, ◌+◌, ℕ, List, [], ◌∷◌, cond, map, Some, position, bytes_eq, refl, ◌∙◌}
 use Rattle.std.specs.List.{position_from}
 use Rattle.std.proofs.lemmas.Iterator.Adapters.{position_from-zero}
 use Rattle.deployment_parts.proofs.Noting.{turned}

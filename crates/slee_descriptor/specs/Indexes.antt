@@ -2,10 +2,8 @@
 use Rattle.std.specs.Prelude.{◌≡◌}
 use Rattle.script_tree.specs.Tree.{Bytes}
 use Rattle.deployment_parts.specs.Deployed.{Deployed, event_named, profile_named, table_named, block_named, service_named, handlers_of}
-use Rattle.deployment_parts.specs.Rules.{Numbering}
 use Rattle.slee_descriptor.specs.Keys.{number_in}
 use Rattle.slee_descriptor.specs.Handlers.{blocks_for}
-use Rattle.slee_descriptor.specs.declared.keys.Keys.{Keys}
 use Rattle.slee_descriptor.specs.declared.indexes.Indexes.{Indexes}
 
 -- Indexes that have for each key and event what the deployment says.
