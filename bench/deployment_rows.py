@@ -1,12 +1,7 @@
 #!/usr/bin/env python3
 """Deployments and the first fault of each, worked out by hand from docs/FORMATS.md, and a check that the definitions of
 deployment_parts say the same. Without the tool that evaluates definitions (deployments.py says where it is looked for) nothing
-is run, and it says so. With no fault the answer is None.
-
-    python3 bench/deployment_rows.py                    run the definitions on the rows
-    python3 bench/deployment_rows.py --write FOLDER     write the rows as input and wanted output of the program descriptor_rows
-"""
-import pathlib
+is run, and it says so. With no fault the answer is None."""
 import sys
 
 import deployments
@@ -154,31 +149,6 @@ ROWS = [
      "/blocks/1/name range"),
 ]
 
-# What the deployment of each row answers to questions: the blocks that handle an event, the number of a key, the key of an
-# attribute of activities, the number of a relation's block, the attributes of a table's rows.
-THREE = deployment(
-    events=[item("ping", fields={"addr": "text"}), item("pong"), item("rest")],
-    profiles=[item("p", attributes={"a": "int", "z": "text"}), item("q")], tables={"s": "q", "t": "p"},
-    blocks=[item("c", attributes={"mine": "int", "ours": "text"}, aliases={"ours": "x"}, relations={"leg": {"block": "a"}},
-                 events=[on("ping"), on("timer")]),
-            item("b", attributes={"ours": "int", "z": "text"}, aliases={"z": "x"}, events=[on("pong")]),
-            item("a", relations={"self": {"block": "a"}, "up": {"block": "c"}}, events=[on("timer"), on("pong"), on("ping")])],
-    services=[item("y", root="b"), item("x", root="a")])
-
-ASKED = [
-    ("nothing is named in nothing", deployment(), [
-        ("handlers timer", ""), ("event ping", "-"), ("profile p", "-"), ("table t", "-"), ("block b", "-"), ("service s", "-")]),
-    ("three blocks", THREE, [
-        ("handlers ping", "0 2"), ("handlers pong", "1 2"), ("handlers timer", "0 2"), ("handlers rest", ""), ("handlers none", ""),
-        ("event ping", "0"), ("event rest", "2"), ("event timer", "-"), ("profile q", "1"), ("profile t", "-"),
-        ("table s", "0"), ("table t", "1"), ("table p", "-"), ("block c", "0"), ("block b", "1"), ("block a", "2"), ("block x", "-"),
-        ("service y", "0"), ("service x", "1"), ("service b", "-"),
-        ("attributes c", "c.mine x"), ("attributes b", "b.ours x"), ("attributes a", ""),
-        ("relations c", "2"), ("relations b", ""), ("relations a", "2 0"), ("row t", "a z"), ("row s", "")]),
-    ("one handler of many blocks", deployment(blocks=[item(f"b{n}", events=[on("timer")] if n % 3 == 1 else []) for n in range(12)]), [
-        ("handlers timer", "1 4 7 10"), ("block b11", "11"), ("block b12", "-")]),
-]
-
 KIND = {"int": "Int", "text": "Text", "bool": "Bool", "activity": "Activity", "timer": "Timer"}
 BAD = {"Missing": "missing", "Repeated": "repeated", "UnknownName": "unknown-name", "Range": "range", "Alias": "alias"}
 
@@ -252,65 +222,6 @@ class Builder:
                                        active=s.get("active", False)) for s in d["services"]))
 
 
-def declared(word, members):
-    return [[word, n, k] for n, k in sorted(members.items())]
-
-
-def head(x):
-    return [x["key"], x["name"], x["vendor"], x["version"]]
-
-
-def lines_of_block(b):
-    yield from declared("field", b.get("fields", {}))
-    yield from declared("attribute", b.get("attributes", {}))
-    yield from (["alias", a, x] for a, x in sorted(b.get("aliases", {}).items()))
-    for n, r in sorted(b.get("relations", {}).items()):
-        yield ["relation", n, r["block"], str(r.get("priority", 0))]
-    for h in b.get("events", []):
-        if "initial" in h:
-            yield ["initial", *h["initial"]]
-        if "custom" in h:
-            yield ["custom", h["custom"]["rule"], h["custom"]["field"]]
-        yield ["on", h["event"]]
-    for n, m in sorted(b.get("methods", {}).items()):
-        yield from (["param", p["name"], p["type"]] for p in m.get("params", []))
-        yield ["method", n]
-    yield ["block", *head(b)]
-
-
-def lines_of(d):
-    for e in d["events"]:
-        yield from declared("field", e.get("fields", {}))
-        yield ["event", *head(e)]
-    for p in d["profiles"]:
-        yield from declared("attribute", p.get("attributes", {}))
-        yield from (["unique", u] for u in p.get("unique", []))
-        yield ["profile", *head(p)]
-    yield from (["table", n, p] for n, p in sorted(d["tables"].items()))
-    for b in d["blocks"]:
-        yield from lines_of_block(b)
-    for s in d["services"]:
-        yield ["service", s["root"], str(s.get("priority", 0)), *head(s)]
-
-
-def text_of(d, asked=()):
-    words = [*lines_of(d), *(["ask", *question.split()] for question, _ in asked)]
-    return "".join("\t".join(line) + "\n" for line in words)
-
-
-def counts(d):
-    return "ok " + " ".join(str(len(d[k])) for k in ("events", "profiles", "tables", "blocks", "services"))
-
-
-def write(folder):
-    texts = [text_of(d) for _, d, _ in ROWS] + [text_of(d, asked) for _, d, asked in ASKED]
-    answers = [wanted or counts(d) for _, d, wanted in ROWS]
-    for _, d, asked in ASKED:
-        answers += [counts(d), *(f"  {question}: {reply}".rstrip() for question, reply in asked)]
-    (pathlib.Path(folder) / "stdin").write_text("%\n".join(texts))
-    (pathlib.Path(folder) / "stdout").write_text("".join(line + "\n" for line in answers))
-
-
 def answer(fault):
     if fault.con.name == "None":
         return None
@@ -319,8 +230,6 @@ def answer(fault):
 
 
 def main():
-    if sys.argv[1:2] == ["--write"]:
-        return write(sys.argv[2])
     world = deployments.world()
     if world is None:
         print("deployment_rows: skipped, the tool that evaluates definitions isn't here (deployments.py)")
