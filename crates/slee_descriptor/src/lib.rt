@@ -1,10 +1,16 @@
-//! Deployments as data, with every name resolved; their parts, and the faults of parts that are no deployment.
+//! Deployments: parts in which the walk finds no fault, with all that scripts may name in them and all that is looked up by key.
 #![tactic(auto)]
 
+mod block_coding;
+mod coding;
 mod deployment;
+mod handlers;
+mod indexes;
+mod keys;
+mod part_coding;
 
-pub use crate::deployment::Deployment;
+pub use deployment::Deployment;
 pub use deployment_parts::{
     Block, BlockEvent, CustomRule, DeployBad, DeployFault, EventType, LABEL_LIMIT, Method, Parts,
-    ProfileSpec, Relation, SelectRule, Service, Table, Variable,
+    ProfileSpec, Relation, SelectRule, Service, Table, Variable, rule_of, variable_of,
 };

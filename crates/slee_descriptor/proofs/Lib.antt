@@ -1,0 +1,3 @@
+mod Aliases
+mod HandledBlocks
+mod Numbering

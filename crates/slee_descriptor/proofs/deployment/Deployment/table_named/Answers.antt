@@ -1,0 +1,5 @@
+use Rattle.std.proofs.Common.{◌∙◌}
+use Rattle.slee_descriptor.proofs.deployment.Deployment.table_named.Goals as goal
+
+pub returns : goal.returns
+returns c = c.get.ensures ∙ c.args.self.now.indexed.tables c.args.name.now

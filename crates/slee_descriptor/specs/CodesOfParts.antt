@@ -1,0 +1,54 @@
+-- All that scripts may name in parts without fault, and their scripts.
+use Rattle.std.specs.Prelude.{List, [], map, slice_get}
+use Rattle.std.specs.Option.{option_map_or}
+use Rattle.script_types.specs.declared.codes.TableCode.{TableCode}
+use Rattle.script_types.specs.declared.codes.HandlerCode.{HandlerCode}
+use Rattle.script_types.specs.declared.codes.MethodCode.{MethodCode}
+use Rattle.script_types.specs.declared.codes.BlockCode.{BlockCode}
+use Rattle.script_types.specs.declared.codes.Codes.{Codes}
+use Rattle.script_types.specs.declared.checked_script.BlockSteps.{BlockSteps}
+use Rattle.deployment_parts.specs.declared.parts.ProfileSpec.{ProfileSpec}
+use Rattle.deployment_parts.specs.declared.parts.Table.{Table}
+use Rattle.deployment_parts.specs.declared.parts.BlockEvent.{BlockEvent}
+use Rattle.deployment_parts.specs.declared.parts.Method.{Method}
+use Rattle.deployment_parts.specs.declared.parts.Block.{Block}
+use Rattle.deployment_parts.specs.declared.parts.Parts.{Parts}
+use Rattle.deployment_parts.specs.Resolving.{number_of, field_of, event_of, attribute_of, relation_of}
+use Rattle.deployment_parts.specs.Rules.{Numbering}
+use Rattle.deployment_parts.specs.Tables.{key_number}
+
+-- A table, with its profile's attributes.
+abbrev pub table_code : Numbering → List ProfileSpec → Table → TableCode
+table_code numbers profiles t = record {
+  name = t.name;
+  attributes = option_map_or (λ p. map field_of p.attributes) (slice_get profiles (number_of numbers t.profile)) [];
+}
+
+abbrev pub handler_code : BlockEvent → HandlerCode
+handler_code h = record { event = h.event; mask = h.mask; script = h.on }
+
+abbrev pub method_code : Method → MethodCode
+method_code m = record { name = m.name; parameters = map field_of m.params; result = m.returns; script = m.body }
+
+abbrev pub block_code : Numbering → Block → BlockCode
+block_code blocks b = record {
+  key = b.key;
+  fields = map field_of b.fields;
+  attributes = map (attribute_of b) b.attributes;
+  relations = map (relation_of blocks) b.relations;
+  handlers = map handler_code b.events;
+  methods = map method_code b.methods;
+  exception = b.exception;
+  rolled_back = b.rolled_back;
+  remove = b.remove;
+}
+
+-- The codes of parts, with these checked scripts.
+abbrev pub codes_in : Parts → List BlockSteps → Codes
+codes_in parts programs = record {
+  events = map event_of parts.events;
+  tables = map (table_code (key_number (λ p. p.key) parts.profiles) parts.profiles) parts.tables;
+  services = map (λ s. s.key) parts.services;
+  blocks = map (block_code (key_number (λ b. b.key) parts.blocks)) parts.blocks;
+  programs = programs;
+}
