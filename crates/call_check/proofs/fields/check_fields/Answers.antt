@@ -1,0 +1,25 @@
+use Rattle.std.proofs.Common.{◌≡◌, ◌+◌, ◌<◌, ℕ, List, [], ◌∷◌, ◌++◌, length, map, take, drop, sym, ap, ◌∙◌, arith}
+use Rattle.std.proofs.lemmas.List.{map-append}
+use Rattle.std.proofs.lemmas.Result.{err_from_is_err_and}
+use Rattle.script_tree.specs.Tree.{tree_of, field_of}
+use Rattle.script_types.specs.ElaborationOfStatements.{fields_of}
+use Rattle.script_types.specs.ProgramOf.{field_term_of}
+use Rattle.expression_check.specs.Answers.{Gives}
+use Rattle.expression_check.specs.SettingOf.{setting_of}
+use Rattle.call_check.specs.Parts.{field_made, names_of}
+use Rattle.call_check.proofs.FieldLemmas.{field_done, field_refused, tokens_next}
+use Rattle.call_check.proofs.fields.check_fields.Goals as goal
+
+pub returns-in_err-part-clause-made : goal.returns-in_err-part-clause-made
+returns-in_err-part-clause-made c =
+    let p = err_from_is_err_and c.from_residual.result c.from_residual.ensures.1 in
+    rw (p.1, p.2) (field_refused (setting_of c.args.setting.now) c.args.scope.now c.args.declared.now c.fields.here c.args.fields.now c.fields.i c.index-fields-i.result (map field_term_of c.fields.terms.items) _ _ c.fields-test.true c.index-fields-i.is c.fields.invariant.made c.in_err-part.ensures.made)
+
+pub fields-preserved : goal.fields-preserved
+fields-preserved c =
+    let fewer = tokens_next c.args.fields.now c.fields.i c.index-fields-i.result c.fields-test.true c.index-fields-i.is in
+    let made = field_done (setting_of c.args.setting.now) c.args.scope.now c.args.declared.now c.fields.here c.args.fields.now c.fields.i c.index-fields-i.result (map field_term_of c.fields.terms.items) _ (field_term_of c.in_ok-part.part.made) c.fields-test.true c.index-fields-i.is c.fields.invariant.made c.in_ok-part.ensures.made in
+    record {
+      made = rw (c.in_ok-push.ensures.items, map-append field_term_of c.fields.terms.items (c.in_ok-part.part.made ∷ []), c.in_ok-part.ensures.tokens) made;
+      place = omega (arith, fewer, c.in_ok-part.ensures.tokens, c.fields.invariant.place);
+    }
