@@ -4,3 +4,6 @@ pub mod SetLemmas
 pub mod IndexLemmas
 pub mod KeptLemmas
 pub mod TreeLemmas
+pub mod PathLemmas
+pub mod OrderLemmas
+pub mod ClimbLemmas

@@ -3,6 +3,7 @@
 
 mod branch;
 mod growing;
+mod paths;
 mod reading;
 mod removal;
 mod tree;

@@ -4,13 +4,18 @@ ghost use Rattle.slee_state.specs.declared.rows.Stem.TheVariants as stems;
 ghost use Rattle.slee_state.specs.Orders.{put};
 ghost use Rattle.slee_state.specs.Ordered.{are_below};
 ghost use Rattle.slee_state.specs.Trees.{children, children_under, entity_at, is_root, number_of, parent_in, parent_of, service_of, tree_of, with_entity, with_priority, without_entity};
-ghost use Rattle.entity_tree.specs.Kept.{entity_before, is_entity, numbers_of};
+ghost use Rattle.slee_state.specs.Paths.{path_before};
+ghost use Rattle.std.specs.Ordering.{is_lt, is_gt};
+ghost use Rattle.sorted_rows.specs.Keys.{Rises, entity_key};
+ghost use Rattle.entity_tree.specs.Climbing.{path_at};
+ghost use Rattle.entity_tree.specs.Kept.{AreParents, entity_before, is_entity, numbers_of};
 
 use crate::branch::Branch;
-use crate::{growing, reading, removal};
+use crate::{growing, paths, reading, removal};
 use slee_state::{Entity, Stem};
 use slee_value::{EntityId, Name, NoMemory};
 use std::alloc::Global;
+use std::cmp::Ordering;
 use std::marker::Model;
 
 /// All entities, and the number of the next one.
@@ -179,6 +184,22 @@ impl Tree {
         ensures { IfOk result (λ all. numbers_of all.items ≡ children_under self.now.rows entity.0 relation.now) }
     {
         reading::children_under(alloc, &self.rows, &self.branches, entity, relation)
+    }
+
+    /// Two entities by their paths, which are followed and not listed. One that isn't there has no steps on its path, and comes first.
+    pub fn compare(&self, one: EntityId, other: EntityId) -> Ordering
+        ensures less { is_lt result ≡ path_before (path_at self.now.rows one.0) (path_at self.now.rows other.0) }
+        ensures greater { is_gt result ≡ path_before (path_at self.now.rows other.0) (path_at self.now.rows one.0) }
+    {
+        paths::compare(&self.rows, one, other)
+    }
+
+    /// Passes on that entities rise by number, and that a parent's number is below its child's.
+    pub fn ordered(&self)
+        ensures rises { Rises entity_key self.now.rows }
+        ensures parents { AreParents self.now.rows }
+    {
+        let _next = self.next;
     }
 
     /// The entity has this priority.

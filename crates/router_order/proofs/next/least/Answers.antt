@@ -1,0 +1,6 @@
+-- one attachment more was gone through
+use Rattle.router_order.proofs.NextLemmas.{next_considered}
+use Rattle.router_order.proofs.next.least.Goals as goal
+
+pub links-preserved : goal.links-preserved
+links-preserved c = next_considered c.args.tree.now.rows _ _ _ _ c.args.links.now c.links.link-index _ c.links-test.true c.consider-best.ensures c.links.invariant

@@ -1,0 +1,132 @@
+//! The index from which the next entity is taken. Clauses see it as the list of all attachments, by activity, then by path, and how many more can be listed without memory.
+ghost use Rattle.std.specs.Prelude.{◌≡◌, ◌+◌, ◌<◌, ◌≤◌, [], List, OnOk, IsTrue, option_map};
+ghost use Rattle.slee_state.specs.declared.rows.Event.{Event};
+ghost use Rattle.slee_state.specs.declared.rows.Link.{Link};
+ghost use Rattle.slee_state.specs.declared.rows.Entity.{Entity};
+ghost use Rattle.slee_state.specs.State.{State};
+ghost use Rattle.slee_state.specs.Orders.{put};
+ghost use Rattle.slee_state.specs.Contexts.{with_link, without_link, without_links_on};
+ghost use Rattle.slee_state.specs.Trees.{with_priority};
+ghost use Rattle.slee_state.specs.Next.{first};
+ghost use Rattle.entity_tree.specs.Kept.{is_entity};
+ghost use Rattle.router_order.specs.Asked.{IsAbout};
+ghost use Rattle.router_order.specs.Listed.{Agrees, IsListing, listed_before};
+
+use crate::anew::list_anew;
+use crate::listing::{cut_link, put_link};
+use crate::ready::first_ready;
+use crate::runs::{cut_links_on, links_on};
+use crate::wants::Wants;
+use entity_tree::Tree;
+use event_mask::Masks;
+use slee_state::Link;
+use slee_value::{ActivityId, EntityId, NoMemory};
+use std::alloc::Global;
+use std::marker::Model;
+use std::mem::swap;
+
+/// All attachments, by activity, then by the path of the entity. The spare list is empty but while they are listed anew.
+#[derive(Debug, Drop)]
+pub struct Order {
+    rows: Vec<Link>,
+    spare: Vec<Link>,
+}
+
+impl Model for Order {
+    ghost use Rattle.std.specs.Prelude.{◌≡◌, ◌≤◌, [], min, ◌-◌, vec_capacity, vec_len};
+    ghost use Rattle.router_order.specs.Listed.{IsByActivity, OrderView};
+
+    ghost Value = { OrderView };
+
+    ghost view = { λ o. record { rows = o.rows.items; room = min (vec_capacity o.rows) (vec_capacity o.spare) - vec_len o.rows } };
+
+    ghost invariant = { λ o. IsByActivity o.rows.items × (o.spare.items ≡ []) × (vec_len o.rows ≤ vec_capacity o.spare) };
+}
+
+impl Order {
+    /// No attachments.
+    pub fn new(alloc: Global) -> Self
+        ensures rows { result.rows ≡ [] }
+        ensures agrees { (entities : List Entity) → Agrees entities [] result.rows }
+    {
+        Order {
+            rows: Vec::new(alloc),
+            spare: Vec::new(alloc),
+        }
+    }
+
+    /// Makes room for this many attachments more.
+    pub fn reserve(&mut self, rows: u64) -> Result<(), NoMemory>
+        ensures rows { self.new.rows ≡ self.old.rows }
+        ensures room { OnOk result (rows ≤ self.new.room) }
+        ensures grown { self.old.room ≤ self.new.room }
+    {
+        self.rows.reserve(rows as usize)?;
+        self.spare.reserve(self.rows.len() + rows as usize)?;
+        Ok(())
+    }
+
+    /// Lists the entity among those that are attached to the activity.
+    pub fn attach(&mut self, tree: &Tree, activity: ActivityId, entity: EntityId)
+        requires listing { IsListing tree.now.rows self.old.rows }
+        requires there { IsTrue (is_entity tree.now.rows entity.0) }
+        requires room { 0 < self.old.room }
+        ensures listing { IsListing tree.now.rows self.new.rows }
+        ensures rows { self.new.rows ≡ put (listed_before tree.now.rows) (record { entity = entity; activity = activity }) self.old.rows }
+        ensures agrees { (links : List Link) → Agrees tree.now.rows links self.old.rows → Agrees tree.now.rows (with_link links entity.0 activity.0) self.new.rows }
+        ensures room { self.old.room ≤ self.new.room + 1 }
+    {
+        tree.ordered();
+        put_link(tree, &mut self.rows, Link { entity, activity });
+    }
+
+    /// The entity isn't listed any longer among those that are attached to the activity.
+    pub fn detach(&mut self, tree: &Tree, activity: ActivityId, entity: EntityId)
+        requires { IsListing tree.now.rows self.old.rows }
+        ensures listing { IsListing tree.now.rows self.new.rows }
+        ensures rows { self.new.rows ≡ without_link self.old.rows entity.0 activity.0 }
+        ensures agrees { (links : List Link) → Agrees tree.now.rows links self.old.rows → Agrees tree.now.rows (without_link links entity.0 activity.0) self.new.rows }
+        ensures room { self.old.room ≤ self.new.room }
+    {
+        cut_link(tree, &mut self.rows, &Link { entity, activity });
+    }
+
+    /// No entity is listed for the activity.
+    pub fn forget_activity(&mut self, activity: ActivityId)
+        ensures rows { self.new.rows ≡ without_links_on self.old.rows activity.0 }
+        ensures agrees { (entities : List Entity) (links : List Link) → Agrees entities links self.old.rows → Agrees entities (without_links_on links activity.0) self.new.rows }
+        ensures room { self.old.room ≤ self.new.room }
+    {
+        cut_links_on(&mut self.rows, activity);
+    }
+
+    /// The entity has this priority, in the tree too. All attachments are listed anew, since paths of others go through the entity.
+    pub fn set_priority(&mut self, tree: &mut Tree, entity: EntityId, priority: i8)
+        requires { IsListing tree.old.rows self.old.rows }
+        ensures entities { tree.new.rows ≡ with_priority tree.old.rows entity.0 priority }
+        ensures next { tree.new.next ≡ tree.old.next }
+        ensures tree_room { tree.old.room ≤ tree.new.room }
+        ensures listing { IsListing tree.new.rows self.new.rows }
+        ensures agrees { (links : List Link) → Agrees tree.old.rows links self.old.rows → Agrees tree.new.rows links self.new.rows }
+        ensures room { self.old.room ≤ self.new.room }
+    {
+        tree.set_priority(entity, priority);
+        list_anew(tree, &self.rows, &mut self.spare);
+        swap(&mut self.rows, &mut self.spare);
+        self.spare.clear();
+    }
+
+    /// The entity that receives the activity's head event next. Only attachments to the activity are looked at, up to that of the entity.
+    pub fn next(
+        &self,
+        tree: &Tree,
+        masks: &Masks,
+        activity: ActivityId,
+        wants: &Wants<'_>,
+    ) -> Option<EntityId>
+        ensures { (s : State) (v : Event) → IsAbout s activity.0 v tree.now.rows masks.now.rows wants.now.event.now wants.now.blocks.now wants.now.target wants.now.delivered.now → Agrees tree.now.rows s.links self.now.rows → result ≡ option_map (λ row. row.number) (first s activity.0 v) }
+    {
+        tree.ordered();
+        first_ready(tree, links_on(&self.rows, activity), masks, activity, wants)
+    }
+}

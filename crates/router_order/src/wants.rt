@@ -1,0 +1,61 @@
+//! What is asked of an entity that is to receive an event.
+ghost use Rattle.std.specs.Prelude.{◌≡◌, ◌==◌};
+ghost use Rattle.std.specs.List.{list_any};
+ghost use Rattle.slee_state.specs.Next.{is_for_tree};
+ghost use Rattle.router_order.specs.Asked.{is_wanted};
+
+use entity_tree::Tree;
+use event_mask::Masks;
+use slee_state::Entity;
+use slee_value::{ActivityId, EntityId, Text};
+
+/// The head event of an activity, as far as it decides who receives it.
+#[derive(Debug, Clone, Copy)]
+pub struct Wants<'a> {
+    pub event: &'a Text,
+    /// The blocks that handle the event.
+    pub blocks: &'a [u32],
+    /// The service that alone receives the event, if it has one.
+    pub target: Option<u32>,
+    /// The entities that have received the event.
+    pub delivered: &'a [EntityId],
+}
+
+fn has_block(blocks: &[u32], block: u32) -> bool
+    ensures { result ≡ list_any (λ other. other == block) blocks.now }
+{
+    blocks.iter().any(|other| *other == block)
+}
+
+fn has_entity(entities: &[EntityId], entity: EntityId) -> bool
+    ensures { result ≡ list_any (λ other. other.0 == entity.0) entities.now }
+{
+    entities.iter().any(|other| other.0 == entity.0)
+}
+
+fn is_for_tree(tree: &Tree, target: Option<u32>, row: &Entity) -> bool
+    ensures { result ≡ is_for_tree tree.now.rows target row.now }
+{
+    match target {
+        Some(service) => match tree.service(row) {
+            Some(own) => own == service,
+            None => false,
+        },
+        None => true,
+    }
+}
+
+/// Whether an entity that is attached to the activity may receive the event.
+pub fn is_wanted(
+    tree: &Tree,
+    masks: &Masks,
+    activity: ActivityId,
+    wants: &Wants<'_>,
+    row: &Entity,
+) -> bool
+    ensures { result ≡ is_wanted tree.now.rows masks.now.rows activity.0 wants.now.event.now wants.now.blocks.now wants.now.target wants.now.delivered.now row.now }
+{
+    has_block(wants.blocks, row.block)
+        && (!masks.is_masked(row.number, activity, wants.event)
+            && (!has_entity(wants.delivered, row.number) && is_for_tree(tree, wants.target, row)))
+}
