@@ -1,5 +1,5 @@
 //! The laws.
-ghost use Rattle.std.specs.Prelude.{◌≡◌, ℕ, Some, Ok, slice_get};
+ghost use Rattle.std.specs.Prelude.{◌≡◌, ◌≤◌, ℕ, length, Some, Ok, slice_get};
 ghost use Rattle.slee_value.specs.declared.ids.EntityId.{EntityId};
 ghost use Rattle.script_tree.specs.Tree.{Expression};
 ghost use Rattle.script_types.specs.Codes.{Codes};
@@ -11,19 +11,20 @@ ghost use Rattle.script_types.specs.Programs.{program_of};
 ghost use Rattle.handler_meaning.specs.declared.outcome.Args.{Args};
 ghost use Rattle.handler_meaning.specs.declared.which.Part.{Part};
 ghost use Rattle.handler_meaning.specs.Answers.{Answers};
-ghost use Rattle.handler_meaning.specs.Running.{Setting, State};
+ghost use Rattle.handler_meaning.specs.Running.{Setting, State, key_limit};
 ghost use Rattle.handler_meaning.specs.Terms.{eval};
-ghost use Rattle.handler_meaning.specs.Meaning.{Before, Unchecked, script_in, meaning_in};
-ghost use Rattle.script_safety.specs.Fitting.{Fits, Safe, Is};
+ghost use Rattle.handler_meaning.specs.Meaning.{Before, script_in, meaning_in};
+ghost use Rattle.script_safety.specs.Fitting.{Sound, Safe, Is, IsSound};
 
 /// What a checked expression is made into gives a value of its type wherever variables fit the scope, and leaves them fitting; or
 /// it fails, or wants an answer that isn't there. It never finds a name that isn't known, nor a value of another type.
 pub fn checked_expressions_give_their_type()
-    ensures { (m : Setting) (s : typing.Setting) (scope : Scope) (at : ℕ) (x : Expression) (one : Typed) (st : State) → expression_of s scope at x ≡ Ok one → Fits scope st.variables → Safe (Is one.kind scope) (eval m one.term st) }
+    ensures { (m : Setting) (s : typing.Setting) (scope : Scope) (at : ℕ) (x : Expression) (one : Typed) (st : State) → expression_of s scope at x ≡ Ok one → Sound m scope st → Safe m (Is m one.kind scope) (eval m one.term st) }
 {}
 
-/// A script of a checked deployment means a whole run, or the first key that has no answer: whatever the answers, it meets no
-/// unknown name, no wrong type and no wrong number of arguments, in itself and in the methods that it calls.
+/// A script of a checked deployment means a whole run, with at most 256 effects of at most 32,768 bytes and at most 64 keys, or
+/// the first key that has no answer. Whatever the answers, it meets no unknown name, no wrong type and no wrong number of
+/// arguments, in itself and in the methods that it calls; and where each key has an answer, it comes to its end.
 pub fn checked_scripts_have_a_meaning()
-    ensures { (all : Codes) (program : Program) (answers : Answers) (number : ℕ) (block : BlockProgram) (which : Part) (steps : Steps) (e : EntityId) (arguments : Args) (before : Before) → program_of all ≡ Ok program → slice_get program number ≡ Some block → script_in block which ≡ Some steps → meaning_in answers program block steps e arguments before ≡ Unchecked → ⊥ }
+    ensures { (all : Codes) (program : Program) (answers : Answers) (number : ℕ) (block : BlockProgram) (which : Part) (steps : Steps) (e : EntityId) (arguments : Args) (before : Before) → program_of all ≡ Ok program → slice_get program number ≡ Some block → script_in block which ≡ Some steps → length before.keys ≤ key_limit → IsSound answers before (meaning_in answers program block steps e arguments before) }
 {}
