@@ -12,3 +12,4 @@ pub mod Blocks
 pub mod Scripts
 pub mod Programs
 pub mod Calls
+pub mod Deliveries

@@ -13,6 +13,7 @@ use Rattle.script_types.specs.ElaborationOfStatements.{MethodAt, method_in}
 use Rattle.handler_meaning.specs.Answers.{Answers, is_of}
 use Rattle.handler_meaning.specs.Running.{Setting, Variable, Holds, Child, effect_limit, effect_bytes_limit, key_limit, bytes_of, State, Ending, Gave, Broke, Needs, Stays}
 use Rattle.handler_meaning.specs.Meaning.{Before, Meaning, Done, Need, Unchecked}
+use Rattle.handler_meaning.specs.Delivery.{Delivery, Complete, Wants, NotChecked}
 use Rattle.handler_meaning.specs.Steps.{Flow, Next, Returned, Calling}
 
 -- a variable holds a value of the type that is expected, or stands for a child where one is expected
@@ -82,3 +83,9 @@ abbrev pub IsSound : Answers → Before → Meaning → Type 0
 IsSound answers before (Done report) = (length report.effects ≤ effect_limit) × (bytes_of report.effects ≤ effect_bytes_limit) × (length before.keys + length report.keys ≤ key_limit)
 IsSound answers before (Need key) = answers key ≡ None
 IsSound answers before Unchecked = ⊥
+
+-- What a delivery to an entity comes to: effects within their limits, or the first key that has no answer.
+abbrev pub IsSoundDelivery : Answers → Delivery → Type 0
+IsSoundDelivery answers (Complete delivered) = (length delivered.effects ≤ effect_limit) × (bytes_of delivered.effects ≤ effect_bytes_limit)
+IsSoundDelivery answers (Wants key) = answers key ≡ None
+IsSoundDelivery answers NotChecked = ⊥

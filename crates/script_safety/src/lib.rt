@@ -4,4 +4,7 @@
 
 mod laws;
 
-pub use laws::{checked_expressions_give_their_type, checked_scripts_have_a_meaning};
+pub use laws::{
+    checked_deliveries_have_an_outcome, checked_expressions_give_their_type,
+    checked_scripts_have_a_meaning,
+};
