@@ -29,7 +29,7 @@ use Rattle.handler_meaning.specs.Running.{Setting, State, then_run, give, ticked
 use Rattle.handler_meaning.specs.Observing as read
 use Rattle.handler_meaning.specs.Values.{int, compare}
 use Rattle.handler_meaning.specs.Terms.{or_initial, field_at, node, eval, combine}
-use Rattle.script_safety.specs.Fitting.{Fits, Safe, Is, Keeps}
+use Rattle.script_safety.specs.Fitting.{Safe, Is, Keeps, Sound}
 use Rattle.script_safety.proofs.Runs.{safe_then, safe_tick, ok_same, known_some}
 use Rattle.script_safety.proofs.Places.{some_same, value_safe, child_safe}
 use Rattle.script_safety.proofs.Observed.{now_safe, children_safe, priority_safe, initial_is, fit_is, field_safe}
@@ -37,7 +37,7 @@ use Rattle.script_safety.proofs.Operators.{side_of, combine_safe, compares, comp
 
 -- the term gives a value of the type, wherever variables fit
 abbrev pub Yields : Setting → Scope → Kind → Term → Type 0
-Yields m scope kind term = (st : State) → Fits scope st.variables → Safe (Is kind scope) (node m term st)
+Yields m scope kind term = (st : State) → Sound m scope st → Safe m (Is m kind scope) (node m term st)
 
 -- and the same of what a check finds
 abbrev pub Good : Setting → Scope → Checked Typed → Type 0
@@ -48,8 +48,8 @@ pub good_then : {A : Type 0} (m : Setting) (scope : Scope) (r : Checked A) (g : 
 good_then m scope (Ok x) g h = h x refl
 good_then m scope (Err fault) g h = tt
 
-pub eval_safe : (m : Setting) (scope : Scope) (kind : Kind) (term : Term) (st : State) → Yields m scope kind term → Fits scope st.variables → Safe (Is kind scope) (eval m term st)
-eval_safe m scope kind term st h fits = safe_tick (Is kind scope) (node m term) st (λ left. h (record st { left = left }) fits)
+pub eval_safe : (m : Setting) (scope : Scope) (kind : Kind) (term : Term) (st : State) → Yields m scope kind term → Sound m scope st → Safe m (Is m kind scope) (eval m term st)
+eval_safe m scope kind term st h fits = safe_tick m (Is m kind scope) (node m term) st fits.1 (λ left. h (record st { left = left }) fits)
 
 failure_good : (m : Setting) (scope : Scope) (role : Role) (at : ℕ) → Good m scope (failure_for role at)
 failure_good m scope OnException at = λ st fits. (refl, fits)
@@ -63,7 +63,7 @@ constant_good m s scope at c.True = λ st fits. (refl, fits)
 constant_good m s scope at c.False = λ st fits. (refl, fits)
 constant_good m s scope at c.Nothing = λ st fits. (refl, fits)
 constant_good m s scope at c.Now = good_then m scope (not_on_remove s at) _ (λ _ _ st fits.
-    safe_then (Keeps scope) (Is k.Int scope) (read.now m st) (λ n. give (int n)) (now_safe m scope st fits) (λ n new kept. (refl, kept)))
+    safe_then m (Keeps m scope) (Is m k.Int scope) (read.now m st) (λ n. give (int n)) (now_safe m scope st fits) (λ n new kept. (refl, kept)))
 constant_good m s scope at c.Activity = good_then m scope (not_on_remove s at) _ (λ _ _ st fits. (refl, fits))
 constant_good m s scope at c.Failure = failure_good m scope s.role at
 
@@ -96,15 +96,15 @@ pub leaf_good : (m : Setting) (s : typing.Setting) (scope : Scope) (at : ℕ) (l
 leaf_good m s scope at (l.Int n) = λ st fits. (refl, fits)
 leaf_good m s scope at (l.Text text) = λ st fits. (refl, fits)
 leaf_good m s scope at (l.Constant word) = constant_good m s scope at word
-leaf_good m s scope at (l.Variable name) = good_then m scope (value_named scope name at) _ (λ x e st fits. value_safe scope name at x st e fits)
+leaf_good m s scope at (l.Variable name) = good_then m scope (value_named scope name at) _ (λ x e st fits. value_safe m scope name at x st e fits)
 leaf_good m s scope at (l.Field name) = good_then m scope (known (at + 2) (kind_in name s.block.fields)) _ (λ kind e st fits. field_safe m name kind scope st fits)
 leaf_good m s scope at (l.EventField name) = event_good m scope s.role at name
 leaf_good m s scope at (l.Table name) = good_then m scope (known (at + 2) (table_activity s.codes name)) _ (λ x e. good_then m scope (not_on_remove s at) _ (λ _ _. table_yields m scope (position (λ x. bytes_eq x.name name) s.codes.tables) x (known_some (at + 2) (table_activity s.codes name) x e)))
 leaf_good m s scope at (l.Count name) = good_then m scope (known (at + 2) (relation_named name s.block)) _ (λ _ _. good_then m scope (not_on_remove s at) _ (λ _ _ st fits.
-    safe_then (Keeps scope) (Is k.Int scope) (read.children m name st) (λ refs. give (int (pos (length refs)))) (children_safe m name scope st fits) (λ refs new kept. (refl, kept))))
+    safe_then m (Keeps m scope) (Is m k.Int scope) (read.children m name st) (λ refs. give (int (pos (length refs)))) (children_safe m name scope st fits) (λ refs new kept. (refl, kept))))
 leaf_good m s scope at (l.Priority name) = good_then m scope (child_named scope name (at + 2)) _ (λ x e. good_then m scope (not_on_remove s at) _ (λ _ _ st fits.
-    safe_then (Keeps scope) (Is k.Int scope) (read.child m x.place st) (λ e st. then_run (read.priority m e st) (λ n. give (int n))) (child_safe m scope name (at + 2) x st e fits)
-    (λ e new kept. safe_then (Keeps scope) (Is k.Int scope) (read.priority m e new) (λ n. give (int n)) (priority_safe m e scope new kept) (λ n newer kept. (refl, kept)))))
+    safe_then m (Keeps m scope) (Is m k.Int scope) (read.child m x.place st) (λ e st. then_run (read.priority m e st) (λ n. give (int n))) (child_safe m scope name (at + 2) x st e fits)
+    (λ e new kept. safe_then m (Keeps m scope) (Is m k.Int scope) (read.priority m e new) (λ n. give (int n)) (priority_safe m e scope new kept) (λ n newer kept. (refl, kept)))))
 
 -- `none` alone is an activity where nothing is asked
 pub nothing_is_activity : (s : typing.Setting) (scope : Scope) (at : ℕ) (x : Expression) (one : Typed) → expression_of s scope at x ≡ Ok one → is_nothing x ≡ true → one.kind ≡ k.Activity
@@ -146,10 +146,10 @@ pub served : (m : Setting) (s : typing.Setting) (scope : Scope) (at : ℕ) (x : 
 served m s scope at x one asked e yields h = served_by (is_nothing x) m scope one.kind asked one.term (nothing_is_activity s scope at x one e) yields h
 
 pub combine_yields : (m : Setting) (scope : Scope) (joint : Joint) (x y : Term) → Yields m scope (side_of joint) x → Yields m scope (side_of joint) y → Yields m scope (side_of joint) (Combine joint x y)
-combine_yields m scope joint x y one other st fits = safe_then (Is (side_of joint) scope) (Is (side_of joint) scope) (ticked (node m x) st) (λ p. combine joint p (ticked (node m y))) (eval_safe m scope (side_of joint) x st one fits)
-    (λ p new r. combine_safe joint p (ticked (node m y)) scope new r.0 r.1 (eval_safe m scope (side_of joint) y new other r.1))
+combine_yields m scope joint x y one other st fits = safe_then m (Is m (side_of joint) scope) (Is m (side_of joint) scope) (ticked (node m x) st) (λ p. combine joint p (ticked (node m y))) (eval_safe m scope (side_of joint) x st one fits)
+    (λ p new r. combine_safe m joint p (ticked (node m y)) scope new r.0 r.1 (eval_safe m scope (side_of joint) y new other r.1))
 
 pub compare_yields : (m : Setting) (scope : Scope) (test : Test) (x y : Term) → Yields m scope (compares test) x → Yields m scope (compares test) y → Yields m scope k.Bool (Compare test x y)
-compare_yields m scope test x y one other st fits = safe_then (Is (compares test) scope) (Is k.Bool scope) (ticked (node m x) st) (λ p st. then_run (ticked (node m y) st) (λ q. compare test p q)) (eval_safe m scope (compares test) x st one fits)
-    (λ p new r. safe_then (Is (compares test) scope) (Is k.Bool scope) (ticked (node m y) new) (compare test p) (eval_safe m scope (compares test) y new other r.1)
-    (λ q newer z. compare_safe test p q scope newer r.0 z.0 z.1))
+compare_yields m scope test x y one other st fits = safe_then m (Is m (compares test) scope) (Is m k.Bool scope) (ticked (node m x) st) (λ p st. then_run (ticked (node m y) st) (λ q. compare test p q)) (eval_safe m scope (compares test) x st one fits)
+    (λ p new r. safe_then m (Is m (compares test) scope) (Is m k.Bool scope) (ticked (node m y) new) (compare test p) (eval_safe m scope (compares test) y new other r.1)
+    (λ q newer z. compare_safe m test p q scope newer r.0 z.0 z.1))

@@ -12,3 +12,8 @@ pub mod Blocks
 pub mod Scripts
 pub mod Programs
 pub mod Calls
+pub mod Deliveries
+pub mod Likeness
+pub mod LikeTerms
+pub mod LikeSteps
+pub mod LikeMeaning

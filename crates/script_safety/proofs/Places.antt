@@ -12,7 +12,7 @@ use Rattle.handler_meaning.specs.declared.outcome.FailKind.TheVariants as f
 use Rattle.handler_meaning.specs.Overlay.{is_removed}
 use Rattle.handler_meaning.specs.Running.{Setting, Variable, Holds, Child, State, Run, then_run, give, found, tested, effects_of}
 use Rattle.handler_meaning.specs.Observing.{only_value, only_child, value, child}
-use Rattle.script_safety.specs.Fitting.{is_as_expected, Fits, Safe, Is, Keeps}
+use Rattle.script_safety.specs.Fitting.{is_as_expected, Fits, Safe, Is, Keeps, Sound}
 use Rattle.script_safety.proofs.Runs.{safe_then, safe_tested, bind_ok, ok_same, known_some}
 
 pub some_same : {A : Type 0} (x y : A) → Some x ≡ Some y → x ≡ y
@@ -59,27 +59,27 @@ child_place scope name at x h =
     let q = child_is at a.0.place a.0.holds x a.2 in
     (p.0, ap (slice_get scope) q.0 ∙ p.1, p.2 ∙ q.1)
 
-only_value_safe : (kind : Kind) (scope : Scope) (x : Variable) (st : State) → is_as_expected (expected.Value kind) x ≡ true → Fits scope st.variables → Safe (Is kind scope) (only_value x st)
-only_value_safe kind scope (Holds x) st h fits = (h, fits)
-only_value_safe kind scope (Child e) st h fits = cc
+only_value_safe : (given : Setting) (kind : Kind) (scope : Scope) (x : Variable) (st : State) → is_as_expected (expected.Value kind) x ≡ true → Sound given scope st → Safe given (Is given kind scope) (only_value x st)
+only_value_safe given kind scope (Holds x) st h fits = (h, fits)
+only_value_safe given kind scope (Child e) st h fits = cc
 
-only_child_safe : (block : ℕ) (scope : Scope) (x : Variable) (st : State) → is_as_expected (expected.Child block) x ≡ true → Fits scope st.variables → Safe (Keeps scope) (only_child x st)
-only_child_safe block scope (Child e) st h fits = fits
-only_child_safe block scope (Holds x) st h fits = cc
+only_child_safe : (given : Setting) (block : ℕ) (scope : Scope) (x : Variable) (st : State) → is_as_expected (expected.Child block) x ≡ true → Sound given scope st → Safe given (Keeps given scope) (only_child x st)
+only_child_safe given block scope (Child e) st h fits = fits
+only_child_safe given block scope (Holds x) st h fits = cc
 
 -- the value of a variable that the check found
-pub value_safe : (scope : Scope) (name : Bytes) (at : ℕ) (x : ValueAt) (st : State) → value_named scope name at ≡ Ok x → Fits scope st.variables → Safe (Is x.kind scope) (value x.place st)
-value_safe scope name at x st h fits =
+pub value_safe : (given : Setting) (scope : Scope) (name : Bytes) (at : ℕ) (x : ValueAt) (st : State) → value_named scope name at ≡ Ok x → Sound given scope st → Safe given (Is given x.kind scope) (value x.place st)
+value_safe given scope name at x st h fits =
     let p = value_place scope name at x h in
-    let q = place_fits scope st.variables x.place p.0 fits p.1 in
-    subst (λ o. Safe (Is x.kind scope) (then_run (found o st) only_value)) (sym q.1) (only_value_safe x.kind scope q.0 st (ap (λ w. is_as_expected w q.0) (sym p.2) ∙ q.2) fits)
+    let q = place_fits scope st.variables x.place p.0 fits.0 p.1 in
+    subst (λ o. Safe given (Is given x.kind scope) (then_run (found o st) only_value)) (sym q.1) (only_value_safe given x.kind scope q.0 st (ap (λ w. is_as_expected w q.0) (sym p.2) ∙ q.2) fits)
 
 -- the child that the check found; it may be gone
-pub child_safe : (m : Setting) (scope : Scope) (name : Bytes) (at : ℕ) (x : ChildAt) (st : State) → child_named scope name at ≡ Ok x → Fits scope st.variables → Safe (Keeps scope) (child m x.place st)
+pub child_safe : (m : Setting) (scope : Scope) (name : Bytes) (at : ℕ) (x : ChildAt) (st : State) → child_named scope name at ≡ Ok x → Sound m scope st → Safe m (Keeps m scope) (child m x.place st)
 child_safe m scope name at x st h fits =
     let p = child_place scope name at x h in
-    let q = place_fits scope st.variables x.place p.0 fits p.1 in
+    let q = place_fits scope st.variables x.place p.0 fits.0 p.1 in
     let rest : Variable → Run Ref = λ y st. then_run (only_child y st) (λ e st. then_run (effects_of m st) (λ effects st. then_run (tested f.Gone (not (is_removed e effects)) st) (λ _. give e))) in
-    subst (λ o. Safe (Keeps scope) (then_run (found o st) rest)) (sym q.1)
-    (safe_then (Keeps scope) (Keeps scope) (only_child q.0 st) _ (only_child_safe x.block scope q.0 st (ap (λ w. is_as_expected w q.0) (sym p.2) ∙ q.2) fits)
-    (λ e new kept. safe_tested (Keeps scope) f.Gone (not (is_removed e (m.effects ++ new.effects))) (give e) new kept))
+    subst (λ o. Safe m (Keeps m scope) (then_run (found o st) rest)) (sym q.1)
+    (safe_then m (Keeps m scope) (Keeps m scope) (only_child q.0 st) _ (only_child_safe m x.block scope q.0 st (ap (λ w. is_as_expected w q.0) (sym p.2) ∙ q.2) fits)
+    (λ e new kept. safe_tested m (Keeps m scope) f.Gone (not (is_removed e (m.effects ++ new.effects))) (give e) new kept.1 kept))

@@ -2,7 +2,6 @@
 use Rattle.std.proofs.Common.{◌≡◌, ◌+◌, true, false, Bool, ℕ, zero, suc, List, [], ◌∷◌, map, Option, Some, None, Ok, Err, refl, sym, ap, ◌∙◌, subst}
 use native.Mathlib.Omega.{arith}
 use Rattle.std.specs.Prelude.{slice_get, cond, bytes_eq, option_and_then}
-use Rattle.slee_value.specs.declared.kind.Kind.{Kind}
 use Rattle.slee_effect.specs.declared.value.Val.{Val}
 use Rattle.script_tree.specs.Tree.{Bytes}
 use Rattle.script_types.specs.declared.codes.FieldCode.{FieldCode}
@@ -12,20 +11,15 @@ use Rattle.script_types.specs.Typing.{Task, method_task}
 use Rattle.script_types.specs.TypingExpressions.{Role, InMethod}
 use Rattle.script_types.specs.TypingExpressions as typing
 use Rattle.script_types.specs.TypingResult.{Checked}
-use Rattle.script_types.specs.Scopes.{Scope, parameters_in_scope, with_value}
-use Rattle.script_types.specs.Scopes as expected
+use Rattle.script_types.specs.Scopes.{Scope, parameters_in_scope}
 use Rattle.script_types.specs.ElaborationOfStatements.{MadeAll, MethodAt, method_from, statements_made}
 use Rattle.script_types.specs.Program.{Steps, MethodProgram, BlockProgram, Program}
 use Rattle.script_types.specs.Programs.{Built, placed, steps_of, place_of, handlers_of, methods_of, callback_of, block_of, blocks_of, program_of}
 use Rattle.script_types.specs.Programs as built
-use Rattle.handler_meaning.specs.Answers.{initial}
 use Rattle.handler_meaning.specs.Running.{Setting, Holds, State, found}
-use Rattle.handler_meaning.specs.Steps.{Flow, Next, Returned, Calling, act_all}
-use Rattle.handler_meaning.specs.Calls.{keep_result}
-use Rattle.script_safety.specs.Fitting.{Fits, Safe, Keeps, Flows, result_in, AreOf, SafeCalls}
+use Rattle.handler_meaning.specs.Steps.{Calling, act_all}
+use Rattle.script_safety.specs.Fitting.{Fits, Safe, Flows, result_in, AreOf, SafeCalls, Sound}
 use Rattle.script_safety.proofs.Places.{some_same}
-use Rattle.script_safety.proofs.Observed.{initial_is}
-use Rattle.script_safety.proofs.Doing.{declare_safe}
 use Rattle.script_safety.proofs.Scripts.{DoesAll, GoodSteps, statements_good}
 
 pub built_ok : {A B : Type 0} (r : Built A) (g : A → Built B) (y : B) → (built.◌>>=◌ r g) ≡ Ok y → (x : A) × (r ≡ Ok x) × (g x ≡ Ok y)
@@ -52,11 +46,11 @@ is_made all block place task steps h =
     record { block = block; made = p.0; found = p.1; same = p.2 }
 
 -- steps that a check found are safe
-pub made_safe : (m : Setting) (call : Calling) (all : Codes) (task : Task) (steps : Steps) (st : State) → IsMade all task steps → ((s : typing.Setting) → s.codes ≡ all → SafeCalls s call) → Fits task.scope st.variables → (behind : Scope) × Safe (Flows (result_in task.role) behind) (act_all m call steps st)
+pub made_safe : (m : Setting) (call : Calling) (all : Codes) (task : Task) (steps : Steps) (st : State) → IsMade all task steps → ((s : typing.Setting) → s.codes ≡ all → SafeCalls m s call) → Sound m task.scope st → (behind : Scope) × Safe m (Flows m (result_in task.role) behind) (act_all m call steps st)
 made_safe m call all task steps st p safe fits =
     let s : typing.Setting = record { codes = all; block = p.block; role = task.role } in
     let good : DoesAll m call (result_in task.role) task.scope p.made.scope p.made.steps = subst (GoodSteps m call (result_in task.role) task.scope) p.found (statements_good m call s (safe s refl) task.scope 0 task.script) in
-    (p.made.scope, subst (λ z. Safe (Flows (result_in task.role) p.made.scope) (act_all m call z st)) p.same (good st fits))
+    (p.made.scope, subst (λ z. Safe m (Flows m (result_in task.role) p.made.scope) (act_all m call z st)) p.same (good st fits))
 
 -- a method that a check finds has its program in its place
 pub record MethodIs (all : Codes) (found : MethodAt) (methods : List MethodProgram) (first : ℕ) : Type 0 where
@@ -116,7 +110,3 @@ arguments_fit [] [] h = tt
 arguments_fit [] (x ∷ xs) h = absurd h
 arguments_fit (p ∷ ps) [] h = absurd h
 arguments_fit (p ∷ ps) (x ∷ xs) h = (h.0, arguments_fit ps xs h.1)
-
-pub result_safe : (kind : Kind) (behind scope : Scope) (local : Bytes) (flow : Flow) (st new : State) → Flows (Some kind) behind flow new → Fits scope st.variables → Safe (Keeps (with_value scope local kind)) (keep_result true flow (Some kind) (record new { variables = st.variables }))
-result_safe kind behind scope local Next st new h fits = declare_safe scope (record { name = local; holds = expected.Value kind }) (Holds (initial kind)) (record new { variables = st.variables }) (initial_is kind) fits
-result_safe kind behind scope local (Returned x) st new h fits = declare_safe scope (record { name = local; holds = expected.Value kind }) (Holds x) (record new { variables = st.variables }) h fits

@@ -28,7 +28,7 @@ use Rattle.handler_meaning.specs.Running.{Setting, State, Run, then_run, give, b
 use Rattle.handler_meaning.specs.Observing as read
 use Rattle.handler_meaning.specs.Values.{flag}
 use Rattle.handler_meaning.specs.Terms.{is_active, is_masked, looked_up, in_row, of_row, row, ask, node}
-use Rattle.script_safety.specs.Fitting.{Fits, Safe, Is, Keeps}
+use Rattle.script_safety.specs.Fitting.{Safe, Is, Keeps, Sound}
 use Rattle.script_safety.proofs.Runs.{safe_then, bind_ok, ok_same, with_int_safe, with_text_safe, with_flag_safe, with_activity_safe, with_timer_safe}
 use Rattle.script_safety.proofs.Observed.{look_safe, attribute_safe, state_safe, used_safe, attached_safe, masks_safe, named_safe, timer_safe}
 use Rattle.script_safety.proofs.Operators.{number_safe, text_of_int_safe, text_of_bool_safe, activity_is}
@@ -62,51 +62,51 @@ tells g.Lookup = k.Activity
 tells (g.Profile table name kind) = kind
 tells _ = k.Bool
 
-masked_safe : (event : List ℕ) (o : Option (List (List ℕ))) (scope : Scope) (st : State) → Fits scope st.variables → Safe (Is k.Bool scope) (is_masked event o st)
-masked_safe event None scope st fits = tt
-masked_safe event (Some names) scope st fits = (refl, fits)
+masked_safe : (given : Setting) (event : List ℕ) (o : Option (List (List ℕ))) (scope : Scope) (st : State) → Sound given scope st → Safe given (Is given k.Bool scope) (is_masked event o st)
+masked_safe given event None scope st fits = fits.1
+masked_safe given event (Some names) scope st fits = (refl, fits)
 
-looked_up_safe : (o : Option Ref) (scope : Scope) (st : State) → Fits scope st.variables → Safe (Is k.Activity scope) (looked_up o st)
-looked_up_safe None scope st fits = tt
-looked_up_safe (Some a) scope st fits = (activity_is a, fits)
+looked_up_safe : (given : Setting) (o : Option Ref) (scope : Scope) (st : State) → Sound given scope st → Safe given (Is given k.Activity scope) (looked_up o st)
+looked_up_safe given None scope st fits = fits.1
+looked_up_safe given (Some a) scope st fits = (activity_is a, fits)
 
-in_row_by : (b : Bool) (kind : Kind) (x : Val) (scope : Scope) (st : State) → is_of kind x ≡ b → Fits scope st.variables → (let good : Run Val = give x in let bad : Run Val = break fail.NoRow in Safe (Is kind scope) (cond b good bad st))
-in_row_by true kind x scope st h fits = (h, fits)
-in_row_by false kind x scope st h fits = tt
+in_row_by : (given : Setting) (b : Bool) (kind : Kind) (x : Val) (scope : Scope) (st : State) → is_of kind x ≡ b → Sound given scope st → (let good : Run Val = give x in let bad : Run Val = break fail.NoRow in Safe given (Is given kind scope) (cond b good bad st))
+in_row_by given true kind x scope st h fits = (h, fits)
+in_row_by given false kind x scope st h fits = fits.1
 
-in_row_safe : (kind : Kind) (o : Option Val) (scope : Scope) (st : State) → Fits scope st.variables → Safe (Is kind scope) (in_row kind o st)
-in_row_safe kind None scope st fits = tt
-in_row_safe kind (Some x) scope st fits = in_row_by (is_of kind x) kind x scope st refl fits
+in_row_safe : (given : Setting) (kind : Kind) (o : Option Val) (scope : Scope) (st : State) → Sound given scope st → Safe given (Is given kind scope) (in_row kind o st)
+in_row_safe given kind None scope st fits = fits.1
+in_row_safe given kind (Some x) scope st fits = in_row_by given (is_of kind x) kind x scope st refl fits
 
-of_row_safe : (name : List ℕ) (kind : Kind) (o : Option (List (List ℕ × Value))) (scope : Scope) (st : State) → Fits scope st.variables → Safe (Is kind scope) (of_row name kind o st)
-of_row_safe name kind None scope st fits = tt
-of_row_safe name kind (Some row) scope st fits = in_row_safe kind _ scope st fits
+of_row_safe : (given : Setting) (name : List ℕ) (kind : Kind) (o : Option (List (List ℕ × Value))) (scope : Scope) (st : State) → Sound given scope st → Safe given (Is given kind scope) (of_row name kind o st)
+of_row_safe given name kind None scope st fits = fits.1
+of_row_safe given name kind (Some row) scope st fits = in_row_safe given kind _ scope st fits
 
-row_safe : (m : Setting) (table name : List ℕ) (scope : Scope) (st : State) → Fits scope st.variables → Safe (Keeps scope) (row m table name st)
-row_safe m table name scope st fits = safe_then (Keeps scope) (Keeps scope) (look m (Some (keys.Profile table name)) st) (λ seen. give (row_in seen)) (look_safe m (Some (keys.Profile table name)) scope st fits) (λ seen new kept. kept)
+row_safe : (m : Setting) (table name : List ℕ) (scope : Scope) (st : State) → Sound m scope st → Safe m (Keeps m scope) (row m table name st)
+row_safe m table name scope st fits = safe_then m (Keeps m scope) (Keeps m scope) (look m (Some (keys.Profile table name)) st) (λ seen. give (row_in seen)) (look_safe m (Some (keys.Profile table name)) scope st fits) (λ seen new kept. kept)
 
 -- a question to a value of its type has an answer of its type
-pub ask_safe : (m : Setting) (question : Question) (x : Val) (scope : Scope) (st : State) → is_of (asks question) x ≡ true → Fits scope st.variables → Safe (Is (tells question) scope) (ask m question x st)
-ask_safe m g.Negative x scope st h fits = with_int_safe (Is k.Int scope) x _ st h (λ n. number_safe (neg_ℤ n) scope st fits)
-ask_safe m g.Not x scope st h fits = with_flag_safe (Is k.Bool scope) x _ st h (λ b. (refl, fits))
-ask_safe m g.TextOfInt x scope st h fits = text_of_int_safe x scope st h fits
-ask_safe m g.TextOfBool x scope st h fits = text_of_bool_safe x scope st h fits
-ask_safe m g.Len x scope st h fits = with_text_safe (Is k.Int scope) x _ st h (λ t. (refl, fits))
-ask_safe m g.Active x scope st h fits = with_activity_safe (Is k.Bool scope) x _ st h (λ a. safe_then (Keeps scope) (Is k.Bool scope) (read.state_of m a st) (λ seen. give (flag (is_active seen))) (state_safe m a scope st fits) (λ seen new kept. (refl, kept)))
-ask_safe m g.Attached x scope st h fits = with_activity_safe (Is k.Bool scope) x _ st h (λ a. safe_then (Keeps scope) (Is k.Bool scope) (read.used m a st) (λ _ st. then_run (read.attached m a st) (λ b. give (flag b))) (used_safe m a scope st fits)
-    (λ _ new kept. safe_then (Keeps scope) (Is k.Bool scope) (read.attached m a new) (λ b. give (flag b)) (attached_safe m a scope new kept) (λ b newer k. (refl, k))))
-ask_safe m (g.Masked event) x scope st h fits = with_activity_safe (Is k.Bool scope) x _ st h (λ a. safe_then (Keeps scope) (Is k.Bool scope) (read.used m a st) (λ _ st. then_run (read.masks m a st) (is_masked event)) (used_safe m a scope st fits)
-    (λ _ new kept. safe_then (Keeps scope) (Is k.Bool scope) (read.masks m a new) (is_masked event) (masks_safe m a scope new kept) (λ names newer k. masked_safe event names scope newer k)))
-ask_safe m (g.Attribute key kind) x scope st h fits = with_activity_safe (Is kind scope) x _ st h (λ a. safe_then (Keeps scope) (Is kind scope) (read.used m a st) (λ _. read.attribute m key kind a) (used_safe m a scope st fits)
+pub ask_safe : (m : Setting) (question : Question) (x : Val) (scope : Scope) (st : State) → is_of (asks question) x ≡ true → Sound m scope st → Safe m (Is m (tells question) scope) (ask m question x st)
+ask_safe m g.Negative x scope st h fits = with_int_safe m (Is m k.Int scope) x _ st h (λ n. number_safe m (neg_ℤ n) scope st fits)
+ask_safe m g.Not x scope st h fits = with_flag_safe m (Is m k.Bool scope) x _ st h (λ b. (refl, fits))
+ask_safe m g.TextOfInt x scope st h fits = text_of_int_safe m x scope st h fits
+ask_safe m g.TextOfBool x scope st h fits = text_of_bool_safe m x scope st h fits
+ask_safe m g.Len x scope st h fits = with_text_safe m (Is m k.Int scope) x _ st h (λ t. (refl, fits))
+ask_safe m g.Active x scope st h fits = with_activity_safe m (Is m k.Bool scope) x _ st h (λ a. safe_then m (Keeps m scope) (Is m k.Bool scope) (read.state_of m a st) (λ seen. give (flag (is_active seen))) (state_safe m a scope st fits) (λ seen new kept. (refl, kept)))
+ask_safe m g.Attached x scope st h fits = with_activity_safe m (Is m k.Bool scope) x _ st h (λ a. safe_then m (Keeps m scope) (Is m k.Bool scope) (read.used m a st) (λ _ st. then_run (read.attached m a st) (λ b. give (flag b))) (used_safe m a scope st fits)
+    (λ _ new kept. safe_then m (Keeps m scope) (Is m k.Bool scope) (read.attached m a new) (λ b. give (flag b)) (attached_safe m a scope new kept) (λ b newer k. (refl, k))))
+ask_safe m (g.Masked event) x scope st h fits = with_activity_safe m (Is m k.Bool scope) x _ st h (λ a. safe_then m (Keeps m scope) (Is m k.Bool scope) (read.used m a st) (λ _ st. then_run (read.masks m a st) (is_masked event)) (used_safe m a scope st fits)
+    (λ _ new kept. safe_then m (Keeps m scope) (Is m k.Bool scope) (read.masks m a new) (is_masked event) (masks_safe m a scope new kept) (λ names newer k. masked_safe m event names scope newer k)))
+ask_safe m (g.Attribute key kind) x scope st h fits = with_activity_safe m (Is m kind scope) x _ st h (λ a. safe_then m (Keeps m scope) (Is m kind scope) (read.used m a st) (λ _. read.attribute m key kind a) (used_safe m a scope st fits)
     (λ _ new kept. attribute_safe m key kind a scope new kept))
-ask_safe m g.Bound x scope st h fits = with_text_safe (Is k.Bool scope) x _ st h (λ name. safe_then (Keeps scope) (Is k.Bool scope) (read.named m name st) (λ a. give (flag (is_some a))) (named_safe m name scope st fits) (λ a new kept. (refl, kept)))
-ask_safe m g.Lookup x scope st h fits = with_text_safe (Is k.Activity scope) x _ st h (λ name. safe_then (Keeps scope) (Is k.Activity scope) (read.named m name st) looked_up (named_safe m name scope st fits) (λ a new kept. looked_up_safe a scope new kept))
-ask_safe m (g.Profile table name kind) x scope st h fits = with_text_safe (Is kind scope) x _ st h (λ key. safe_then (Keeps scope) (Is kind scope) (row m table key st) (of_row name kind) (row_safe m table key scope st fits) (λ found new kept. of_row_safe name kind found scope new kept))
-ask_safe m (g.HasProfile table) x scope st h fits = with_text_safe (Is k.Bool scope) x _ st h (λ key. safe_then (Keeps scope) (Is k.Bool scope) (row m table key st) (λ found. give (flag (is_some found))) (row_safe m table key scope st fits) (λ found new kept. (refl, kept)))
-ask_safe m g.HasTimer x scope st h fits = with_timer_safe (Is k.Bool scope) x _ st h (λ t. safe_then (Keeps scope) (Is k.Bool scope) (read.timer m t st) (λ a. give (flag (is_some a))) (timer_safe m t scope st fits) (λ a new kept. (refl, kept)))
+ask_safe m g.Bound x scope st h fits = with_text_safe m (Is m k.Bool scope) x _ st h (λ name. safe_then m (Keeps m scope) (Is m k.Bool scope) (read.named m name st) (λ a. give (flag (is_some a))) (named_safe m name scope st fits) (λ a new kept. (refl, kept)))
+ask_safe m g.Lookup x scope st h fits = with_text_safe m (Is m k.Activity scope) x _ st h (λ name. safe_then m (Keeps m scope) (Is m k.Activity scope) (read.named m name st) looked_up (named_safe m name scope st fits) (λ a new kept. looked_up_safe m a scope new kept))
+ask_safe m (g.Profile table name kind) x scope st h fits = with_text_safe m (Is m kind scope) x _ st h (λ key. safe_then m (Keeps m scope) (Is m kind scope) (row m table key st) (of_row name kind) (row_safe m table key scope st fits) (λ found new kept. of_row_safe m name kind found scope new kept))
+ask_safe m (g.HasProfile table) x scope st h fits = with_text_safe m (Is m k.Bool scope) x _ st h (λ key. safe_then m (Keeps m scope) (Is m k.Bool scope) (row m table key st) (λ found. give (flag (is_some found))) (row_safe m table key scope st fits) (λ found new kept. (refl, kept)))
+ask_safe m g.HasTimer x scope st h fits = with_timer_safe m (Is m k.Bool scope) x _ st h (λ t. safe_then m (Keeps m scope) (Is m k.Bool scope) (read.timer m t st) (λ a. give (flag (is_some a))) (timer_safe m t scope st fits) (λ a new kept. (refl, kept)))
 
 pub ask_yields : (m : Setting) (scope : Scope) (question : Question) (x : Term) → Yields m scope (asks question) x → Yields m scope (tells question) (Ask question x)
-ask_yields m scope question x one st fits = safe_then (Is (asks question) scope) (Is (tells question) scope) (ticked (node m x) st) (ask m question) (eval_safe m scope (asks question) x st one fits) (λ p new r. ask_safe m question p scope new r.0 r.1)
+ask_yields m scope question x one st fits = safe_then m (Is m (asks question) scope) (Is m (tells question) scope) (ticked (node m x) st) (ask m question) (eval_safe m scope (asks question) x st one fits) (λ p new r. ask_safe m question p scope new r.0 r.1)
 
 -- A function that a check found: its operand serves where its type is asked for, and its answer is of the type that is given.
 pub record QueryFits (x : Expression) (found : Kind) (query : Query) (asking : Asking) : Type 0 where

@@ -11,55 +11,55 @@ use Rattle.script_types.specs.TypingResult.{Checked}
 use Rattle.script_types.specs.TypingResult as checked
 use Rattle.handler_meaning.specs.declared.outcome.FailKind.{FailKind}
 use Rattle.handler_meaning.specs.Answers.{is_of}
-use Rattle.handler_meaning.specs.Running.{State, Ending, Gave, Broke, Needs, Stays, Run, then_run, tested, tick_at, ticked}
+use Rattle.handler_meaning.specs.Running.{Setting, State, Ending, Gave, Broke, Needs, Stays, Run, then_run, tested, tick_at, ticked}
 use Rattle.handler_meaning.specs.Values.{with_int, with_text, with_flag, with_activity, with_timer}
-use Rattle.script_safety.specs.Fitting.{Safe}
+use Rattle.script_safety.specs.Fitting.{Safe, IsWithin}
 
-pub safe_then : {A B : Type 0} (P : A → State → Type 0) (Q : B → State → Type 0) (m : Ending A) (g : A → Run B) → Safe P m → ((x : A) (st : State) → P x st → Safe Q (g x st)) → Safe Q (then_run m g)
-safe_then P Q (Gave x st) g h go = go x st h
-safe_then P Q (Broke kind text st) g h go = tt
-safe_then P Q (Needs key) g h go = tt
-safe_then P Q Stays g h go = absurd h
+pub safe_then : {A B : Type 0} (given : Setting) (P : A → State → Type 0) (Q : B → State → Type 0) (m : Ending A) (g : A → Run B) → Safe given P m → ((x : A) (st : State) → P x st → Safe given Q (g x st)) → Safe given Q (then_run m g)
+safe_then given P Q (Gave x st) g h go = go x st h
+safe_then given P Q (Broke kind text st) g h go = h
+safe_then given P Q (Needs key) g h go = h
+safe_then given P Q Stays g h go = absurd h
 
-pub safe_cond : {A : Type 0} (Q : A → State → Type 0) (b : Bool) (x y : Ending A) → Safe Q x → Safe Q y → Safe Q (cond b x y)
-safe_cond Q true x y h g = h
-safe_cond Q false x y h g = g
+pub safe_cond : {A : Type 0} (given : Setting) (Q : A → State → Type 0) (b : Bool) (x y : Ending A) → Safe given Q x → Safe given Q y → Safe given Q (cond b x y)
+safe_cond given Q true x y h g = h
+safe_cond given Q false x y h g = g
 
-safe_tick_at : {A : Type 0} (Q : A → State → Type 0) (m : Run A) (n : ℕ) (st : State) → ((left : ℕ) → Safe Q (m (record st { left = left }))) → Safe Q (then_run (tick_at n st) (λ _. m))
-safe_tick_at Q m zero st h = tt
-safe_tick_at Q m (suc n) st h = h n
+safe_tick_at : {A : Type 0} (given : Setting) (Q : A → State → Type 0) (m : Run A) (n : ℕ) (st : State) → IsWithin given st → ((left : ℕ) → Safe given Q (m (record st { left = left }))) → Safe given Q (then_run (tick_at n st) (λ _. m))
+safe_tick_at given Q m zero st within h = within
+safe_tick_at given Q m (suc n) st within h = h n
 
 -- a unit is spent, or none is left
-pub safe_tick : {A : Type 0} (Q : A → State → Type 0) (m : Run A) (st : State) → ((left : ℕ) → Safe Q (m (record st { left = left }))) → Safe Q (ticked m st)
-safe_tick Q m st h = safe_tick_at Q m st.left st h
+pub safe_tick : {A : Type 0} (given : Setting) (Q : A → State → Type 0) (m : Run A) (st : State) → IsWithin given st → ((left : ℕ) → Safe given Q (m (record st { left = left }))) → Safe given Q (ticked m st)
+safe_tick given Q m st within h = safe_tick_at given Q m st.left st within h
 
 -- a test of a run, behind which nothing has changed
-pub safe_tested : {A : Type 0} (Q : A → State → Type 0) (kind : FailKind) (b : Bool) (m : Run A) (st : State) → Safe Q (m st) → Safe Q (then_run (tested kind b st) (λ _. m))
-safe_tested Q kind true m st h = h
-safe_tested Q kind false m st h = tt
+pub safe_tested : {A : Type 0} (given : Setting) (Q : A → State → Type 0) (kind : FailKind) (b : Bool) (m : Run A) (st : State) → IsWithin given st → Safe given Q (m st) → Safe given Q (then_run (tested kind b st) (λ _. m))
+safe_tested given Q kind true m st within h = h
+safe_tested given Q kind false m st within h = within
 
 -- values of a known type
-pub with_int_safe : {A : Type 0} (Q : A → State → Type 0) (x : Val) (g : ℤ → Run A) (st : State) → is_of k.Int x ≡ true → ((n : ℤ) → Safe Q (g n st)) → Safe Q (with_int x g st)
-with_int_safe Q (Plain (v.Int n)) g st h go = go n
-with_int_safe Q _ g st h go = cc
+pub with_int_safe : {A : Type 0} (given : Setting) (Q : A → State → Type 0) (x : Val) (g : ℤ → Run A) (st : State) → is_of k.Int x ≡ true → ((n : ℤ) → Safe given Q (g n st)) → Safe given Q (with_int x g st)
+with_int_safe given Q (Plain (v.Int n)) g st h go = go n
+with_int_safe given Q _ g st h go = cc
 
-pub with_text_safe : {A : Type 0} (Q : A → State → Type 0) (x : Val) (g : List ℕ → Run A) (st : State) → is_of k.Text x ≡ true → ((t : List ℕ) → Safe Q (g t st)) → Safe Q (with_text x g st)
-with_text_safe Q (Plain (v.Text t)) g st h go = go t
-with_text_safe Q _ g st h go = cc
+pub with_text_safe : {A : Type 0} (given : Setting) (Q : A → State → Type 0) (x : Val) (g : List ℕ → Run A) (st : State) → is_of k.Text x ≡ true → ((t : List ℕ) → Safe given Q (g t st)) → Safe given Q (with_text x g st)
+with_text_safe given Q (Plain (v.Text t)) g st h go = go t
+with_text_safe given Q _ g st h go = cc
 
-pub with_flag_safe : {A : Type 0} (Q : A → State → Type 0) (x : Val) (g : Bool → Run A) (st : State) → is_of k.Bool x ≡ true → ((b : Bool) → Safe Q (g b st)) → Safe Q (with_flag x g st)
-with_flag_safe Q (Plain (v.Bool b)) g st h go = go b
-with_flag_safe Q _ g st h go = cc
+pub with_flag_safe : {A : Type 0} (given : Setting) (Q : A → State → Type 0) (x : Val) (g : Bool → Run A) (st : State) → is_of k.Bool x ≡ true → ((b : Bool) → Safe given Q (g b st)) → Safe given Q (with_flag x g st)
+with_flag_safe given Q (Plain (v.Bool b)) g st h go = go b
+with_flag_safe given Q _ g st h go = cc
 
-pub with_activity_safe : {A : Type 0} (Q : A → State → Type 0) (x : Val) (g : Ref → Run A) (st : State) → is_of k.Activity x ≡ true → ((a : Ref) → Safe Q (g a st)) → Safe Q (with_activity x g st)
-with_activity_safe Q (Plain (v.Activity a)) g st h go = go _
-with_activity_safe Q (NewActivity n) g st h go = go _
-with_activity_safe Q _ g st h go = cc
+pub with_activity_safe : {A : Type 0} (given : Setting) (Q : A → State → Type 0) (x : Val) (g : Ref → Run A) (st : State) → is_of k.Activity x ≡ true → ((a : Ref) → Safe given Q (g a st)) → Safe given Q (with_activity x g st)
+with_activity_safe given Q (Plain (v.Activity a)) g st h go = go _
+with_activity_safe given Q (NewActivity n) g st h go = go _
+with_activity_safe given Q _ g st h go = cc
 
-pub with_timer_safe : {A : Type 0} (Q : A → State → Type 0) (x : Val) (g : Ref → Run A) (st : State) → is_of k.Timer x ≡ true → ((t : Ref) → Safe Q (g t st)) → Safe Q (with_timer x g st)
-with_timer_safe Q (Plain (v.Timer t)) g st h go = go _
-with_timer_safe Q (NewTimer n) g st h go = go _
-with_timer_safe Q _ g st h go = cc
+pub with_timer_safe : {A : Type 0} (given : Setting) (Q : A → State → Type 0) (x : Val) (g : Ref → Run A) (st : State) → is_of k.Timer x ≡ true → ((t : Ref) → Safe given Q (g t st)) → Safe given Q (with_timer x g st)
+with_timer_safe given Q (Plain (v.Timer t)) g st h go = go _
+with_timer_safe given Q (NewTimer n) g st h go = go _
+with_timer_safe given Q _ g st h go = cc
 
 -- a check that finds no fault finds none in its first part
 pub bind_ok : {A B : Type 0} (r : Checked A) (g : A → Checked B) (y : B) → (checked.◌>>=◌ r g) ≡ Ok y → (x : A) × (r ≡ Ok x) × (g x ≡ Ok y)
