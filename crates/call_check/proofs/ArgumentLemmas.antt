@@ -1,16 +1,15 @@
 -- Arguments, from one place on: the first, and those behind it. And how many tokens they have.
-use Rattle.std.proofs.Common.{◌≡◌, ◌+◌, ◌-◌, ◌<◌, ℕ, suc, Bool, true, false, List, [], ◌∷◌, ◌++◌, length, drop, get_or, map, Option, Ok, Err, refl, sym, ap, ◌∙◌, arith, add-one, drop-cons, drop-drop}
+use Rattle.std.proofs.Common.{◌≡◌, ◌+◌, ◌-◌, ◌<◌, ℕ, Bool, true, false, List, [], ◌∷◌, ◌++◌, length, drop, get_or, map, Ok, Err, refl, sym, ap, ◌∙◌, arith, add-one, drop-cons, drop-drop}
 use Rattle.std.specs.Prelude.{slice_get}
 use Rattle.std.proofs.lemmas.List.{length-append}
 use Rattle.script_tree.specs.declared.tree.Expr.{Expr}
 use Rattle.script_tree.specs.Tree.{Expression, tree_of}
-use Rattle.script_tree.specs.Spelling.{spell_expression, spell_more, spell_arguments}
+use Rattle.script_tree.specs.Spelling.{spell_expression, spell_more}
 use Rattle.script_types.specs.declared.codes.FieldCode.{FieldCode}
-use Rattle.script_types.specs.declared.misuse.CheckBad.TheVariants as bad
 use Rattle.script_types.specs.Scopes.{Scope}
 use Rattle.script_types.specs.TokenCounts.{tokens_in, tokens_in_arguments}
 use Rattle.script_types.specs.TypingExpressions.{Setting}
-use Rattle.script_types.specs.TypingResult.{Checked, ◌>>=◌, tested}
+use Rattle.script_types.specs.TypingResult.{Checked}
 use Rattle.script_types.specs.TypingStatements.{argument_fits}
 use Rattle.script_types.specs.Program.{Term}
 use Rattle.script_types.specs.Elaboration.{Typed, expression_of}

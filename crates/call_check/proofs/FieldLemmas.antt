@@ -1,6 +1,6 @@
 -- Fields of a `fire`, from one place on: the first, and those behind it. And how many tokens they have.
-use Rattle.std.proofs.Common.{◌≡◌, ◌+◌, ◌<◌, ◌==◌, ℕ, zero, suc, Bool, true, false, ◌||◌, List, [], ◌∷◌, ◌++◌, length, drop, take, get_or, map, Option, Some, None, Ok, Err, refl, sym, ap, ◌∙◌, arith, add-one, drop-cons, bytes_eq}
-use Rattle.std.specs.Prelude.{not, if◌then◌else◌}
+use Rattle.std.proofs.Common.{◌≡◌, ◌+◌, ◌<◌, ◌==◌, ℕ, Bool, true, false, ◌||◌, List, [], ◌∷◌, ◌++◌, length, drop, take, get_or, map, Option, Ok, Err, refl, sym, ap, ◌∙◌, arith, add-one, drop-cons, bytes_eq}
+use Rattle.std.specs.Prelude.{if◌then◌else◌}
 use Rattle.std.specs.List.{list_any}
 use Rattle.std.proofs.lemmas.List.{length-append, map-append, take_more}
 use Rattle.std.proofs.lemmas.Bool.Decides.{nat_tests}
@@ -11,12 +11,11 @@ use Rattle.script_tree.specs.Tree.{Bytes, Expression, tree_of, field_of}
 use Rattle.script_tree.specs.Tree as tree
 use Rattle.script_tree.specs.Spelling.{spell_expression, spell_fields, spell_more_fields, spell_service, spell_on_activities}
 use Rattle.script_types.specs.declared.codes.FieldCode.{FieldCode}
-use Rattle.script_types.specs.declared.misuse.CheckBad.TheVariants as bad
 use Rattle.script_types.specs.Codes.{kind_in}
 use Rattle.script_types.specs.Scopes.{Scope}
 use Rattle.script_types.specs.TokenCounts.{tokens_in}
 use Rattle.script_types.specs.TypingExpressions.{Setting}
-use Rattle.script_types.specs.TypingResult.{Checked, ◌>>=◌, tested, known}
+use Rattle.script_types.specs.TypingResult.{Checked, known}
 use Rattle.script_types.specs.Program.{Term}
 use Rattle.script_types.specs.Elaboration.{asked_of}
 use Rattle.script_types.specs.ElaborationOfStatements.{fields_of}

@@ -1,12 +1,8 @@
-use Rattle.std.proofs.Common.{◌≡◌, ◌+◌, ◌<◌, ℕ, List, [], ◌∷◌, ◌++◌, length, map, take, drop, sym, ap, ◌∙◌, arith}
+use Rattle.std.proofs.Common.{[], ◌∷◌, map, arith}
 use Rattle.std.proofs.lemmas.List.{map-append}
 use Rattle.std.proofs.lemmas.Result.{err_from_is_err_and}
-use Rattle.script_tree.specs.Tree.{tree_of}
-use Rattle.script_types.specs.ElaborationOfStatements.{arguments_of}
 use Rattle.script_types.specs.ProgramOf.{term_of}
-use Rattle.expression_check.specs.Answers.{Gives}
 use Rattle.expression_check.specs.SettingOf.{setting_of}
-use Rattle.call_check.specs.Parts.{argument_made}
 use Rattle.call_check.proofs.ArgumentLemmas.{argument_done, argument_refused, tokens_next}
 use Rattle.call_check.proofs.arguments.check_arguments.Goals as goal
 

@@ -1,4 +1,4 @@
-use Rattle.std.proofs.Common.{◌≡◌, ◌∙◌, sym}
+use Rattle.std.proofs.Common.{◌∙◌, sym}
 use Rattle.call_check.proofs.FieldLemmas.{given_names, named_at, shown, not_yet}
 use Rattle.call_check.proofs.fields.is_given.Goals as goal
 

@@ -1,7 +1,5 @@
-use Rattle.std.proofs.Common.{◌≡◌, ◌+◌, ◌<◌, length, map, arith}
+use Rattle.std.proofs.Common.{map, arith}
 use Rattle.script_tree.specs.Tree.{tree_of, field_of}
-use Rattle.script_tree.specs.Tree as tree
-use Rattle.script_tree.specs.Spelling.{spell_on_activities, spell_service}
 use Rattle.call_check.proofs.FieldLemmas.{tokens_of_fire}
 use Rattle.call_check.proofs.fire.check_fire.Goals as goal
 
