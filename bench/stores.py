@@ -1,11 +1,11 @@
 #!/usr/bin/env python3
 """Times the calls of the stores at 10, 1,000 and 100,000 rows. Outside the gate.
 
-    python3 bench/stores.py
+    python3 bench/stores.py [STORE ..]
 
-Each figure is the median of five runs, each of them less a run that only makes the rows. The ratio of a lookup from the
-first to the last is to be at most 2.5. A call that changes the last rows moves few of them.
-Build the program first: cd crates/store_bench && rt run
+Each figure is the median of five runs, each of them less a run that only makes the rows, over as many rounds as take a
+tenth of a second. The ratio from the first to the last is to be at most 2.5; a line that is above it is marked.
+Build the program first: cd crates/store_bench && rt run -- fields get 10 20
 """
 import os
 import statistics
@@ -17,17 +17,32 @@ HERE = os.path.dirname(os.path.abspath(__file__))
 PROGRAM = os.path.join(HERE, "..", "crates", "store_bench", "out", "store_bench")
 ROWS = (10, 1_000, 100_000)
 RUNS = 5
-# the store, the call, and how many rounds are timed
+MOST_RATIO = 2.5
+LEAST_SECONDS = 0.1
+MOST_ROUNDS = 4_000_000
+# the store and its call
 CALLS = (
-    ("fields", "get", 1_000_000),
-    ("fields", "of", 1_000_000),
-    ("fields", "set", 1_000_000),
-    ("fields", "forget", 200_000),
-    ("masks", "is_masked", 1_000_000),
-    ("masks", "forget", 200_000),
-    ("queues", "front", 1_000_000),
-    ("queues", "is_delivered", 1_000_000),
-    ("queues", "pop", 200_000),
+    ("fields", "get"),
+    ("fields", "of"),
+    ("fields", "set"),
+    ("fields", "forget"),
+    ("masks", "is_masked"),
+    ("masks", "forget"),
+    ("queues", "front"),
+    ("queues", "is_delivered"),
+    ("queues", "pop"),
+    ("contexts", "find"),
+    ("contexts", "is_attached"),
+    ("contexts", "attr"),
+    ("contexts", "named"),
+    ("contexts", "external"),
+    ("contexts", "drop_context"),
+    ("timers", "find"),
+    ("timers", "due"),
+    ("timers", "advance"),
+    ("timers", "cancel_all"),
+    ("timers", "cancel"),
+    ("timers", "fire"),
 )
 
 
@@ -40,18 +55,32 @@ def run(store, call, rows, rounds):
     return took
 
 
-def nanoseconds(store, call, rows, rounds):
+def rounds_of(store, call, rows):
+    """As many rounds as take long enough to be measured."""
+    rounds = 100
+    while rounds < MOST_ROUNDS and run(store, call, rows, rounds) - run(store, call, rows, 0) < LEAST_SECONDS:
+        rounds *= 4
+    return rounds
+
+
+def nanoseconds(store, call, rows):
     """The cost of a round."""
+    rounds = rounds_of(store, call, rows)
     return statistics.median(run(store, call, rows, rounds) - run(store, call, rows, 0) for _ in range(RUNS)) / rounds * 1e9
 
 
 def main():
     if not os.path.exists(PROGRAM):
-        sys.exit("build it first: cd crates/store_bench && rt run")
-    print(f"{'call':<22}" + "".join(f"{rows:>9,}" for rows in ROWS) + f"{'ratio':>7}   ns a round")
-    for store, call, rounds in CALLS:
-        costs = [nanoseconds(store, call, rows, rounds) for rows in ROWS]
-        print(f"{store + ' ' + call:<22}" + "".join(f"{cost:>9.0f}" for cost in costs) + f"{costs[-1] / costs[0]:>7.2f}")
+        sys.exit("build it first: cd crates/store_bench && rt run -- fields get 10 20")
+    wanted = sys.argv[1:]
+    print(f"{'call':<24}" + "".join(f"{rows:>11,}" for rows in ROWS) + f"{'ratio':>8}   ns a round")
+    for store, call in CALLS:
+        if wanted and store not in wanted:
+            continue
+        costs = [nanoseconds(store, call, rows) for rows in ROWS]
+        ratio = costs[-1] / costs[0]
+        mark = "" if ratio <= MOST_RATIO else "   above"
+        print(f"{store + ' ' + call:<24}" + "".join(f"{cost:>11.0f}" for cost in costs) + f"{ratio:>8.2f}{mark}", flush=True)
 
 
 if __name__ == "__main__":

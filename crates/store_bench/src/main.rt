@@ -2,9 +2,11 @@
 //! Prints a sum over what the calls answered. It ends with status 0, 1 for a fault and 2 for other words.
 #![tactic(auto)]
 
+mod contexts;
 mod fields;
 mod masks;
 mod queues;
+mod timers;
 
 use slee_value::NoMemory;
 use std::alloc::Global;
@@ -52,6 +54,8 @@ fn measured(
         "fields" => fields::measured(alloc, call, rows, rounds),
         "masks" => masks::measured(alloc, call, rows, rounds),
         "queues" => queues::measured(alloc, call, rows, rounds),
+        "contexts" => contexts::measured(alloc, call, rows, rounds),
+        "timers" => timers::measured(alloc, call, rows, rounds),
         _ => Ok(None),
     }
 }
