@@ -3,15 +3,15 @@
 
     python3 bench/stores.py [STORE ..]
 
-Each figure is the median of five runs, each of them less a run that only makes the rows, over as many rounds as take a
-tenth of a second. The ratio from the first to the last is to be at most 2.5; a line that is above it is marked.
+Each figure is the median of five runs, in the processor's time, each of them less a run that only makes the rows, over as
+many rounds as take a tenth of a second. The ratio from the first to the last is to be at most 2.5; a line above it is marked.
 Build the program first: cd crates/store_bench && rt run -- fields get 10 20
 """
 import os
 import statistics
 import subprocess
 import sys
-import time
+import tempfile
 
 HERE = os.path.dirname(os.path.abspath(__file__))
 PROGRAM = os.path.join(HERE, "..", "crates", "store_bench", "out", "store_bench")
@@ -47,17 +47,20 @@ CALLS = (
 
 
 def run(store, call, rows, rounds):
-    begun = time.perf_counter()
-    done = subprocess.run([PROGRAM, store, call, str(rows), str(rounds)], capture_output=True, text=True)
-    took = time.perf_counter() - begun
-    if done.returncode != 0:
-        sys.exit(f"{store} {call} {rows} {rounds} ended with {done.returncode}: {done.stdout}{done.stderr}")
-    return took
+    """The processor's seconds of one run."""
+    with tempfile.TemporaryFile() as out:
+        child = subprocess.Popen([PROGRAM, store, call, str(rows), str(rounds)], stdout=out, stderr=out)
+        _, status, usage = os.wait4(child.pid, 0)
+        child.returncode = os.waitstatus_to_exitcode(status)
+        if child.returncode != 0:
+            out.seek(0)
+            sys.exit(f"{store} {call} {rows} {rounds} ended with {child.returncode}: {out.read().decode()}")
+    return usage.ru_utime + usage.ru_stime
 
 
 def rounds_of(store, call, rows):
     """As many rounds as take long enough to be measured."""
-    rounds = 100
+    rounds = 400
     while rounds < MOST_ROUNDS and run(store, call, rows, rounds) - run(store, call, rows, 0) < LEAST_SECONDS:
         rounds *= 4
     return rounds
