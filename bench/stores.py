@@ -34,8 +34,6 @@ CALLS = (
     ("contexts", "find"),
     ("contexts", "is_attached"),
     ("contexts", "attr"),
-    ("contexts", "named"),
-    ("contexts", "external"),
     ("contexts", "drop_context"),
     ("timers", "find"),
     ("timers", "due"),
