@@ -1,3 +1,5 @@
+//! Why a call changed nothing.
+
 use slee_value::ActivityId;
 
 /// Why a call changed nothing.

@@ -1,0 +1,161 @@
+//! Calls of activity contexts: an activity is external, and has one attached entity, one attribute and one name.
+ghost use Rattle.std.specs.Prelude.{◌<◌};
+
+use activity_context::Contexts;
+use slee_state::{AcKind, Activity};
+use slee_value::{ActivityId, EntityId, Name, NoMemory, Text, Value};
+use std::alloc::Global;
+
+// Neighbours in rounds are far apart in rows.
+const STRIDE: u64 = 7919;
+
+// A word for a number: the letter n, and its digits.
+fn word(alloc: Global, number: u64) -> Result<Text, NoMemory> {
+    let spelled = format!(in alloc; "n{number}")?;
+    Text::from_str(alloc, spelled.as_str())
+}
+
+fn name(alloc: Global, number: u64) -> Result<Name, NoMemory> {
+    let text = word(alloc, number)?;
+    let bytes = text.as_bytes();
+    if Name::is_name(bytes) {
+        Name::from_slice(alloc, bytes)
+    } else {
+        Err(NoMemory)
+    }
+}
+
+// Starting an external activity looks for its name, so a null one is started, and the external one put in its place.
+fn start(alloc: Global, contexts: &mut Contexts, number: u64) -> Result<(), NoMemory> {
+    let kind = AcKind::External(name(alloc, number)?);
+    contexts.reserve(2)?;
+    if contexts.next_number() == u64::MAX {
+        return Err(NoMemory);
+    }
+    match contexts.start(AcKind::Null) {
+        Ok(activity) => contexts.restore(Activity {
+            number: activity,
+            kind,
+            ending: false,
+        }),
+        Err(_) => return Err(NoMemory),
+    }
+    Ok(())
+}
+
+fn filled(alloc: Global, rows: u64) -> Result<Contexts, NoMemory> {
+    let mut contexts = Contexts::new(alloc);
+    'rows: for number in 0..rows {
+        start(alloc, &mut contexts, number)?;
+        fill(alloc, &mut contexts, number)?;
+    }
+    Ok(contexts)
+}
+
+fn fill(alloc: Global, contexts: &mut Contexts, number: u64) -> Result<(), NoMemory> {
+    let activity = ActivityId(number.wrapping_add(1));
+    contexts.reserve(1)?;
+    contexts.attach(EntityId(number), activity);
+    contexts.reserve(1)?;
+    contexts.set_attr(activity, Text::from_str(alloc, "count")?, Value::Int(1));
+    contexts.reserve(1)?;
+    contexts.restore_name(word(alloc, number)?, activity);
+    Ok(())
+}
+
+fn find(contexts: &Contexts, rows: u64, rounds: u64) -> u64
+    requires { 0 < rows }
+{
+    let mut sum = 0_u64;
+    'rounds: for round in 0..rounds {
+        let activity = ActivityId(round.wrapping_mul(STRIDE) % rows);
+        if contexts.find(activity).is_some() {
+            sum = sum.wrapping_add(1);
+        }
+    }
+    sum
+}
+
+fn is_attached(contexts: &Contexts, rows: u64, rounds: u64) -> u64
+    requires { 0 < rows }
+{
+    let mut sum = 0_u64;
+    'rounds: for round in 0..rounds {
+        let entity = round.wrapping_mul(STRIDE) % rows;
+        if contexts.is_attached(EntityId(entity), ActivityId(entity.wrapping_add(1))) {
+            sum = sum.wrapping_add(1);
+        }
+    }
+    sum
+}
+
+fn attr(contexts: &Contexts, key: &Text, rows: u64, rounds: u64) -> u64
+    requires { 0 < rows }
+{
+    let mut sum = 0_u64;
+    'rounds: for round in 0..rounds {
+        let activity = ActivityId(round.wrapping_mul(STRIDE) % rows);
+        if contexts.attr(activity, key).is_some() {
+            sum = sum.wrapping_add(1);
+        }
+    }
+    sum
+}
+
+fn named(contexts: &Contexts, name: &Text, rounds: u64) -> u64 {
+    let mut sum = 0_u64;
+    'rounds: for _ in 0..rounds {
+        if contexts.named(name).is_some() {
+            sum = sum.wrapping_add(1);
+        }
+    }
+    sum
+}
+
+fn external(contexts: &Contexts, name: &Name, rounds: u64) -> u64 {
+    let mut sum = 0_u64;
+    'rounds: for _ in 0..rounds {
+        if contexts.external(name).is_some() {
+            sum = sum.wrapping_add(1);
+        }
+    }
+    sum
+}
+
+/// A null activity starts, and is gone.
+fn drop_null(contexts: &mut Contexts, rounds: u64) -> Result<u64, NoMemory> {
+    'rounds: for _ in 0..rounds {
+        contexts.reserve(1)?;
+        if contexts.next_number() == u64::MAX {
+            return Err(NoMemory);
+        }
+        match contexts.start(AcKind::Null) {
+            Ok(activity) => contexts.drop_context(activity),
+            Err(_) => return Err(NoMemory),
+        }
+    }
+    Ok(contexts.len())
+}
+
+/// The sum over what the calls answered, or none where there is no such call.
+pub fn measured(
+    alloc: Global,
+    call: &str,
+    rows: u64,
+    rounds: u64,
+) -> Result<Option<u64>, NoMemory> {
+    if rows == 0 {
+        return Ok(None);
+    }
+    let mut contexts = filled(alloc, rows)?;
+    let sum = match call {
+        "find" => find(&contexts, rows, rounds),
+        "is_attached" => is_attached(&contexts, rows, rounds),
+        "attr" => attr(&contexts, &Text::from_str(alloc, "count")?, rows, rounds),
+        "named" => named(&contexts, &word(alloc, rows / 2)?, rounds),
+        "external" => external(&contexts, &name(alloc, rows / 2)?, rounds),
+        "drop_context" => drop_null(&mut contexts, rounds)?,
+        _ => return Ok(None),
+    };
+    Ok(Some(sum))
+}
