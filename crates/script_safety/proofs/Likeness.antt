@@ -120,13 +120,13 @@ IsRead m key st (Gave x new) = Longer st.keys new.keys × ((list_any (same_key k
 IsRead m key st (Broke kind text new) = new.keys ≡ st.keys
 IsRead m key st _ = Unit {0}
 
-flags_same : (n : ℕ) → (n == n) ≡ true
+pub flags_same : (n : ℕ) → (n == n) ≡ true
 flags_same n = grind (arith, nat_tests)
 
-texts_same : (x : List ℕ) → bytes_eq x x ≡ true
+pub texts_same : (x : List ℕ) → bytes_eq x x ≡ true
 texts_same x = (bytes_eq-Decides x x).1 refl
 
-both_same : (a b : Bool) → a ≡ true → b ≡ true → (a && b) ≡ true
+pub both_same : (a b : Bool) → a ≡ true → b ≡ true → (a && b) ≡ true
 both_same true true g h = refl
 both_same true false g h = cc
 both_same false b g h = cc
