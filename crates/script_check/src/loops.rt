@@ -1,0 +1,42 @@
+//! The variable of a `for`.
+ghost use Rattle.std.specs.Prelude.{◌≡◌, ◌++◌, ◌∷◌, [], OnOk};
+ghost use Rattle.script_types.specs.ElaborationOfStatements.{loop_of};
+ghost use Rattle.script_types.specs.Scopes.{Variable};
+ghost use Rattle.expression_check.specs.SettingOf.{setting_of};
+ghost use Rattle.script_check.specs.Loops.{Goes};
+
+use expression_check::{Local, ScriptFault, Setting, name_of, relation_named};
+use script_tree::{Identifier, Over};
+use script_types::{CheckBad, Misuse, Range};
+use slee_value::Kind;
+use statement_check::{add_child, add_value};
+
+/// A variable for an activity, or for a child of the relation; `at` tokens stand before what the loop goes over.
+pub fn add_loop_variable<'a>(
+    setting: &Setting,
+    scope: &mut Vec<Local<'a>>,
+    name: &'a Identifier,
+    at: usize,
+    over: &Over,
+) -> Result<Range, ScriptFault>
+    ensures made { Goes result scope.new.items (loop_of (setting_of setting.now) scope.old.items name.now at over.now) }
+    ensures one { OnOk result ((new : Variable) × (scope.new.items ≡ scope.old.items ++ new ∷ [])) }
+{
+    match over {
+        Over::Activities => {
+            add_value(scope, name, Kind::Activity)?;
+            Ok(Range::Activities)
+        }
+        Over::Children(relation) => {
+            let Some(found) = relation_named(setting.block, relation.as_bytes()) else {
+                return Err(ScriptFault::At(Misuse {
+                    at,
+                    kind: CheckBad::Name,
+                }));
+            };
+            let relation = name_of(setting.alloc, relation)?;
+            add_child(scope, name, found.block)?;
+            Ok(Range::Children(relation))
+        }
+    }
+}
