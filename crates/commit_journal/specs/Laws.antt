@@ -1,9 +1,10 @@
 -- The spelling of sides and the reading of them are one.
 use Rattle.std.specs.Prelude.{◌≡◌, ◌≢◌, ℕ, ◌<◌, List, [], ◌∷◌, ◌++◌, length, get_or, Ok, Err, Some}
 use Rattle.std.specs.List.{flat_map, AllByRecursion}
+use Rattle.slee_value.specs.Bytes.{spelled_bytes}
 use Rattle.slee_disk.specs.declared.side.Side.{Side}
 use Rattle.slee_disk.specs.Sides.{Sides, on}
-use Rattle.commit_journal.specs.Spelling.{Head, text, recorded, header, spelled, FitsText, FitsHead, records_size}
+use Rattle.commit_journal.specs.Spelling.{Head, recorded, header, spelled, FitsText, FitsHead, records_size}
 use Rattle.commit_journal.specs.Reading.{payloads_of, Header, front, Kept, recovered}
 use Rattle.commit_journal.specs.Kept.{StandsIn, StandsFound, Keeps}
 
@@ -31,7 +32,7 @@ pub record AreShort (at : ℕ) (bytes : List ℕ) : Type 0 where
   pub behind : List ℕ
   pub parts : bytes ≡ flat_map recorded payloads ++ 1 ∷ behind
   pub place : at ≡ records_size payloads
-  pub short : (payload rest : List ℕ) → FitsText payload → rest ≢ [] → behind ≢ text payload ++ rest
+  pub short : (payload rest : List ℕ) → FitsText payload → rest ≢ [] → behind ≢ spelled_bytes payload ++ rest
 
 -- a side that begins with a header is read as that header
 abbrev pub HeadersAreRead : Type 0

@@ -2,6 +2,7 @@
 use Rattle.std.specs.Prelude.{◌≡◌, ◌≢◌, ◌⊎◌, ℕ, ◌+◌, List, [], ◌∷◌, length, map, Option, Some, None, Result, Ok, Err, Vec}
 use Rattle.std.specs.declared.alloc.Global.{Global}
 use denote.Ref.{Bor}
+use Rattle.slee_value.specs.declared.reading.TheConstants.{COUNT_LEN}
 use Rattle.slee_disk.specs.declared.side.Side.{Side}
 use Rattle.slee_disk.specs.declared.side.Side.TheVariants.{A, B}
 use Rattle.commit_journal.specs.declared.fault.JournalBad.{JournalBad}
@@ -63,7 +64,7 @@ abbrev pub AtGate : Behind → List ℕ → Type 0
 AtGate behinds.Nothing bytes = (behind : List ℕ) → bytes ≢ 1 ∷ behind
 AtGate behinds.Short bytes = (behind : List ℕ) × (bytes ≡ 1 ∷ behind) × (payload_at behind ≡ None)
 AtGate (behinds.One payload after) bytes =
-    (behind : List ℕ) × (bytes ≡ 1 ∷ behind) × (payload_at behind ≡ Some (payload.now, after.now)) × (length payload.now + length after.now + 4 ≡ length behind)
+    (behind : List ℕ) × (bytes ≡ 1 ∷ behind) × (payload_at behind ≡ Some (payload.now, after.now)) × (length payload.now + length after.now + COUNT_LEN ≡ length behind)
 
 -- the front of a side
 abbrev pub front_on : Side → Front → Front → Front

@@ -4,7 +4,7 @@ ghost use Rattle.std.specs.List.{AllByRecursion};
 ghost use Rattle.commit_journal.specs.Spelling.{FitsText, records_size};
 ghost use Rattle.commit_journal.specs.Kept.{batched};
 
-use slee_value::NoMemory;
+use slee_value::{NoMemory, write_bytes};
 use std::alloc::Global;
 use std::marker::Model;
 
@@ -65,8 +65,8 @@ impl Batch {
         ensures err { OnErr result (self.new ≡ self.old) }
     {
         let gate = self.bytes.len() - 1;
-        let mut piece = Vec::from_slice(alloc, &(payload.len() as u32).to_le_bytes())?;
-        piece.extend_from_slice(payload)?;
+        let mut piece = Vec::new(alloc);
+        write_bytes(payload, &mut piece)?;
         piece.push(0)?;
         self.bytes.extend_from_slice(&piece)?;
         self.bytes[gate] = 1;
