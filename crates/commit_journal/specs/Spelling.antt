@@ -3,6 +3,7 @@
 use Rattle.std.specs.Prelude.{ℕ, ◌+◌, ◌<◌, ◌^◌, List, [], ◌∷◌, ◌++◌, length, codes}
 use Rattle.std.specs.List.{flat_map}
 use Rattle.slee_value.specs.Bytes.{spelled_u64, spelled_bytes}
+use Rattle.commit_journal.specs.declared.gate.TheConstants.{OPEN_GATE}
 use Rattle.commit_journal.specs.declared.limits.TheConstants.{RECORD_FRAME, SIDE_FRAME}
 
 -- the name of the format
@@ -18,7 +19,7 @@ pub record Head : Type 0 where
 
 -- a record is an open gate and the payload, its count first
 abbrev pub recorded : List ℕ → List ℕ
-recorded payload = 1 ∷ spelled_bytes payload
+recorded payload = OPEN_GATE ∷ spelled_bytes payload
 
 -- what stands between the first gate and the first record's
 abbrev pub header : Head → List ℕ
@@ -26,7 +27,7 @@ header head = magic ++ (spelled_u64 head.generation ++ (spelled_bytes head.deplo
 
 -- a side as far as its last gate
 abbrev pub spelled : Head → List (List ℕ) → List ℕ
-spelled head payloads = 1 ∷ (header head ++ flat_map recorded payloads)
+spelled head payloads = OPEN_GATE ∷ (header head ++ flat_map recorded payloads)
 
 -- bytes that can be counted: their count is a number of 32 bits
 abbrev pub FitsText : List ℕ → Type 0

@@ -4,6 +4,7 @@ ghost use Rattle.commit_journal.specs.Spelling.{FitsText, header, size};
 ghost use Rattle.commit_journal.specs.Journal.{IsTooLarge};
 
 use crate::BeginFault;
+use crate::gate::CLOSED_GATE;
 use crate::limits::{SIDE_FRAME, SIDE_LIMIT};
 use crate::reading::MAGIC;
 use slee_value::{NoMemory, write_bytes, write_u64};
@@ -18,13 +19,13 @@ fn header_bytes(
 ) -> Result<Vec<u8>, NoMemory>
     requires deployment { FitsText deployment.now }
     requires snapshot { FitsText snapshot.now }
-    ensures { IfOk result (λ v. v.items ≡ header (record { generation = generation; deployment = deployment.now; snapshot = snapshot.now }) ++ 0 ∷ []) }
+    ensures { IfOk result (λ v. v.items ≡ header (record { generation = generation; deployment = deployment.now; snapshot = snapshot.now }) ++ CLOSED_GATE ∷ []) }
 {
     let mut bytes = Vec::from_slice(alloc, &MAGIC)?;
     write_u64(generation, &mut bytes)?;
     write_bytes(deployment, &mut bytes)?;
     write_bytes(snapshot, &mut bytes)?;
-    bytes.push(0)?;
+    bytes.push(CLOSED_GATE)?;
     Ok(bytes)
 }
 
@@ -39,7 +40,7 @@ pub(crate) fn header_within(
 ) -> Result<Vec<u8>, BeginFault>
     requires limit { limit ≤ SIDE_LIMIT }
     requires sized { length deployment.now + 64 < 2 ^ 63 }
-    ensures bytes { IfOk result (λ v. v.items ≡ header (record { generation = generation; deployment = deployment.now; snapshot = snapshot.now }) ++ 0 ∷ []) }
+    ensures bytes { IfOk result (λ v. v.items ≡ header (record { generation = generation; deployment = deployment.now; snapshot = snapshot.now }) ++ CLOSED_GATE ∷ []) }
     ensures fits { OnOk result (size (record { generation = generation; deployment = deployment.now; snapshot = snapshot.now }) [] ≤ limit) }
     ensures refused { IfErr result (λ fault. IsTooLarge (size (record { generation = generation; deployment = deployment.now; snapshot = snapshot.now }) []) limit fault) }
     ensures no_device { IsErrOf result BeginFault.DiskFault → ⊥ }

@@ -5,6 +5,7 @@ ghost use Rattle.commit_journal.specs.Reading.{magic_at, header_at, payload_at, 
 ghost use Rattle.commit_journal.specs.Views.{Reads, head_view, front_view, GivesRecords, AtGate, Chooses, Picks};
 
 use crate::fault::JournalBad;
+use crate::gate::OPEN_GATE;
 use crate::limits::RECORD_FRAME;
 use crate::record::{Record, RecordsFault};
 use slee_disk::Side;
@@ -74,7 +75,7 @@ fn front_of(bytes: &[u8]) -> Begins<'_>
     ensures { front_view result ≡ front bytes.now }
 {
     match bytes {
-        [1, rest @ ..] if !rest.is_empty() => match header_of(rest) {
+        [OPEN_GATE, rest @ ..] if !rest.is_empty() => match header_of(rest) {
             Some((heading, rest)) => Begins::Header(heading, rest),
             None => Begins::NoHeader,
         },
@@ -96,7 +97,7 @@ fn behind_gate(bytes: &[u8]) -> Behind<'_>
     let Some((gate, behind)) = bytes.split_first() else {
         return Behind::Nothing;
     };
-    if *gate != 1 {
+    if *gate != OPEN_GATE {
         return Behind::Nothing;
     }
     match payload_of(behind) {
