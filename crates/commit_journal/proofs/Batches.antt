@@ -4,7 +4,8 @@ use Rattle.std.specs.List.{flat_map, AllByRecursion}
 use Rattle.std.proofs.lemmas.List.{append-nil, take_rest}
 use Rattle.std.proofs.lemmas.List.Concat.{flat_map-append}
 use Rattle.std.proofs.Math.Seq.{set-append_seam}
-use Rattle.commit_journal.specs.Spelling.{text, recorded, FitsText, records_size}
+use Rattle.slee_value.specs.Bytes.{spelled_bytes}
+use Rattle.commit_journal.specs.Spelling.{recorded, FitsText, records_size}
 use Rattle.commit_journal.specs.Kept.{batched}
 use Rattle.commit_journal.specs.Batch.{or_none, payloads_in, IsBatch}
 use Rattle.commit_journal.proofs.Spelled.{payloads_again}
@@ -54,20 +55,20 @@ pub behind_is : (bytes : List ℕ) → IsBatch bytes → payloads_in bytes ≢ [
 behind_is bytes batch some = ap (λ (l : List ℕ). 1 ∷ l) (take_rest bytes 1) ∙ behind_batched bytes (payloads_in bytes) some batch.spelled
 
 -- ---- the bytes of a batch, with one payload more
-pub batched_more : (batch : List (List ℕ)) (payload : List ℕ) → set (batched batch) (length (batched batch) - 1) 1 ++ (text payload ++ 0 ∷ []) ≡ batched (batch ++ payload ∷ [])
+pub batched_more : (batch : List (List ℕ)) (payload : List ℕ) → set (batched batch) (length (batched batch) - 1) 1 ++ (spelled_bytes payload ++ 0 ∷ []) ≡ batched (batch ++ payload ∷ [])
 batched_more batch payload =
     let records = flat_map recorded batch in
     let last : length (batched batch) - 1 ≡ length records = omega (arith, length-append records (0 ∷ [])) in
-    ap (λ n. set (batched batch) n 1 ++ (text payload ++ 0 ∷ [])) last
-    ∙ ap (λ (l : List ℕ). l ++ (text payload ++ 0 ∷ [])) (set-append_seam records 0 [] 1)
-    ∙ append_assoc records (1 ∷ []) (text payload ++ 0 ∷ [])
+    ap (λ n. set (batched batch) n 1 ++ (spelled_bytes payload ++ 0 ∷ [])) last
+    ∙ ap (λ (l : List ℕ). l ++ (spelled_bytes payload ++ 0 ∷ [])) (set-append_seam records 0 [] 1)
+    ∙ append_assoc records (1 ∷ []) (spelled_bytes payload ++ 0 ∷ [])
     ∙ sym (append_assoc records (recorded payload) (0 ∷ []))
     ∙ ap (λ (l : List ℕ). records ++ l ++ 0 ∷ []) (sym (append-nil (recorded payload)))
     ∙ ap (λ (l : List ℕ). l ++ 0 ∷ []) (sym (flat_map-append recorded batch (payload ∷ [])))
 
 -- one payload more in a batch
-pub more_in : (bytes new : List ℕ) (payload : List ℕ) → IsBatch bytes → FitsText payload → new ≡ set bytes (length bytes - 1) 1 ++ (text payload ++ 0 ∷ []) → new ≡ batched (payloads_in bytes ++ payload ∷ [])
-more_in bytes new payload batch fits is = is ∙ ap (λ (l : List ℕ). set l (length l - 1) 1 ++ (text payload ++ 0 ∷ [])) batch.spelled ∙ batched_more (payloads_in bytes) payload
+pub more_in : (bytes new : List ℕ) (payload : List ℕ) → IsBatch bytes → FitsText payload → new ≡ set bytes (length bytes - 1) 1 ++ (spelled_bytes payload ++ 0 ∷ []) → new ≡ batched (payloads_in bytes ++ payload ∷ [])
+more_in bytes new payload batch fits is = is ∙ ap (λ (l : List ℕ). set l (length l - 1) 1 ++ (spelled_bytes payload ++ 0 ∷ [])) batch.spelled ∙ batched_more (payloads_in bytes) payload
 
 pub more_is_batch : (bytes new : List ℕ) (payload : List ℕ) → IsBatch bytes → FitsText payload → new ≡ batched (payloads_in bytes ++ payload ∷ []) → IsBatch new
 more_is_batch bytes new payload batch fits is = batch_of new (payloads_in bytes ++ payload ∷ []) (all_more (payloads_in bytes) (payload ∷ []) batch.fits (fits, tt)) is

@@ -9,7 +9,8 @@ use Rattle.std.proofs.lemmas.Slice.Eq.{bytes_eq-Decides}
 use Rattle.slee_disk.specs.declared.side.Side.{Side}
 use Rattle.slee_disk.specs.declared.side.Side.TheVariants.{A, B}
 use Rattle.slee_disk.specs.Sides.{Sides, on}
-use Rattle.commit_journal.specs.Spelling.{Head, text, recorded, spelled, FitsText, records_size}
+use Rattle.slee_value.specs.Bytes.{spelled_bytes}
+use Rattle.commit_journal.specs.Spelling.{Head, recorded, spelled, FitsText, records_size}
 use Rattle.commit_journal.specs.Reading.{payload_at, then_more, if_some, payloads, payloads_of, Front, Blank, NoHeader, Header, header_or_not, front, Counting, Neither, Counts, NotOne, counting, first_difference, first_gate, Wrong, Other, Kept, with_records, with_front, with_counting, recovered}
 use Rattle.commit_journal.specs.Kept.{StandsFound}
 use Rattle.commit_journal.specs.Laws.{IsBytes, BeginsWith, AreRecords, AreShort}
@@ -50,7 +51,7 @@ if_err : (o : Option (List ℕ × List ℕ)) (f : List ℕ × List ℕ → Resul
 if_err None f at e = inl (refl, sym (err_is 0 at e))
 if_err (Some x) f at e = inr (x, refl, e)
 
-no_payload : (bytes payload rest : List ℕ) → payload_at bytes ≡ None → FitsText payload → rest ≢ [] → bytes ≢ text payload ++ rest
+no_payload : (bytes payload rest : List ℕ) → payload_at bytes ≡ None → FitsText payload → rest ≢ [] → bytes ≢ spelled_bytes payload ++ rest
 no_payload bytes payload [] none fits some = absurd (some refl)
 no_payload bytes payload (gate ∷ rest) none fits some = λ is. (let found = sym none ∙ ap payload_at is ∙ payload_again payload gate rest fits in cc)
 
@@ -77,7 +78,7 @@ short_stands (suc steps) (gate ∷ bytes) at are e =
                   payloads = found.0.0 ∷ others.payloads;
                   behind = others.behind;
                   parts =
-                      ap (λ n. n ∷ bytes) is_open ∙ ap (λ (l : List ℕ). 1 ∷ l) (t.0 ∙ ap (λ (l : List ℕ). text found.0.0 ++ l) others.parts ∙ sym (append_assoc (text found.0.0) (flat_map recorded others.payloads) (1 ∷ others.behind)))
+                      ap (λ n. n ∷ bytes) is_open ∙ ap (λ (l : List ℕ). 1 ∷ l) (t.0 ∙ ap (λ (l : List ℕ). spelled_bytes found.0.0 ++ l) others.parts ∙ sym (append_assoc (spelled_bytes found.0.0) (flat_map recorded others.payloads) (1 ∷ others.behind)))
                       ∙ ap (λ (l : List ℕ). l ++ 1 ∷ others.behind) (sym (flat_map-cons recorded found.0.0 others.payloads));
                   place = omega (arith, m.2, others.place);
                   short = others.short;

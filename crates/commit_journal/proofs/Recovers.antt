@@ -7,7 +7,8 @@ use Rattle.slee_disk.specs.declared.side.Side.TheVariants.{A, B}
 use Rattle.slee_disk.specs.Sides.{Sides, on}
 use Rattle.commit_journal.specs.declared.fault.JournalBad.{JournalBad}
 use Rattle.commit_journal.specs.declared.fault.JournalBad.TheVariants as kinds
-use Rattle.commit_journal.specs.Spelling.{Head, FitsHead, recorded, header, spelled, text, records_size}
+use Rattle.slee_value.specs.Bytes.{spelled_bytes}
+use Rattle.commit_journal.specs.Spelling.{Head, FitsHead, recorded, header, spelled, records_size}
 use Rattle.commit_journal.specs.Reading.{payloads, payloads_of, first_difference, first_gate, Front, Blank, NoHeader, Header, next, by_generations, front, Neither, Counts, NotOne, counting, Bad, Other, Kept, with_records, with_front, with_counting, recovered}
 use Rattle.commit_journal.specs.Kept.{StandsIn, StandsFound}
 use Rattle.commit_journal.specs.Views.{front_on, kept_first}
@@ -70,7 +71,7 @@ stands_in deployment sides side head gates k end fits counts begins kept place =
 pub header_fits : (sides : Sides) (side : Side) (head : Head) (gates : List ℕ) → IsBytes (on side sides) → front_on side (front sides.a) (front sides.b) ≡ Header head gates → length head.deployment + length head.snapshot + length gates ≤ length (on side sides)
 header_fits sides side head gates fits begins =
     let f = front_takes (on side sides) head gates fits (sym (on_front side sides) ∙ begins) in
-    omega (arith, ap length f.0, length-append (header head) gates, length-append (text head.deployment) (text head.snapshot))
+    omega (arith, ap length f.0, length-append (header head) gates, length-append (spelled_bytes head.deployment) (spelled_bytes head.snapshot))
 
 pub bytes_on : (side : Side) (a b : List ℕ) → IsBytes a → IsBytes b → IsBytes (on side (record { a = a; b = b }))
 bytes_on A a b p q = p

@@ -2,7 +2,8 @@
 use Rattle.std.proofs.Common.{◌≡◌, ℕ, ◌+◌, List, [], ◌∷◌, ◌++◌, length, refl, ◌∙◌, ap, arith, length-append}
 use Rattle.std.specs.List.{flat_map}
 use Rattle.std.proofs.lemmas.List.Concat.{flat_map-cons}
-use Rattle.commit_journal.specs.Spelling.{Head, text, recorded, header, spelled, records_size, size}
+use Rattle.slee_value.specs.Bytes.{spelled_bytes}
+use Rattle.commit_journal.specs.Spelling.{Head, recorded, header, spelled, records_size, size}
 use Rattle.slee_disk.specs.Sides.{Sides, on}
 use Rattle.commit_journal.specs.Reading.{Kept}
 use Rattle.commit_journal.specs.Kept.{batched, StandsIn}
@@ -16,7 +17,7 @@ records_size-more [] qs = omega arith
 records_size-more (p ∷ ps) qs = omega (arith, records_size-more ps qs)
 
 pub length-header : (head : Head) → length (header head) ≡ 22 + length head.deployment + length head.snapshot
-length-header head = omega (arith, length-append (text head.deployment) (text head.snapshot))
+length-header head = omega (arith, length-append (spelled_bytes head.deployment) (spelled_bytes head.snapshot))
 
 pub length-spelled : (head : Head) (ps : List (List ℕ)) → length (spelled head ps) + 1 ≡ size head ps
 length-spelled head ps = omega (arith, length-append (header head) (flat_map recorded ps), length-header head, length-recorded ps)

@@ -3,6 +3,7 @@ use Rattle.std.specs.Prelude.{◌≡◌, ◌≢◌, ◌⊎◌, ℕ, List, [], �
 use Rattle.std.specs.List.{flat_map, AllByRecursion}
 use Rattle.slee_disk.specs.declared.side.Side.{Side}
 use Rattle.slee_disk.specs.Sides.{Sides, on, other}
+use Rattle.commit_journal.specs.declared.gate.TheConstants.{OPEN_GATE, CLOSED_GATE}
 use Rattle.commit_journal.specs.declared.stage.Stage.{Stage}
 use Rattle.commit_journal.specs.declared.stage.Stage.TheVariants as stages
 use Rattle.commit_journal.specs.Spelling.{recorded, spelled, FitsText, FitsHead}
@@ -11,7 +12,7 @@ use Rattle.commit_journal.specs.Reading.{Blank, front, Counts, counting, Kept, n
 -- A side counts, and is spelled as far as a closed gate at this place, with this behind the gate.
 pub record StandsIn (kept : Kept) (at : ℕ) (tail : List ℕ) (sides : Sides) : Type 0 where
   pub gate : ℕ
-  pub shut : gate ≢ 1
+  pub shut : gate ≢ OPEN_GATE
   pub here : on kept.side sides ≡ spelled kept.head kept.payloads ++ gate ∷ tail
   pub place : at ≡ length (spelled kept.head kept.payloads)
   pub counts : counting (front sides.a) (front sides.b) ≡ Counts kept.side
@@ -86,4 +87,4 @@ StandsOrRenewed stage kept snapshot sides = Stands stage kept sides ⊎ Keeps (r
 
 -- the bytes of a batch from the gate before it on: open gates between, and a closed one behind
 abbrev pub batched : List (List ℕ) → List ℕ
-batched batch = flat_map recorded batch ++ 0 ∷ []
+batched batch = flat_map recorded batch ++ CLOSED_GATE ∷ []

@@ -1,9 +1,11 @@
 -- The spelling of sides and the reading of them are one.
 use Rattle.std.specs.Prelude.{◌≡◌, ◌≢◌, ℕ, ◌<◌, List, [], ◌∷◌, ◌++◌, length, get_or, Ok, Err, Some}
 use Rattle.std.specs.List.{flat_map, AllByRecursion}
+use Rattle.slee_value.specs.Bytes.{spelled_bytes}
 use Rattle.slee_disk.specs.declared.side.Side.{Side}
 use Rattle.slee_disk.specs.Sides.{Sides, on}
-use Rattle.commit_journal.specs.Spelling.{Head, text, recorded, header, spelled, FitsText, FitsHead, records_size}
+use Rattle.commit_journal.specs.declared.gate.TheConstants.{OPEN_GATE}
+use Rattle.commit_journal.specs.Spelling.{Head, recorded, header, spelled, FitsText, FitsHead, records_size}
 use Rattle.commit_journal.specs.Reading.{payloads_of, Header, front, Kept, recovered}
 use Rattle.commit_journal.specs.Kept.{StandsIn, StandsFound, Keeps}
 
@@ -13,7 +15,7 @@ IsBytes bytes = (i : ℕ) → get_or bytes i 0 < 256
 
 -- an open gate and a header, and this follows it
 pub record BeginsWith (head : Head) (rest bytes : List ℕ) : Type 0 where
-  pub parts : bytes ≡ 1 ∷ (header head ++ rest)
+  pub parts : bytes ≡ OPEN_GATE ∷ (header head ++ rest)
   pub fits : FitsHead head
   pub some : rest ≢ []
 
@@ -21,7 +23,7 @@ pub record BeginsWith (head : Head) (rest bytes : List ℕ) : Type 0 where
 pub record AreRecords (payloads : List (List ℕ)) (bytes : List ℕ) : Type 0 where
   pub gate : ℕ
   pub tail : List ℕ
-  pub shut : gate ≢ 1
+  pub shut : gate ≢ OPEN_GATE
   pub parts : bytes ≡ flat_map recorded payloads ++ gate ∷ tail
   pub fits : AllByRecursion FitsText payloads
 
@@ -29,9 +31,9 @@ pub record AreRecords (payloads : List (List ℕ)) (bytes : List ℕ) : Type 0 w
 pub record AreShort (at : ℕ) (bytes : List ℕ) : Type 0 where
   pub payloads : List (List ℕ)
   pub behind : List ℕ
-  pub parts : bytes ≡ flat_map recorded payloads ++ 1 ∷ behind
+  pub parts : bytes ≡ flat_map recorded payloads ++ OPEN_GATE ∷ behind
   pub place : at ≡ records_size payloads
-  pub short : (payload rest : List ℕ) → FitsText payload → rest ≢ [] → behind ≢ text payload ++ rest
+  pub short : (payload rest : List ℕ) → FitsText payload → rest ≢ [] → behind ≢ spelled_bytes payload ++ rest
 
 -- a side that begins with a header is read as that header
 abbrev pub HeadersAreRead : Type 0

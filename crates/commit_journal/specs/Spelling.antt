@@ -1,7 +1,9 @@
--- The bytes of a side: an open gate, a header, a record for each payload, and then one closed gate.
+-- The bytes of a side: an open gate, a header, a record for each payload, and then one closed gate. Numbers and bytes
+-- are spelled as in values.
 use Rattle.std.specs.Prelude.{ℕ, ◌+◌, ◌<◌, ◌^◌, List, [], ◌∷◌, ◌++◌, length, codes}
 use Rattle.std.specs.List.{flat_map}
-use Rattle.std.specs.Int.{w32, w64, to_le_bytes}
+use Rattle.slee_value.specs.Bytes.{spelled_u64, spelled_bytes}
+use Rattle.commit_journal.specs.declared.gate.TheConstants.{OPEN_GATE}
 use Rattle.commit_journal.specs.declared.limits.TheConstants.{RECORD_FRAME, SIDE_FRAME}
 
 -- the name of the format
@@ -15,23 +17,19 @@ pub record Head : Type 0 where
   -- empty for the initial state
   pub snapshot : List ℕ
 
--- a text is its length in four bytes, and its bytes
-abbrev pub text : List ℕ → List ℕ
-text bytes = to_le_bytes w32 (length bytes) ++ bytes
-
--- a record is an open gate and the payload as a text
+-- a record is an open gate and the payload, its count first
 abbrev pub recorded : List ℕ → List ℕ
-recorded payload = 1 ∷ text payload
+recorded payload = OPEN_GATE ∷ spelled_bytes payload
 
 -- what stands between the first gate and the first record's
 abbrev pub header : Head → List ℕ
-header head = magic ++ (to_le_bytes w64 head.generation ++ (text head.deployment ++ text head.snapshot))
+header head = magic ++ (spelled_u64 head.generation ++ (spelled_bytes head.deployment ++ spelled_bytes head.snapshot))
 
 -- a side as far as its last gate
 abbrev pub spelled : Head → List (List ℕ) → List ℕ
-spelled head payloads = 1 ∷ (header head ++ flat_map recorded payloads)
+spelled head payloads = OPEN_GATE ∷ (header head ++ flat_map recorded payloads)
 
--- a text that has a spelling: its length is a number of 32 bits
+-- bytes that can be counted: their count is a number of 32 bits
 abbrev pub FitsText : List ℕ → Type 0
 FitsText bytes = length bytes < 2 ^ 32
 

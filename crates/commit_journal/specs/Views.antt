@@ -2,8 +2,10 @@
 use Rattle.std.specs.Prelude.{◌≡◌, ◌≢◌, ◌⊎◌, ℕ, ◌+◌, List, [], ◌∷◌, length, map, Option, Some, None, Result, Ok, Err, Vec}
 use Rattle.std.specs.declared.alloc.Global.{Global}
 use denote.Ref.{Bor}
+use Rattle.slee_value.specs.declared.reading.TheConstants.{COUNT_LEN}
 use Rattle.slee_disk.specs.declared.side.Side.{Side}
 use Rattle.slee_disk.specs.declared.side.Side.TheVariants.{A, B}
+use Rattle.commit_journal.specs.declared.gate.TheConstants.{OPEN_GATE}
 use Rattle.commit_journal.specs.declared.fault.JournalBad.{JournalBad}
 use Rattle.commit_journal.specs.declared.fault.JournalBad.TheVariants as kinds
 use Rattle.commit_journal.specs.declared.fault.JournalFault.{JournalFault}
@@ -60,10 +62,10 @@ Picks (Some side) chosen = chosen ≡ Counts side
 
 -- what stands at a gate
 abbrev pub AtGate : Behind → List ℕ → Type 0
-AtGate behinds.Nothing bytes = (behind : List ℕ) → bytes ≢ 1 ∷ behind
-AtGate behinds.Short bytes = (behind : List ℕ) × (bytes ≡ 1 ∷ behind) × (payload_at behind ≡ None)
+AtGate behinds.Nothing bytes = (behind : List ℕ) → bytes ≢ OPEN_GATE ∷ behind
+AtGate behinds.Short bytes = (behind : List ℕ) × (bytes ≡ OPEN_GATE ∷ behind) × (payload_at behind ≡ None)
 AtGate (behinds.One payload after) bytes =
-    (behind : List ℕ) × (bytes ≡ 1 ∷ behind) × (payload_at behind ≡ Some (payload.now, after.now)) × (length payload.now + length after.now + 4 ≡ length behind)
+    (behind : List ℕ) × (bytes ≡ OPEN_GATE ∷ behind) × (payload_at behind ≡ Some (payload.now, after.now)) × (length payload.now + length after.now + COUNT_LEN ≡ length behind)
 
 -- the front of a side
 abbrev pub front_on : Side → Front → Front → Front

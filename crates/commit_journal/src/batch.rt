@@ -4,7 +4,8 @@ ghost use Rattle.std.specs.List.{AllByRecursion};
 ghost use Rattle.commit_journal.specs.Spelling.{FitsText, records_size};
 ghost use Rattle.commit_journal.specs.Kept.{batched};
 
-use slee_value::NoMemory;
+use crate::gate::{CLOSED_GATE, OPEN_GATE};
+use slee_value::{NoMemory, write_bytes};
 use std::alloc::Global;
 use std::marker::Model;
 
@@ -31,7 +32,7 @@ impl Batch {
         ensures { IfOk result (λ batch. batch ≡ []) }
     {
         let mut bytes = Vec::new(alloc);
-        bytes.push(0)?;
+        bytes.push(CLOSED_GATE)?;
         Ok(Batch { bytes })
     }
 
@@ -51,7 +52,7 @@ impl Batch {
 
     /// What stands behind the gate before the batch, once this is open.
     pub(crate) fn behind(&self) -> &[u8]
-        ensures behind { self.now ≢ [] → 1 ∷ result.now ≡ batched self.now }
+        ensures behind { self.now ≢ [] → OPEN_GATE ∷ result.now ≡ batched self.now }
         ensures size { length result.now ≡ records_size self.now }
         ensures fits { AllByRecursion FitsText self.now }
     {
@@ -65,11 +66,11 @@ impl Batch {
         ensures err { OnErr result (self.new ≡ self.old) }
     {
         let gate = self.bytes.len() - 1;
-        let mut piece = Vec::from_slice(alloc, &(payload.len() as u32).to_le_bytes())?;
-        piece.extend_from_slice(payload)?;
-        piece.push(0)?;
+        let mut piece = Vec::new(alloc);
+        write_bytes(payload, &mut piece)?;
+        piece.push(CLOSED_GATE)?;
         self.bytes.extend_from_slice(&piece)?;
-        self.bytes[gate] = 1;
+        self.bytes[gate] = OPEN_GATE;
         Ok(())
     }
 
@@ -77,6 +78,6 @@ impl Batch {
         ensures { self.new ≡ [] }
     {
         self.bytes.truncate(1);
-        self.bytes[0] = 0;
+        self.bytes[0] = CLOSED_GATE;
     }
 }

@@ -8,7 +8,7 @@ ghost use Rattle.commit_journal.specs.Blank.{IsBlankOn, BlankBeside, IsOneShut, 
 ghost use Rattle.commit_journal.specs.Rewriting.{IsRewritten};
 ghost use Rattle.commit_journal.specs.Settling.{SettlesSide};
 
-use crate::gate::open_gate;
+use crate::gate::{CLOSED_GATE, OPEN_GATE, open_gate};
 use crate::reading::other_of;
 use slee_disk::{Disk, Failed, Side};
 
@@ -21,12 +21,12 @@ fn close_side<D: Disk>(disk: &mut D, side: Side) -> Result<(), Failed>
     ensures rising { (D.disk disk.old).faults ≤ (D.disk disk.new).faults }
     ensures cause { IsErr result → Rose (D.disk disk.old).faults (D.disk disk.new).faults }
 {
-    let mut first = [0u8; 1];
+    let mut first = [CLOSED_GATE; 1];
     disk.read(side, 0, &mut first)?;
-    if first[0] != 1 {
+    if first[0] != OPEN_GATE {
         return Ok(());
     }
-    disk.write_at(side, 0, &[0])?;
+    disk.write_at(side, 0, &[CLOSED_GATE])?;
     disk.sync(side)
 }
 
@@ -44,10 +44,10 @@ fn shut_gate<D: Disk>(disk: &mut D, side: Side) -> Result<(), Failed>
     if length > 1 {
         return disk.cut(side, 1);
     }
-    let mut first = [1u8; 1];
+    let mut first = [OPEN_GATE; 1];
     disk.read(side, 0, &mut first)?;
-    if first[0] == 1 {
-        return disk.write_at(side, 0, &[0]);
+    if first[0] == OPEN_GATE {
+        return disk.write_at(side, 0, &[CLOSED_GATE]);
     }
     Ok(())
 }

@@ -8,6 +8,12 @@ ghost use Rattle.commit_journal.specs.Settling.{SettlesSide};
 
 use slee_disk::{Disk, Failed, Side};
 
+/// The byte of an open gate. A gate of any other byte is closed.
+pub(crate) const OPEN_GATE: u8 = 1;
+
+/// The byte that is written for a closed gate.
+pub(crate) const CLOSED_GATE: u8 = 0;
+
 /// Writes bytes behind the closed gate that ends a side, and then opens the gate.
 pub(crate) fn open_gate<D: Disk>(
     disk: &mut D,
@@ -28,6 +34,6 @@ pub(crate) fn open_gate<D: Disk>(
 {
     disk.write_at(side, at + 1, bytes)?;
     disk.sync(side)?;
-    disk.write_at(side, at, &[1])?;
+    disk.write_at(side, at, &[OPEN_GATE])?;
     disk.sync(side) // From here on it counts.
 }

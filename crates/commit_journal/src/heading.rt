@@ -1,23 +1,14 @@
 // The header of a side that is written anew.
 ghost use Rattle.std.specs.Prelude.{◌≡◌, ◌<◌, ◌≤◌, ◌+◌, ◌^◌, [], ◌∷◌, ◌++◌, length, IfOk, IfErr, OnOk, IsErrOf};
-ghost use Rattle.commit_journal.specs.Spelling.{FitsText, text as text_of, header, size};
+ghost use Rattle.commit_journal.specs.Spelling.{FitsText, header, size};
 ghost use Rattle.commit_journal.specs.Journal.{IsTooLarge};
 
 use crate::BeginFault;
+use crate::gate::CLOSED_GATE;
 use crate::limits::{SIDE_FRAME, SIDE_LIMIT};
 use crate::reading::MAGIC;
-use slee_value::NoMemory;
+use slee_value::{NoMemory, write_bytes, write_u64};
 use std::alloc::Global;
-
-/// Adds a text: its length and its bytes.
-fn push_text(bytes: &mut Vec<u8>, text: &[u8]) -> Result<(), NoMemory>
-    requires { FitsText text.now }
-    ensures { OnOk result (bytes.new.items ≡ bytes.old.items ++ text_of text.now) }
-{
-    bytes.extend_from_slice(&(text.len() as u32).to_le_bytes())?;
-    bytes.extend_from_slice(text)?;
-    Ok(())
-}
 
 /// All that stands behind the first gate of a side without records.
 fn header_bytes(
@@ -28,13 +19,13 @@ fn header_bytes(
 ) -> Result<Vec<u8>, NoMemory>
     requires deployment { FitsText deployment.now }
     requires snapshot { FitsText snapshot.now }
-    ensures { IfOk result (λ v. v.items ≡ header (record { generation = generation; deployment = deployment.now; snapshot = snapshot.now }) ++ 0 ∷ []) }
+    ensures { IfOk result (λ v. v.items ≡ header (record { generation = generation; deployment = deployment.now; snapshot = snapshot.now }) ++ CLOSED_GATE ∷ []) }
 {
     let mut bytes = Vec::from_slice(alloc, &MAGIC)?;
-    bytes.extend_from_slice(&generation.to_le_bytes())?;
-    push_text(&mut bytes, deployment)?;
-    push_text(&mut bytes, snapshot)?;
-    bytes.push(0)?;
+    write_u64(generation, &mut bytes)?;
+    write_bytes(deployment, &mut bytes)?;
+    write_bytes(snapshot, &mut bytes)?;
+    bytes.push(CLOSED_GATE)?;
     Ok(bytes)
 }
 
@@ -49,7 +40,7 @@ pub(crate) fn header_within(
 ) -> Result<Vec<u8>, BeginFault>
     requires limit { limit ≤ SIDE_LIMIT }
     requires sized { length deployment.now + 64 < 2 ^ 63 }
-    ensures bytes { IfOk result (λ v. v.items ≡ header (record { generation = generation; deployment = deployment.now; snapshot = snapshot.now }) ++ 0 ∷ []) }
+    ensures bytes { IfOk result (λ v. v.items ≡ header (record { generation = generation; deployment = deployment.now; snapshot = snapshot.now }) ++ CLOSED_GATE ∷ []) }
     ensures fits { OnOk result (size (record { generation = generation; deployment = deployment.now; snapshot = snapshot.now }) [] ≤ limit) }
     ensures refused { IfErr result (λ fault. IsTooLarge (size (record { generation = generation; deployment = deployment.now; snapshot = snapshot.now }) []) limit fault) }
     ensures no_device { IsErrOf result BeginFault.DiskFault → ⊥ }

@@ -2,6 +2,7 @@ ghost use Rattle.std.specs.Prelude.{◌≡◌, ◌≢◌, ◌⊎◌, ◌<◌, �
 
 use crate::batch::Batch;
 use crate::blank::{rewrite_side, write_side};
+use crate::gate::CLOSED_GATE;
 use crate::heading::header_within;
 use crate::limits::{PAYLOAD_LIMIT, RECORD_FRAME, SIDE_LIMIT};
 use crate::reading::{next_of, other_of};
@@ -54,7 +55,7 @@ impl<D: Disk> Journal<D> {
     ghost use Rattle.slee_disk.specs.Disk.{LeavesOnly, Looks, is_clean};
     ghost use Rattle.commit_journal.specs.declared.stage.Stage.TheVariants.{Ready, Stopped};
     ghost use Rattle.commit_journal.specs.declared.stage.Stage.TheVariants as stages;
-    ghost use Rattle.commit_journal.specs.Spelling.{header, records_size, size};
+    ghost use Rattle.commit_journal.specs.Spelling.{header, size};
     ghost use Rattle.commit_journal.specs.Reading.{first_gate, recovered};
     ghost use Rattle.commit_journal.specs.Kept.{IsWhole, with_more, Keeps, Stands, StandsOrMore, StandsOrBegun, side_renewed, generation_renewed, renewed, StandsOrRenewed};
     ghost use Rattle.commit_journal.specs.Renewal.{LeavesRenewed};
@@ -132,13 +133,6 @@ impl<D: Disk> Journal<D> {
             → length (on self.now.kept.side (D.disk self.now.disk).seen) ≡ size self.now.kept.head self.now.kept.payloads }
     {
         self.side
-    }
-
-    /// How many bytes the records of the batch have.
-    pub fn batch(&self) -> u64
-        ensures { result ≡ records_size self.now.batch }
-    {
-        self.batch.size()
     }
 
     /// Makes it ready for payloads: writes the header of a blank journal, or cuts what stands behind the last gate. It makes
@@ -222,6 +216,13 @@ impl<D: Disk> Journal<D> {
         Ok(())
     }
 
+    /// Lets the batch go, unwritten.
+    pub fn discard(&mut self)
+        ensures { self.new ≡ record self.old { batch = [] } }
+    {
+        self.batch.clear();
+    }
+
     /// Writes the batch. At `Ok` it is acknowledged. It makes four calls of the disk, however many payloads there are.
     pub fn flush(&mut self) -> Result<(), Failed>
         requires { self.old.stage ≢ Stopped }
@@ -286,7 +287,7 @@ impl<D: Disk> Journal<D> {
     fn switch(&mut self, snapshot: Blob, bytes: &[u8]) -> Result<u64, BeginFault>
         requires running { self.old.stage ≢ Stopped }
         requires empty { self.old.batch ≡ [] }
-        requires bytes { bytes.now ≡ header (renewed self.old.stage self.old.kept snapshot).head ++ 0 ∷ [] }
+        requires bytes { bytes.now ≡ header (renewed self.old.stage self.old.kept snapshot).head ++ CLOSED_GATE ∷ [] }
         requires fits { size (renewed self.old.stage self.old.kept snapshot).head [] ≤ self.old.limit }
         ensures ok { IsTrue (D.disk self.old.disk).told → OnOk result
             (self.new ≡ record self.old { disk = self.new.disk; stage = Ready; kept = renewed self.old.stage self.old.kept snapshot }) }

@@ -1,14 +1,15 @@
 // What the bytes of a side stand for.
 ghost use Rattle.std.specs.Prelude.{◌≡◌, ◌≤◌, ◌<◌, ◌+◌, ◌-◌, ◌^◌, length, map, Some, Ok, IfSome, IfOk, IfErr, IsErrOf};
 ghost use Rattle.slee_disk.specs.Sides.{other};
-ghost use Rattle.commit_journal.specs.Reading.{number_at, text_at, magic_at, header_at, payload_at, payloads_of, front, next, by_generations, first_difference};
+ghost use Rattle.commit_journal.specs.Reading.{magic_at, header_at, payload_at, payloads_of, front, next, by_generations, first_difference};
 ghost use Rattle.commit_journal.specs.Views.{Reads, head_view, front_view, GivesRecords, AtGate, Chooses, Picks};
 
 use crate::fault::JournalBad;
+use crate::gate::OPEN_GATE;
 use crate::limits::RECORD_FRAME;
 use crate::record::{Record, RecordsFault};
 use slee_disk::Side;
-use slee_value::Blob;
+use slee_value::{Blob, COUNT_LEN, read_bytes, read_u64};
 use std::alloc::Global;
 
 /// The name of the format.
@@ -31,27 +32,6 @@ pub(crate) struct Heading<'a> {
     pub snapshot: &'a [u8],
 }
 
-#[tactic(auto, unfolding(crate::specs::Reading::number_at))]
-fn number_of(bytes: &[u8]) -> Option<(u64, &[u8])>
-    ensures { Reads (λ x. (x.0, x.1.now)) result (number_at bytes.now) }
-{
-    let (number, rest) = bytes.split_first_chunk::<8>()?;
-    Some((u64::from_le_bytes(*number), rest))
-}
-
-#[tactic(auto, unfolding(crate::specs::Reading::text_at))]
-fn text_of(bytes: &[u8]) -> Option<(&[u8], &[u8])>
-    ensures found { Reads (λ x. (x.0.now, x.1.now)) result (text_at bytes.now) }
-    ensures size { IfSome result (λ x. length x.0.now + length x.1.now + 4 ≡ length bytes.now) }
-{
-    let (count, rest) = bytes.split_first_chunk::<4>()?;
-    let count = u32::from_le_bytes(*count) as usize;
-    if rest.len() < count {
-        return None;
-    }
-    Some(rest.split_at(count))
-}
-
 #[tactic(auto, unfolding(crate::specs::Reading::magic_at))]
 fn named(bytes: &[u8]) -> Option<&[u8]>
     ensures { Reads (λ x. x.now) result (magic_at bytes.now) }
@@ -62,9 +42,9 @@ fn named(bytes: &[u8]) -> Option<&[u8]>
 #[tactic(auto, unfolding(crate::specs::Reading::payload_at))]
 fn payload_of(bytes: &[u8]) -> Option<(&[u8], &[u8])>
     ensures found { Reads (λ x. (x.0.now, x.1.now)) result (payload_at bytes.now) }
-    ensures size { IfSome result (λ x. length x.0.now + length x.1.now + 4 ≡ length bytes.now) }
+    ensures size { IfSome result (λ x. length x.0.now + length x.1.now + COUNT_LEN ≡ length bytes.now) }
 {
-    let (payload, rest) = text_of(bytes)?;
+    let (payload, rest) = read_bytes(bytes).ok()?;
     match rest {
         [] => None,
         [_, ..] => Some((payload, rest)),
@@ -76,9 +56,9 @@ fn header_of(bytes: &[u8]) -> Option<(Heading<'_>, &[u8])>
     ensures { Reads (λ x. (head_view x.0, x.1.now)) result (header_at bytes.now) }
 {
     let rest = named(bytes)?;
-    let (generation, rest) = number_of(rest)?;
-    let (deployment, rest) = text_of(rest)?;
-    let (snapshot, rest) = text_of(rest)?;
+    let (generation, rest) = read_u64(rest).ok()?;
+    let (deployment, rest) = read_bytes(rest).ok()?;
+    let (snapshot, rest) = read_bytes(rest).ok()?;
     let heading = Heading {
         generation,
         deployment,
@@ -95,7 +75,7 @@ fn front_of(bytes: &[u8]) -> Begins<'_>
     ensures { front_view result ≡ front bytes.now }
 {
     match bytes {
-        [1, rest @ ..] if !rest.is_empty() => match header_of(rest) {
+        [OPEN_GATE, rest @ ..] if !rest.is_empty() => match header_of(rest) {
             Some((heading, rest)) => Begins::Header(heading, rest),
             None => Begins::NoHeader,
         },
@@ -117,7 +97,7 @@ fn behind_gate(bytes: &[u8]) -> Behind<'_>
     let Some((gate, behind)) = bytes.split_first() else {
         return Behind::Nothing;
     };
-    if *gate != 1 {
+    if *gate != OPEN_GATE {
         return Behind::Nothing;
     }
     match payload_of(behind) {

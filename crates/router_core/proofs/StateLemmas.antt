@@ -1,5 +1,5 @@
 -- A list of changes that is made one by one, and the state at the start.
-use Rattle.std.proofs.Common.{◌≡◌, ℕ, ◌+◌, ◌^◌, ◌<◌, true, Option, Some, None, IfSome, List, ◌∷◌, length, sym, ◌∙◌, ap, subst, add-one, arith}
+use Rattle.std.proofs.Common.{◌≡◌, ℕ, ◌+◌, ◌^◌, ◌<◌, ◌≤◌, true, List, ◌∷◌, length, sym, ◌∙◌, ap, subst, add-one, arith}
 use Rattle.router_model.specs.State.{Parts, initial}
 use Rattle.router_model.specs.Changes.{after_change, after_changes}
 use Rattle.router_model.specs.declared.change.Change.{Change}
@@ -7,11 +7,10 @@ use Rattle.router_stores.specs.Views.{StoresView}
 use Rattle.router_stores.specs.Room.{HasRoom, HasNumbers}
 use Rattle.router_stores.proofs.RoomLemmas.{numbers_after}
 use Rattle.trace_history.specs.declared.choice.Choice.{Choice}
-use Rattle.router_rules.specs.Step.{is_enabled, is_choice, is_next}
-use Rattle.router_rules.specs.History.{least_choice}
-use Rattle.router_rules.proofs.HistoryLemmas.{least_offered}
+use Rattle.router_rules.specs.Step.{is_enabled, is_choice}
+use Rattle.router_rules.specs.Payload.{payload}
 use Rattle.router_rules.specs.Well.{IsWell}
-use Rattle.router_rules.proofs.StepLemmas.{initial_well, enabled_fresh, after_well}
+use Rattle.router_rules.proofs.StepLemmas.{initial_well, enabled_fresh, after_well, payload_fits}
 use Rattle.router_core.specs.Plans.{AllFit, PlanView, IsPlanOf}
 
 pub starts_well : (s : Parts) → s ≡ initial → IsWell s
@@ -51,12 +50,6 @@ planned_well s u t c plan ds is w made same after_is =
     let here : IsPlanOf s c plan = subst (λ (p : Parts). IsPlanOf p c plan) (sym is) made in
     subst IsWell (sym (after_is ∙ ap (λ (xs : List Change). after_changes xs s) same ∙ here.state)) (after_well s c here.valid here.enabled w)
 
--- the choice of the least activity
-
-pub least_valid : (s : Parts) (found : Option Choice) → found ≡ least_choice s → IfSome found (λ c. is_choice c ≡ true)
-least_valid s None is = tt
-least_valid s (Some c) is = (least_offered s c (sym is)).valid
-
-pub least_next : (s : Parts) (found : Option Choice) → found ≡ least_choice s → IfSome found (λ c. is_next s c ≡ true)
-least_next s None is = tt
-least_next s (Some c) is = (least_offered s c (sym is)).next
+-- what the journal keeps of a step is short
+pub short_payload : (s : Parts) (c : Choice) (bytes : List ℕ) → IsWell s → is_choice c ≡ true → bytes ≡ payload s c → length bytes ≤ 65536
+short_payload s c bytes well valid is = subst (λ (b : List ℕ). length b ≤ 65536) (sym is) (payload_fits s c well valid)

@@ -5,9 +5,8 @@ ghost use Rattle.router_model.specs.Activities.{links_on, is_delivered};
 ghost use Rattle.router_model.specs.Paths.{entity_at};
 ghost use Rattle.router_rules.specs.BuiltIn.{handles, is_initial};
 ghost use Rattle.router_rules.specs.Selection.{is_active_state, is_active, fits_target, is_due, due_service, first, next_for, next};
-ghost use Rattle.router_rules.specs.Step.{choice_on, is_enabled, is_next, is_initial_next, is_deliver_next, is_finish_next};
+ghost use Rattle.router_rules.specs.Step.{is_enabled, is_next, is_initial_next, is_deliver_next, is_finish_next};
 ghost use Rattle.router_rules.specs.declared.kindred.Kindred.TheVariants as kindreds;
-ghost use Rattle.router_rules.specs.History.{choice_at, least_choice};
 ghost use Rattle.router_rules.specs.Well.{IsWell};
 
 use crate::built_in::{PREPAID, handles, is_initial};
@@ -16,17 +15,6 @@ use router_rules::Kindred;
 use router_stores::Stores;
 use slee_value::{ActivityId, EntityId};
 use trace_history::Choice;
-
-/// The choice of this kind on an activity.
-pub fn choice_on(activity: ActivityId, kindred: Kindred) -> Choice
-    ensures { result ≡ choice_on activity.0 kindred }
-{
-    match kindred {
-        Kindred::Initial => Choice::Initial(activity),
-        Kindred::Deliver => Choice::Deliver(activity),
-        Kindred::Finish => Choice::Finish(activity),
-    }
-}
 
 /// Whether the state is used up.
 pub fn is_used_up(stores: &Stores) -> bool
@@ -138,16 +126,6 @@ pub fn next(stores: &Stores, activity: ActivityId) -> Option<Kindred>
         Some(event) => Some(next_for(stores, activity, event)),
         None => None,
     }
-}
-
-/// The choice that is next on the least activity that has one.
-pub fn least_choice(stores: &Stores) -> Option<Choice>
-    requires { IsWell stores.now.parts }
-    ensures { result ≡ least_choice stores.now.parts }
-{
-    let activity = stores.least_waiting()?;
-    let kindred = next(stores, activity)?;
-    Some(choice_on(activity, kindred))
 }
 
 fn is_same(found: Option<Kindred>, kindred: Kindred) -> bool

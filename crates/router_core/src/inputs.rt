@@ -54,6 +54,7 @@ impl Inputs {
         ensures none { IsNone result → list_all is_routed signals ≡ false }
         ensures some { IfSome result (λ inputs. inputs ≡ signals) }
         ensures taken { IfSome result (λ inputs. IsTrue (list_all is_routed signals)) }
+        ensures valid { IfSome result (λ inputs. IsTrue (list_all is_input inputs)) }
     {
         if are_routed(signals.as_slice()) {
             Some(Inputs { signals })

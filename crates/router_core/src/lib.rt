@@ -16,8 +16,8 @@ mod state;
 mod taking;
 mod telling;
 
-pub use choosing::choice_on;
 pub use inputs::Inputs;
+pub use keeping::PAYLOAD_LIMIT;
 pub use plan::Plan;
 pub use reading::choice_in;
 pub use state::State;

@@ -1,14 +1,14 @@
 //! The state of the router.
-ghost use Rattle.std.specs.Prelude.{◌≡◌, ◌++◌, ◌^◌, ◌<◌, OnOk, OnErr, IfOk, IfSome, IsTrue, length, option_copied};
+ghost use Rattle.std.specs.Prelude.{◌≡◌, ◌++◌, ◌^◌, ◌<◌, ◌≤◌, OnOk, OnErr, IfOk, IsTrue, length, option_copied};
 ghost use Rattle.router_model.specs.State.{initial, is_used_up};
 ghost use Rattle.router_model.specs.Changes.{after_changes};
 ghost use Rattle.router_rules.specs.Selection.{first, next};
 ghost use Rattle.router_model.specs.Activities.{front};
-ghost use Rattle.router_rules.specs.History.{least_choice};
-ghost use Rattle.router_rules.specs.Step.{after, is_choice, is_enabled, is_next, step_entry};
+ghost use Rattle.router_rules.specs.Step.{after, is_choice, is_enabled, step_entry};
 ghost use Rattle.router_rules.specs.Show.{show_text};
 ghost use Rattle.router_rules.specs.Well.{IsWell};
 ghost use Rattle.router_stores.specs.Room.{HasRoom, HasNumbers};
+ghost use Rattle.router_core.specs.declared.keeping.TheConstants.{PAYLOAD_LIMIT};
 ghost use Rattle.router_core.specs.Plans.{AllFit, IsPlanOf, HasRoomFor};
 
 use crate::{Plan, choosing, closing, drafting, keeping, showing};
@@ -59,13 +59,6 @@ impl State {
         Ok(State { stores })
     }
 
-    /// Passes on that the state is well formed.
-    pub fn well_formed(&self)
-        ensures { IsWell self.now.parts }
-    {
-        let _stores = &self.stores;
-    }
-
     /// Whether a count has come too far for another step.
     pub fn used_up(&self) -> bool
         ensures { result ≡ is_used_up self.now.parts }
@@ -87,16 +80,6 @@ impl State {
         choosing::next(&self.stores, activity)
     }
 
-    /// The choice that is next on the least activity that has one.
-    #[tactic(auto, using(crate::proofs::StateLemmas::least_valid, crate::proofs::StateLemmas::least_next))]
-    pub fn next_choice(&self) -> Option<Choice>
-        ensures least { result ≡ least_choice self.now.parts }
-        ensures valid { IfSome result (λ choice. IsTrue (is_choice choice)) }
-        ensures next { IfSome result (λ choice. IsTrue (is_next self.now.parts choice)) }
-    {
-        choosing::least_choice(&self.stores)
-    }
-
     /// Whether the choice may be made.
     pub fn is_enabled(&self, choice: &Choice) -> bool
         ensures { result ≡ is_enabled self.now.parts choice.now }
@@ -105,10 +88,12 @@ impl State {
     }
 
     /// Plans the choice: what it changes, what it tells and what the journal is to keep of it. The state stays as it is.
+    #[tactic(auto, using(crate::proofs::StateLemmas::short_payload))]
     pub fn plan(&self, alloc: Global, choice: Choice) -> Result<Plan, NoMemory>
         requires valid { IsTrue (is_choice choice) }
         requires enabled { IsTrue (is_enabled self.now.parts choice) }
-        ensures { IfOk result (λ plan. IsPlanOf self.now.parts choice plan) }
+        ensures made { IfOk result (λ plan. IsPlanOf self.now.parts choice plan) }
+        ensures short { IfOk result (λ plan. length plan.payload ≤ PAYLOAD_LIMIT) }
     {
         let mut draft = drafting::draft(alloc, &self.stores, &choice)?;
         closing::close(alloc, &self.stores, &choice, &mut draft)?;

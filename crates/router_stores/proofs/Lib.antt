@@ -1,6 +1,5 @@
 pub mod QueueLemmas
 pub mod RoomLemmas
-pub mod LeastLemmas
 pub mod LinkLemmas
 pub mod NameLemmas
 pub mod HalvingLemmas

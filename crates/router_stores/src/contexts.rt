@@ -1,5 +1,5 @@
 //! Rows of activities and of attachments.
-ghost use Rattle.std.specs.Prelude.{ℕ, ◌≡◌, ◌==◌, ◌&&◌, ◌<◌, ◌≤◌, ◌+◌, ◌-◌, map, length, nat_lt, nat_le, vec_capacity, vec_len, option_copied};
+ghost use Rattle.std.specs.Prelude.{ℕ, ◌≡◌, ◌==◌, ◌&&◌, ◌<◌, ◌≤◌, ◌+◌, ◌-◌, ◌^◌, map, length, nat_lt, nat_le, vec_capacity, vec_len, option_copied};
 ghost use Rattle.std.specs.List.{prefix_len};
 ghost use Rattle.router_model.specs.Activities.{is_linked, links_on};
 ghost use Rattle.router_model.specs.Trees.{links_of};
@@ -76,7 +76,8 @@ fn is_link(row: &Link, entity: EntityId, activity: ActivityId) -> bool
 /// Whether there is this attachment.
 pub fn has_link(rows: &[Link], entity: EntityId, activity: ActivityId) -> bool
     requires { AllInOrder IsLinkBefore rows.now }
-    ensures { result ≡ is_linked rows.now entity.0 activity.0 }
+    ensures linked { result ≡ is_linked rows.now entity.0 activity.0 }
+    ensures few { length rows.now < 2 ^ 63 }
 {
     match rows.get(link_place(rows, entity, activity)) {
         Some(row) => is_link(row, entity, activity),
@@ -135,7 +136,6 @@ pub fn count_link(counts: &mut Tally, rows: &[Link], entity: EntityId, activity:
     ensures counts { CountsLinks counts.new (with_link rows.now entity activity) }
     ensures room { spare counts.old ≤ spare counts.new + 1 }
 {
-    let _count = rows.len();
     if !has_link(rows, entity, activity) {
         tallies::raise(counts, entity.0);
     }

@@ -9,5 +9,4 @@ mod roots;
 mod stores;
 mod tallies;
 
-pub use queues::lesser_id;
 pub use stores::Stores;

@@ -82,7 +82,6 @@ pub fn add_name(names: &mut NameIndex, rows: &[Activity], kind: &AcKind, number:
     ensures names { (y : Activity) → y.kind ≡ kind.now → y.number.0 ≡ number → HasNames names.new (rows.now ++ y ∷ []) }
     ensures room { spare names.old ≤ spare names.new + 1 }
 {
-    let _count = rows.len();
     match kind {
         AcKind::External(name) => set_number(names, name, number),
         _ => {}

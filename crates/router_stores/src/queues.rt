@@ -1,6 +1,6 @@
 //! Rows of events that wait, and of the marks of front events.
-ghost use Rattle.std.specs.Prelude.{◌≡◌, ◌==◌, ◌≤◌, ◌-◌, vec_capacity, vec_len, option_copied, option_map, position};
-ghost use Rattle.router_model.specs.Activities.{front, is_done, is_delivered, is_untouched, lesser, least_waiting};
+ghost use Rattle.std.specs.Prelude.{◌≡◌, ◌==◌, ◌≤◌, ◌-◌, vec_capacity, vec_len, option_copied, position};
+ghost use Rattle.router_model.specs.Activities.{front, is_done, is_delivered, is_untouched};
 ghost use Rattle.router_model.specs.Changes.{without_front, without_services_done, without_delivered};
 
 use router_model::{EntityMark, Event, Queued, ServiceMark};
@@ -74,31 +74,4 @@ pub fn has_no_mark(marks: &[EntityMark], activity: ActivityId) -> bool
     ensures { result ≡ is_untouched marks.now activity.0 }
 {
     marks.iter().all(|m| m.activity.0 != activity.0)
-}
-
-/// The lesser of two activities, where there is another.
-pub fn lesser_id(activity: ActivityId, other: Option<ActivityId>) -> ActivityId
-    ensures { result.0 ≡ lesser activity.0 (option_map (λ a. a.0) other) }
-{
-    match other {
-        Some(other) => {
-            if other.0 < activity.0 {
-                other
-            } else {
-                activity
-            }
-        }
-        None => activity,
-    }
-}
-
-/// The least activity on which an event waits.
-pub fn least_in(events: &[Queued]) -> Option<ActivityId>
-    ensures { option_map (λ a. a.0) result ≡ least_waiting events.now }
-{
-    let mut least: Option<ActivityId> = None;
-    for q in events {
-        least = Some(lesser_id(q.activity, least));
-    }
-    least
 }

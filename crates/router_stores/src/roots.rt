@@ -1,5 +1,5 @@
 //! Roots, and the names by which selection finds them.
-ghost use Rattle.std.specs.Prelude.{◌<◌, ◌≤◌, ◌+◌, ◌++◌, ◌∷◌, [], ◌≡◌, option_copied, find, ◌&&◌};
+ghost use Rattle.std.specs.Prelude.{◌<◌, ◌≤◌, ◌+◌, ◌++◌, ◌∷◌, [], ◌≡◌, option_copied, find, ◌&&◌, ◌^◌, length};
 ghost use Rattle.router_model.specs.Trees.{number_of};
 ghost use Rattle.router_model.specs.Ordered.{Rises, named_entity};
 ghost use Rattle.router_model.specs.Changes.{without_root_name};
@@ -45,11 +45,11 @@ fn has_activity(name: &ConvName, activity: ActivityId) -> bool
 /// One more name is counted by its activity.
 pub fn count_name(counts: &mut Tally, names: &[RootName], name: &ConvName)
     requires room { 0 < spare counts.old }
+    requires few { length names.now < 2 ^ 63 }
     requires counts { CountsNames counts.old names.now }
     ensures counts { (y : RootName) → y.name ≡ name.now → CountsNames counts.new (names.now ++ y ∷ []) }
     ensures room { spare counts.old ≤ spare counts.new + 1 }
 {
-    let _count = names.len();
     match name.activity {
         Some(activity) => tallies::raise(counts, activity.0),
         None => {}

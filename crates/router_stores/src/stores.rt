@@ -1,12 +1,12 @@
 //! All lists of the state, its clock and its next numbers.
-ghost use Rattle.std.specs.Prelude.{◌≡◌, ◌+◌, ◌^◌, ◌<◌, ◌≤◌, ℕ, OnOk, IfOk, length, option_copied, option_map};
+ghost use Rattle.std.specs.Prelude.{◌≡◌, ◌+◌, ◌^◌, ◌<◌, ◌≤◌, ℕ, OnOk, IfOk, length, option_copied};
 ghost use Rattle.router_model.specs.State.{initial};
-ghost use Rattle.router_model.specs.Activities.{activity_at, external, is_linked, links_on, front, is_done, is_delivered, is_untouched, least_waiting};
+ghost use Rattle.router_model.specs.Activities.{activity_at, external, is_linked, links_on, front, is_done, is_delivered, is_untouched};
 ghost use Rattle.router_model.specs.Trees.{links_of};
 ghost use Rattle.router_model.specs.Paths.{entity_at};
 ghost use Rattle.router_model.specs.Roots.{root_selected};
 ghost use Rattle.router_model.specs.Changes.{after_change};
-ghost use Rattle.router_model.specs.Ordered.{IsOrdered, FitsChange, FitsKind, AreBelow, named_entity};
+ghost use Rattle.router_model.specs.Ordered.{FitsChange, FitsKind, AreBelow, named_entity};
 ghost use Rattle.router_model.specs.declared.change.Change.TheVariants as changes;
 ghost use Rattle.router_stores.specs.Room.{HasRoom, HasNumbers};
 
@@ -94,13 +94,6 @@ impl Stores {
             services_done: Vec::new(alloc),
             delivered: Vec::new(alloc),
         })
-    }
-
-    /// Passes on that the lists are in order.
-    pub fn ordered(&self)
-        ensures { IsOrdered self.now.parts }
-    {
-        let _clock = self.clock;
     }
 
     /// Makes room for these changes, in each list for as many rows as there are changes.
@@ -466,12 +459,5 @@ impl Stores {
         ensures { result ≡ is_untouched self.now.parts.delivered activity.0 }
     {
         queues::has_no_mark(&self.delivered, activity)
-    }
-
-    /// The least activity on which an event waits.
-    pub fn least_waiting(&self) -> Option<ActivityId>
-        ensures { option_map (λ a. a.0) result ≡ least_waiting self.now.parts.events }
-    {
-        queues::least_in(&self.events)
     }
 }

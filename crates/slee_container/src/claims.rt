@@ -1,11 +1,10 @@
 //! Deliveries that are being prepared, and what is left to do beside them.
 ghost use Rattle.std.specs.Prelude.{◌≡◌, option_map, IfOk};
-ghost use Rattle.router_model.specs.Activities.{least_waiting};
+ghost use Rattle.router_model.specs.Activities.{lesser, least_waiting};
 ghost use Rattle.slee_container.specs.Container.{is_claimed, unclaimed, without_claim};
 
 use crate::Ticket;
 use router_model::{Entity, Event, Queued};
-use router_stores::lesser_id;
 use slee_value::{ActivityId, NoMemory};
 use std::alloc::Global;
 
@@ -14,6 +13,22 @@ pub(crate) fn is_claimed(claims: &[Ticket], activity: ActivityId) -> bool
     ensures { result ≡ is_claimed claims.now activity.0 }
 {
     claims.iter().any(|claim| claim.activity.0 == activity.0)
+}
+
+/// The lesser of two activities, where there is another.
+fn lesser_id(activity: ActivityId, other: Option<ActivityId>) -> ActivityId
+    ensures { result.0 ≡ lesser activity.0 (option_map (λ a. a.0) other) }
+{
+    match other {
+        Some(other) => {
+            if other.0 < activity.0 {
+                other
+            } else {
+                activity
+            }
+        }
+        None => activity,
+    }
 }
 
 /// The least activity on which an event waits and that isn't claimed.

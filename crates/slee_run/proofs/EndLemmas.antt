@@ -1,6 +1,6 @@
 -- How playing ends, as a status of a run.
 use Rattle.std.proofs.Common.{◌≡◌, ◌≢◌, ◌⊎◌, inl, inr, ℕ, zero, suc, ◌+◌, ◌-◌, ◌<◌, ◌≤◌, nat_le, Bool, true, false, if◌then◌else◌, List, [], ◌∷◌, ◌++◌, length, refl, sym, ◌∙◌, ap, subst, append-nil, Option, Some, None, Result, Ok, Err, IsErr, IfSome, MatchOption, is_some, option_map, not, OnOk, OnErr, arith}
-use Rattle.std.proofs.lemmas.Bool.{cases_Bool, le-leb}
+use Rattle.std.proofs.lemmas.Bool.{cases_Bool, le-leb, leb-true}
 use Rattle.std.proofs.lemmas.Bool.{and_parts}
 use Rattle.std.specs.Option.{option_map_or}
 use Rattle.std.specs.Io.KnownBytes.{Appends}
@@ -30,6 +30,13 @@ use Rattle.slee_run.specs.Headline.{signals_limit, lines_given, MayFollow, EndsO
 use Rattle.slee_run.specs.Opening.{journal_limit}
 use Rattle.slee_run.specs.Playing.{IsSpent, EndsAs, IsPlayed, status_after}
 use Rattle.slee_run.proofs.AdvanceLemmas.{some_least}
+use Rattle.slee_disk.specs.declared.reading.ReadFault.{ReadFault}
+use Rattle.slee_disk.specs.declared.reading.ReadFault.TheVariants as read_faults
+use Rattle.signal_script.specs.declared.fault.SignalFault.{SignalFault}
+use Rattle.signal_script.specs.Answers.{IsFaultOfText}
+use Rattle.slee_run.specs.Answers.{IsEarly, status_of_reading, status_of_lines}
+use Rattle.slee_run.specs.declared.status.Given.TheVariants as givens
+use Rattle.slee_run.specs.Headline.{IsRefused}
 use Rattle.slee_run.specs.declared.playing.End.{End}
 use Rattle.slee_run.specs.declared.playing.End.TheVariants as ends
 use Rattle.slee_run.specs.declared.status.Status.{Status}
@@ -243,3 +250,60 @@ pub bad_given : (base : Parts) (steps : ℕ) (bytes : List ℕ) (line : ℕ) (ki
 bad_given base steps bytes line kind short bad =
     let none : lines_given bytes ≡ None = rw (le-leb (length bytes) signals_limit short, bad) in
     rw none (refl, (short, bad))
+
+-- ---- signals that couldn't be read whole, and bytes that aren't lines
+
+no_source : (base : Parts) (steps : ℕ) (bytes : List ℕ) (given : Option (List Signal))
+    → MatchOption given ((◌≡◌ {A = List Entry} [] []) × IsRefused bytes statuses.ReadFault) (λ lines. EndsOn base steps lines [] statuses.ReadFault)
+no_source base steps bytes None = (refl, tt)
+no_source base steps bytes (Some lines) = refl
+
+no_memory : (base : Parts) (steps : ℕ) (bytes : List ℕ) (given : Option (List Signal))
+    → MatchOption given ((◌≡◌ {A = List Entry} [] []) × IsRefused bytes statuses.NoMemory) (λ lines. EndsOn base steps lines [] statuses.NoMemory)
+no_memory base steps bytes None = (refl, tt)
+no_memory base steps bytes (Some lines) = (lines, refl)
+
+too_many : (base : Parts) (steps : ℕ) (bytes : List ℕ) → signals_limit < length bytes → ComesOn base steps bytes [] (statuses.TooLarge givens.Signals)
+too_many base steps bytes large = elim (cases_Bool (nat_le (length bytes) signals_limit)) [
+  | inl within ↦ absurd (omega (arith, large, leb-true (length bytes) signals_limit within))
+  | inr above ↦ let none : lines_given bytes ≡ None = rw above in rw none (refl, (refl, large))
+]
+
+pub reading_refused : (told : Option (List ℕ)) (fault : ReadFault) → (fault ≡ read_faults.TooLarge → IfSome told (λ bytes. signals_limit < length bytes))
+    → IfSome told (λ bytes. (base : Parts) → (steps : ℕ) → ComesOn base steps bytes [] (status_of_reading fault))
+reading_refused None fault large = tt
+reading_refused (Some bytes) read_faults.Failed large = λ base steps. no_source base steps bytes (lines_given bytes)
+reading_refused (Some bytes) read_faults.TooLarge large = λ base steps. too_many base steps bytes (large refl)
+reading_refused (Some bytes) read_faults.NoMemory large = λ base steps. no_memory base steps bytes (lines_given bytes)
+
+pub reading_early : (fault : ReadFault) → IsEarly (status_of_reading fault)
+reading_early read_faults.Failed = tt
+reading_early read_faults.TooLarge = tt
+reading_early read_faults.NoMemory = tt
+
+pub reading_words : (fault : ReadFault) → status_of_reading fault ≢ statuses.BadWords
+reading_words read_faults.Failed is = cc
+reading_words read_faults.TooLarge is = cc
+reading_words read_faults.NoMemory is = cc
+
+pub reading_failed : (fault : ReadFault) → status_of_reading fault ≡ statuses.ReadFault → fault ≡ read_faults.Failed
+reading_failed read_faults.Failed is = refl
+reading_failed read_faults.TooLarge is = absurd (cc)
+reading_failed read_faults.NoMemory is = absurd (cc)
+
+pub reading_large : (fault : ReadFault) → status_of_reading fault ≡ statuses.TooLarge givens.Signals → fault ≡ read_faults.TooLarge
+reading_large read_faults.Failed is = absurd (cc)
+reading_large read_faults.TooLarge is = refl
+reading_large read_faults.NoMemory is = absurd (cc)
+
+pub lines_refused : (bytes : List ℕ) (fault : SignalFault) → length bytes ≤ signals_limit → IsFaultOfText bytes fault → (base : Parts) (steps : ℕ) → ComesOn base steps bytes [] (status_of_lines fault)
+lines_refused bytes (line_faults.At line kind) short bad base steps = bad_given base steps bytes line kind short bad
+lines_refused bytes line_faults.NoMemory short bad base steps = no_memory base steps bytes (lines_given bytes)
+
+pub lines_early : (fault : SignalFault) → IsEarly (status_of_lines fault)
+lines_early (line_faults.At line kind) = tt
+lines_early line_faults.NoMemory = tt
+
+pub lines_quiet : (fault : SignalFault) → (status_of_lines fault ≢ statuses.BadWords) × (status_of_lines fault ≢ statuses.ReadFault) × (status_of_lines fault ≢ statuses.TooLarge givens.Signals)
+lines_quiet (line_faults.At line kind) = ((λ is. cc), (λ is. cc), (λ is. cc))
+lines_quiet line_faults.NoMemory = ((λ is. cc), (λ is. cc), (λ is. cc))

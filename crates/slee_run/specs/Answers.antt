@@ -1,14 +1,20 @@
 -- What the parts of a run answer: what is said of the whole in Headline, but for the words.
 use Rattle.std.specs.Prelude.{◌≡◌, ◌≢◌, ◌⊎◌, ◌≤◌, ℕ, List, [], length, Option, IfSome}
 use Rattle.signal_script.specs.declared.signal.Signal.{Signal}
+use Rattle.signal_script.specs.declared.fault.SignalFault.{SignalFault}
+use Rattle.signal_script.specs.declared.fault.SignalFault.TheVariants as line_faults
+use Rattle.slee_disk.specs.declared.reading.ReadFault.{ReadFault}
+use Rattle.slee_disk.specs.declared.reading.ReadFault.TheVariants as read_faults
 use Rattle.slee_disk.specs.Disk.{DiskState}
 use Rattle.trace_history.specs.declared.entry.Entry.{Entry}
 use Rattle.router_model.specs.State.{Parts}
-use Rattle.slee_container.specs.declared.fault.OpenFault.{OpenFault}
-use Rattle.slee_container.specs.declared.fault.OpenFault.TheVariants as faults
+use Rattle.router_journal.specs.declared.fault.OpenFault.{OpenFault}
+use Rattle.router_journal.specs.declared.fault.OpenFault.TheVariants as faults
 use Rattle.slee_run.specs.Text.{output_text, shown_text}
 use Rattle.slee_run.specs.Headline.{IsHistory, EndsOn, ComesOn, IsByOne, IsByOneFrom, IsShownAt, IsWritten}
 use Rattle.slee_run.specs.Stops.{KeepsJournal}
+use Rattle.slee_run.specs.Status.{row_of, Time, Early, Refusing, Ending, DiskFailed, WantOfMemory, WritingFailed}
+use Rattle.slee_run.specs.declared.status.Given.TheVariants as givens
 use Rattle.slee_run.specs.declared.command.Command.{Command}
 use Rattle.slee_run.specs.declared.command.Command.TheVariants as commands
 use Rattle.slee_run.specs.declared.top.Form.{Form}
@@ -57,21 +63,28 @@ status_of (faults.OtherDeployment kept_len place) = statuses.OtherDeployment kep
 status_of (faults.Full size adding) = statuses.Full size adding
 status_of faults.NoMemory = statuses.NoMemory
 
+-- the status of signals that couldn't be read whole
+abbrev pub status_of_reading : ReadFault → Status
+status_of_reading read_faults.Failed = statuses.ReadFault
+status_of_reading read_faults.TooLarge = statuses.TooLarge givens.Signals
+status_of_reading read_faults.NoMemory = statuses.NoMemory
+
+-- the status of bytes that aren't lines
+abbrev pub status_of_lines : SignalFault → Status
+status_of_lines (line_faults.At line kind) = statuses.BadSignals line kind
+status_of_lines line_faults.NoMemory = statuses.NoMemory
+
 -- a status that comes before the journal is opened, or for want of memory
+abbrev pub IsEarlyOrWanting : Time → Type 0
+IsEarlyOrWanting Early = Unit {0}
+IsEarlyOrWanting (Refusing wrong) = ⊥
+IsEarlyOrWanting Ending = ⊥
+IsEarlyOrWanting DiskFailed = ⊥
+IsEarlyOrWanting WantOfMemory = Unit {0}
+IsEarlyOrWanting WritingFailed = ⊥
+
 abbrev pub IsEarly : Status → Type 0
-IsEarly statuses.Ok = ⊥
-IsEarly statuses.BadWords = Unit {0}
-IsEarly statuses.ReadFault = Unit {0}
-IsEarly statuses.WriteFault = ⊥
-IsEarly statuses.DiskFault = ⊥
-IsEarly (statuses.BadJournal side at kind) = ⊥
-IsEarly (statuses.OtherDeployment kept_len place) = ⊥
-IsEarly (statuses.Full size adding) = ⊥
-IsEarly (statuses.StepsSpent entries) = ⊥
-IsEarly statuses.NoMemory = Unit {0}
-IsEarly (statuses.BadSignals line kind) = Unit {0}
-IsEarly (statuses.TooLarge what) = Unit {0}
-IsEarly statuses.NotBuilt = Unit {0}
+IsEarly status = IsEarlyOrWanting (row_of status).time
 
 -- what was shown of a state, or memory ran out
 pub record IsShownAs (state : Parts) (before after : Option (List ℕ)) (status : Status) : Type 0 where

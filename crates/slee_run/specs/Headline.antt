@@ -10,6 +10,7 @@ use Rattle.signal_script.specs.declared.fault.SignalFault.{SignalFault}
 use Rattle.signal_script.specs.declared.fault.SignalFault.TheVariants as line_faults
 use Rattle.signal_script.specs.declared.signal.Signal.{Signal}
 use Rattle.slee_disk.specs.Disk.{DiskState}
+use Rattle.commit_journal.specs.declared.limits.TheConstants.{RECORD_FRAME}
 use Rattle.slee_disk.specs.Writes.{AppendsFront}
 use Rattle.trace_history.specs.Histories.{inputs_of, input_of}
 use Rattle.trace_history.specs.declared.choice.Choice.{Choice}
@@ -20,7 +21,7 @@ use Rattle.router_rules.specs.History.{Legal, replay, solo}
 use Rattle.router_rules.specs.Payload.{payload}
 use Rattle.router_rules.specs.Taking.{is_routed}
 use Rattle.slee_run.specs.Words.{command_of}
-use Rattle.slee_run.specs.Status.{status_line}
+use Rattle.slee_run.specs.Status.{row_of, status_line}
 use Rattle.slee_run.specs.Text.{output_text, shown_text}
 use Rattle.slee_run.specs.Opening.{journal_limit, found, IsGood}
 use Rattle.slee_run.specs.Stops.{KeepsJournal}
@@ -80,7 +81,7 @@ pub record IsFullOn (limit : ℕ) (base : Parts) (steps : ℕ) (lines : List Sig
   pub fewer : length history < steps
   pub choice : Choice
   pub may : MayFollow (replay base history) taken.0 choice
-  pub adds : adding ≡ 5 + length (payload (replay base history) choice)
+  pub adds : adding ≡ RECORD_FRAME + length (payload (replay base history) choice)
   pub above : limit < size + adding
 
 -- When a run on these lines, in so many entries at most, comes to a status, and what its history is then.
@@ -126,26 +127,19 @@ abbrev pub ComesOn : Parts → ℕ → List ℕ → List Entry → Status → Ty
 ComesOn base steps bytes history status =
     MatchOption (lines_given bytes) ((history ≡ []) × IsRefused bytes status) (λ lines. EndsOn base steps lines history status)
 
+-- a mark of the table
+abbrev pub Holds : Bool → Type 0
+Holds true = Unit {0}
+Holds false = ⊥
+
 -- when showing comes to a status
 abbrev pub IsShownAt : Status → Type 0
-IsShownAt statuses.Ok = Unit {0}
-IsShownAt statuses.BadWords = ⊥
-IsShownAt statuses.ReadFault = ⊥
-IsShownAt statuses.WriteFault = ⊥
-IsShownAt statuses.DiskFault = Unit {0}
-IsShownAt (statuses.BadJournal side at kind) = Unit {0}
-IsShownAt (statuses.OtherDeployment kept_len place) = Unit {0}
-IsShownAt (statuses.Full size adding) = ⊥
-IsShownAt (statuses.StepsSpent entries) = ⊥
-IsShownAt statuses.NoMemory = Unit {0}
-IsShownAt (statuses.BadSignals line kind) = ⊥
-IsShownAt (statuses.TooLarge what) = ⊥
-IsShownAt statuses.NotBuilt = ⊥
+IsShownAt status = Holds (row_of status).shown
 
 -- the record of the first of these entries adds so many bytes
 abbrev pub AddsFirst : Parts → ℕ → List Entry → Type 0
 AddsFirst s adding [] = ⊥
-AddsFirst s adding (e ∷ more) = adding ≡ 5 + length (payload s e.choice)
+AddsFirst s adding (e ∷ more) = adding ≡ RECORD_FRAME + length (payload s e.choice)
 
 -- With one worker a history is a front of that worker's run. It is all of it where the run is done or spent, and a record that
 -- has no room is that of the next entry.
@@ -227,16 +221,4 @@ IsShown words disk Faulted status =
 
 -- a status that doesn't follow from the words, the lines and the journal
 abbrev pub IsByFault : Status → Type 0
-IsByFault statuses.Ok = ⊥
-IsByFault statuses.BadWords = ⊥
-IsByFault statuses.ReadFault = Unit {0}
-IsByFault statuses.WriteFault = ⊥
-IsByFault statuses.DiskFault = Unit {0}
-IsByFault (statuses.BadJournal side at kind) = ⊥
-IsByFault (statuses.OtherDeployment kept_len place) = ⊥
-IsByFault (statuses.Full size adding) = ⊥
-IsByFault (statuses.StepsSpent entries) = ⊥
-IsByFault statuses.NoMemory = Unit {0}
-IsByFault (statuses.BadSignals line kind) = ⊥
-IsByFault (statuses.TooLarge what) = ⊥
-IsByFault statuses.NotBuilt = ⊥
+IsByFault status = Holds (row_of status).faulty

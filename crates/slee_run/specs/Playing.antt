@@ -1,5 +1,6 @@
 -- How playing goes on, and how it ends.
 use Rattle.std.specs.Prelude.{◌≡◌, ◌⊎◌, ℕ, ◌+◌, ◌≤◌, ◌<◌, Bool, true, false, IsTrue, is_some, List, [], ◌∷◌, ◌++◌, length, drop, Some, None, Option, Result, Ok, Err}
+use Rattle.commit_journal.specs.declared.limits.TheConstants.{RECORD_FRAME}
 use Rattle.signal_script.specs.declared.signal.Signal.{Signal}
 use Rattle.trace_history.specs.Histories.{input_of}
 use Rattle.trace_history.specs.declared.choice.Choice.{Choice}
@@ -8,11 +9,11 @@ use Rattle.router_model.specs.State.{Parts, is_used_up}
 use Rattle.router_rules.specs.Step.{after, step_entry}
 use Rattle.router_rules.specs.Payload.{payload}
 use Rattle.router_rules.specs.History.{replay, due, due_next, least_choice, IsSoFar}
-use Rattle.slee_container.specs.declared.fault.StepFault.{StepFault}
-use Rattle.slee_container.specs.declared.fault.StepFault.TheVariants as faults
-use Rattle.slee_container.specs.declared.fault.Stop.{Stop}
-use Rattle.slee_container.specs.declared.fault.Stop.TheVariants as stops
-use Rattle.slee_container.specs.Facts.{Origin, size_after, size_added, HasRoom}
+use Rattle.router_journal.specs.declared.fault.StepFault.{StepFault}
+use Rattle.router_journal.specs.declared.fault.StepFault.TheVariants as faults
+use Rattle.router_journal.specs.declared.fault.Stop.{Stop}
+use Rattle.router_journal.specs.declared.fault.Stop.TheVariants as stops
+use Rattle.router_journal.specs.Facts.{Origin, size_after, size_added, HasRoom}
 use Rattle.slee_container.specs.Container.{View, is_spent}
 use Rattle.slee_run.specs.declared.playing.End.{End}
 use Rattle.slee_run.specs.declared.playing.End.TheVariants as ends
@@ -77,7 +78,7 @@ pub record NextHasNoRoom (limit : ℕ) (base : Parts) (steps : ℕ) (history : L
   pub choice : Choice
   pub more : List Signal
   pub next : due (replay base history) left ≡ Some (choice, more)
-  pub adds : adding ≡ 5 + length (payload (replay base history) choice)
+  pub adds : adding ≡ RECORD_FRAME + length (payload (replay base history) choice)
   pub above : limit < size + adding
 
 -- how playing ends: done, where no line is left and no choice is enabled; spent, where the run may go no further; full, where

@@ -1,30 +1,15 @@
--- What is said of a status.
-use Rattle.std.specs.Prelude.{ℕ, List, [], ◌++◌, codes, decimal}
+-- The statuses, in one table: the number and the line of each, when it comes, and whether it is a fault.
+use Rattle.std.specs.Prelude.{ℕ, Bool, true, false, List, [], ◌++◌, codes, decimal}
 use Rattle.slee_disk.specs.declared.side.Side.{Side}
 use Rattle.slee_disk.specs.Sides.{side_word}
 use Rattle.commit_journal.specs.declared.fault.JournalBad.{JournalBad}
 use Rattle.commit_journal.specs.Words.{kind_word}
+use Rattle.commit_journal.specs.Reading.{Wrong, Bad, Other}
 use Rattle.signal_script.specs.Words.{bad_word}
 use Rattle.slee_run.specs.declared.status.Given.{Given}
 use Rattle.slee_run.specs.declared.status.Given.TheVariants as givens
 use Rattle.slee_run.specs.declared.status.Status.{Status}
 use Rattle.slee_run.specs.declared.status.Status.TheVariants as statuses
-
--- the number that the process ends with
-abbrev pub code_of : Status → ℕ
-code_of statuses.Ok = 0
-code_of statuses.BadWords = 2
-code_of statuses.ReadFault = 3
-code_of statuses.WriteFault = 6
-code_of statuses.DiskFault = 7
-code_of (statuses.BadJournal side at kind) = 8
-code_of (statuses.OtherDeployment kept_len place) = 9
-code_of (statuses.Full size adding) = 10
-code_of (statuses.StepsSpent entries) = 11
-code_of statuses.NoMemory = 12
-code_of (statuses.BadSignals line kind) = 5
-code_of (statuses.TooLarge what) = 13
-code_of statuses.NotBuilt = 14
 
 -- the word for a source in messages; today only the signals are read
 abbrev pub given_word : Given → List ℕ
@@ -39,18 +24,49 @@ pair_text first second = decimal first ++ (codes " " ++ (decimal second ++ codes
 abbrev pub place_text : Side → ℕ → JournalBad → List ℕ
 place_text side at kind = side_word side ++ (codes " " ++ (decimal at ++ (codes " " ++ (kind_word kind ++ codes "\n"))))
 
--- the last line of the text; none is promised for a write fault
+-- When a status comes.
+pub data Time : Type 0 where
+  -- before the journal is opened
+  Early : Time
+  -- when it is opened, since this is wrong with its bytes
+  Refusing : Wrong → Time
+  -- when the run has come to its end
+  Ending : Time
+  -- once the disk, memory or writing failed
+  DiskFailed : Time
+  WantOfMemory : Time
+  WritingFailed : Time
+
+-- what is true of a status in each run
+pub record Row : Type 0 where
+  -- the number that the process ends with
+  pub code : ℕ
+  -- the last line of the text; none is promised for a write fault
+  pub line : List ℕ
+  pub time : Time
+  -- showing may come to it
+  pub shown : Bool
+  -- it doesn't follow from the words, the lines and the journal
+  pub faulty : Bool
+
+-- the table
+abbrev pub row_of : Status → Row
+row_of statuses.Ok = record { code = 0; line = codes "status 0 ok\n"; time = Ending; shown = true; faulty = false }
+row_of statuses.BadWords = record { code = 2; line = codes "status 2 bad-words\n"; time = Early; shown = false; faulty = false }
+row_of statuses.ReadFault = record { code = 3; line = codes "status 3 read-fault\n"; time = Early; shown = false; faulty = true }
+row_of (statuses.BadSignals number kind) = record { code = 5; line = codes "status 5 bad-signals " ++ (decimal number ++ (codes " " ++ (bad_word kind ++ codes "\n"))); time = Early; shown = false; faulty = false }
+row_of statuses.WriteFault = record { code = 6; line = []; time = WritingFailed; shown = false; faulty = false }
+row_of statuses.DiskFault = record { code = 7; line = codes "status 7 disk-fault\n"; time = DiskFailed; shown = true; faulty = true }
+row_of (statuses.BadJournal side at kind) = record { code = 8; line = codes "status 8 bad-journal " ++ place_text side at kind; time = Refusing (Bad side at kind); shown = true; faulty = false }
+row_of (statuses.OtherDeployment kept_len place) = record { code = 9; line = codes "status 9 other-deployment " ++ pair_text kept_len place; time = Refusing (Other kept_len place); shown = true; faulty = false }
+row_of (statuses.Full size adding) = record { code = 10; line = codes "status 10 full " ++ pair_text size adding; time = Ending; shown = false; faulty = false }
+row_of (statuses.StepsSpent entries) = record { code = 11; line = codes "status 11 steps-spent " ++ (decimal entries ++ codes "\n"); time = Ending; shown = false; faulty = false }
+row_of statuses.NoMemory = record { code = 12; line = codes "status 12 no-memory\n"; time = WantOfMemory; shown = true; faulty = true }
+row_of (statuses.TooLarge what) = record { code = 13; line = codes "status 13 too-large " ++ (given_word what ++ codes "\n"); time = Early; shown = false; faulty = false }
+row_of statuses.NotBuilt = record { code = 14; line = codes "status 14 not-built\n"; time = Early; shown = false; faulty = false }
+
+abbrev pub code_of : Status → ℕ
+code_of status = (row_of status).code
+
 abbrev pub status_line : Status → List ℕ
-status_line statuses.Ok = codes "status 0 ok\n"
-status_line statuses.BadWords = codes "status 2 bad-words\n"
-status_line statuses.ReadFault = codes "status 3 read-fault\n"
-status_line statuses.WriteFault = []
-status_line statuses.DiskFault = codes "status 7 disk-fault\n"
-status_line (statuses.BadJournal side at kind) = codes "status 8 bad-journal " ++ place_text side at kind
-status_line (statuses.OtherDeployment kept_len place) = codes "status 9 other-deployment " ++ pair_text kept_len place
-status_line (statuses.Full size adding) = codes "status 10 full " ++ pair_text size adding
-status_line (statuses.StepsSpent entries) = codes "status 11 steps-spent " ++ (decimal entries ++ codes "\n")
-status_line statuses.NoMemory = codes "status 12 no-memory\n"
-status_line (statuses.BadSignals line kind) = codes "status 5 bad-signals " ++ (decimal line ++ (codes " " ++ (bad_word kind ++ codes "\n")))
-status_line (statuses.TooLarge what) = codes "status 13 too-large " ++ (given_word what ++ codes "\n")
-status_line statuses.NotBuilt = codes "status 14 not-built\n"
+status_line status = (row_of status).line

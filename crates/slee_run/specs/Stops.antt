@@ -4,14 +4,15 @@ use mathlib.Core.List.{IsPrefix}
 use Rattle.slee_disk.specs.Sides.{Sides}
 use Rattle.slee_disk.specs.Disk.{DiskState, is_clean}
 use Rattle.commit_journal.specs.Reading.{Wrong}
+use Rattle.commit_journal.specs.declared.limits.TheConstants.{SIDE_FRAME}
 use Rattle.commit_journal.specs.Spelling.{records_size}
 use Rattle.trace_history.specs.Histories.{choices_of}
 use Rattle.trace_history.specs.declared.entry.Entry.{Entry}
 use Rattle.router_model.specs.State.{Parts}
 use Rattle.router_rules.specs.History.{replay}
 use Rattle.router_rules.specs.Payload.{payloads}
-use Rattle.slee_container.specs.Recovery.{restart, records}
-use Rattle.slee_container.specs.Opening.{IsLeftAlone}
+use Rattle.router_journal.specs.Recovery.{restart, records}
+use Rattle.router_journal.specs.Opening.{IsLeftAlone}
 use Rattle.slee_run.specs.Opening.{kept_deployment, journal_limit, found, IsOpened, IsUntouchedAt, IsGood}
 use Rattle.slee_run.specs.declared.status.Status.{Status}
 use Rattle.slee_run.specs.declared.status.Status.TheVariants as statuses
@@ -22,7 +23,7 @@ records_behind disk base history = records kept_deployment disk.seen ++ payloads
 
 -- how many bytes a side with them has: its header has none for a deployment or a snapshot
 abbrev pub size_behind : DiskState → Parts → List Entry → ℕ
-size_behind disk base history = 24 + records_size (records_behind disk base history)
+size_behind disk base history = SIDE_FRAME + records_size (records_behind disk base history)
 
 -- A restart of these sides has the state after so many entries of the history at least, and the records are those that stood
 -- when the run began and those of these entries.

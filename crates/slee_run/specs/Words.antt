@@ -17,18 +17,31 @@ number_within low high word =
     if bytes_eq word (decimal (digits_value 10 word)) && (nat_le low (digits_value 10 word) && nat_le (digits_value 10 word) high)
     then Some (digits_value 10 word) else None
 
+-- the most workers and steps of a run, the greatest seed, which is one of 32 bits, and the most lines that it gives
+abbrev pub most_workers : ℕ
+most_workers = 64
+
+abbrev pub most_steps : ℕ
+most_steps = 1000000
+
+abbrev pub most_seed : ℕ
+most_seed = 4294967295
+
+abbrev pub most_lines : ℕ
+most_lines = 100000
+
 -- the numbers that the forms have: workers, steps, a seed, and a count of lines
 abbrev pub workers_of : List ℕ → Option ℕ
-workers_of word = number_within 1 64 word
+workers_of word = number_within 1 most_workers word
 
 abbrev pub steps_of : List ℕ → Option ℕ
-steps_of word = number_within 1 1000000 word
+steps_of word = number_within 1 most_steps word
 
 abbrev pub seed_of : List ℕ → Option ℕ
-seed_of word = number_within 0 4294967295 word
+seed_of word = number_within 0 most_seed word
 
 abbrev pub count_of : List ℕ → Option ℕ
-count_of word = number_within 0 100000 word
+count_of word = number_within 0 most_lines word
 
 -- the forms of one word
 abbrev pub command_alone : List ℕ → Option Command
@@ -69,12 +82,12 @@ spelled (commands.Trial seed count) = codes "trial" ∷ decimal seed ∷ decimal
 
 -- the numbers of a run, and those of generated lines, are in range
 abbrev pub is_run_in_range : ℕ → ℕ → Bool
-is_run_in_range workers steps = (nat_le 1 workers && nat_le workers 64) && (nat_le 1 steps && nat_le steps 1000000)
+is_run_in_range workers steps = (nat_le 1 workers && nat_le workers most_workers) && (nat_le 1 steps && nat_le steps most_steps)
 
 abbrev pub is_seed_in_range : ℕ → ℕ → Bool
-is_seed_in_range seed count = nat_le seed 4294967295 && nat_le count 100000
+is_seed_in_range seed count = nat_le seed most_seed && nat_le count most_lines
 
--- 1 to 64 workers, 1 to 1,000,000 steps, a seed of 32 bits, at most 100,000 lines
+-- the numbers of each command are in range
 abbrev pub is_in_range : Command → Bool
 is_in_range commands.Check = true
 is_in_range (commands.Play workers steps) = is_run_in_range workers steps

@@ -1,12 +1,14 @@
 //! Reading the signal lines of a run.
-ghost use Rattle.std.specs.Prelude.{◌≡◌, ◌≢◌, ◌≤◌, ◌+◌, ℕ, [], Some, None, IfOk, IfErr, IfSome, OnOk, Ok, length};
+ghost use Rattle.std.specs.Prelude.{◌≡◌, ◌≢◌, ◌≤◌, ◌+◌, ℕ, [], Some, None, IsTrue, IfOk, IfErr, IfSome, OnOk, Ok, length};
 ghost use Rattle.signal_script.specs.Signals.{signals_of};
 ghost use Rattle.std.specs.Io.KnownBytes.{IsAtEnd};
 ghost use Rattle.slee_disk.specs.Causes.{Rose};
 ghost use Rattle.slee_disk.specs.Taken.{ConsumesSome};
 ghost use Rattle.router_model.specs.State.{Parts};
 ghost use Rattle.slee_run.specs.Headline.{ComesOn, lines_given, signals_limit};
-ghost use Rattle.slee_run.specs.Answers.{IsEarly};
+ghost use Rattle.slee_run.specs.Answers.{IsEarly, status_of_reading, status_of_lines};
+ghost use Rattle.std.specs.List.{list_all};
+ghost use Rattle.router_rules.specs.Taking.{is_input};
 
 use crate::{Given, Status};
 use router_core::Inputs;
@@ -20,6 +22,7 @@ const SIGNALS_LIMIT: usize = 16_777_216;
 /// Reads all lines of a source, or answers the status of the refusal.
 pub fn read_lines<T: Source>(alloc: Global, signals: &mut T) -> Result<Inputs, Status>
     ensures lines { IfOk result (λ lines. IfSome (T.left signals.old) (λ bytes. lines_given bytes ≡ Some lines)) }
+    ensures valid { IfOk result (λ lines. IsTrue (list_all is_input lines)) }
     ensures refused { IfErr result (λ status. IfSome (T.left signals.old) (λ bytes. (base : Parts) → (steps : ℕ) → ComesOn base steps bytes [] status)) }
     ensures early { IfErr result (λ status. IsEarly status) }
     ensures words { IfErr result (λ status. status ≢ Status.BadWords) }
@@ -29,27 +32,45 @@ pub fn read_lines<T: Source>(alloc: Global, signals: &mut T) -> Result<Inputs, S
 {
     match read_whole(alloc, signals, SIGNALS_LIMIT) {
         Ok(bytes) => lines_of(alloc, bytes.as_slice()),
-        Err(ReadFault::Failed) => Err(Status::ReadFault),
-        Err(ReadFault::TooLarge) => Err(Status::TooLarge {
+        Err(fault) => Err(status_of_reading(fault)),
+    }
+}
+
+/// The status of signals that couldn't be read whole.
+fn status_of_reading(fault: ReadFault) -> Status
+    ensures { result ≡ status_of_reading fault }
+{
+    match fault {
+        ReadFault::Failed => Status::ReadFault,
+        ReadFault::TooLarge => Status::TooLarge {
             what: Given::Signals,
-        }),
-        Err(ReadFault::NoMemory) => Err(Status::NoMemory),
+        },
+        ReadFault::NoMemory => Status::NoMemory,
     }
 }
 
 /// The lines that these bytes spell.
-#[tactic(auto, using(crate::proofs::EndLemmas::bad_given, crate::proofs::EndLemmas::taken_given))]
 fn lines_of(alloc: Global, bytes: &[u8]) -> Result<Inputs, Status>
     requires { length bytes.now ≤ signals_limit }
     ensures lines { IfOk result (λ lines. lines_given bytes.now ≡ Some lines) }
+    ensures valid { IfOk result (λ lines. IsTrue (list_all is_input lines)) }
     ensures refused { IfErr result (λ status. (base : Parts) → (steps : ℕ) → ComesOn base steps bytes.now [] status) }
     ensures early { IfErr result (λ status. IsEarly status) }
     ensures quiet { IfErr result (λ status. (status ≢ Status.BadWords) × (status ≢ Status.ReadFault) × (status ≢ Status.TooLarge Given.Signals)) }
 {
     match read_signals(alloc, bytes) {
         Ok(lines) => inputs_of(lines, bytes),
-        Err(SignalFault::At { line, kind }) => Err(Status::BadSignals { line, kind }),
-        Err(SignalFault::NoMemory) => Err(Status::NoMemory),
+        Err(fault) => Err(status_of_lines(fault)),
+    }
+}
+
+/// The status of bytes that aren't lines.
+fn status_of_lines(fault: SignalFault) -> Status
+    ensures { result ≡ status_of_lines fault }
+{
+    match fault {
+        SignalFault::At { line, kind } => Status::BadSignals { line, kind },
+        SignalFault::NoMemory => Status::NoMemory,
     }
 }
 
@@ -59,6 +80,7 @@ fn inputs_of(lines: Signals, bytes: &[u8]) -> Result<Inputs, Status>
     requires limit { length bytes.now ≤ signals_limit }
     requires read { signals_of bytes.now ≡ Ok lines }
     ensures lines { IfOk result (λ lines. lines_given bytes.now ≡ Some lines) }
+    ensures valid { IfOk result (λ lines. IsTrue (list_all is_input lines)) }
     ensures refused { IfErr result (λ status. (base : Parts) → (steps : ℕ) → ComesOn base steps bytes.now [] status) }
     ensures untaken { IfErr result (λ status. status ≡ Status.NotBuilt) }
 {

@@ -1,5 +1,7 @@
 //! Playing lines over a journal, from a disk to a disk.
-ghost use Rattle.std.specs.Prelude.{◌≡◌, ◌+◌};
+ghost use Rattle.std.specs.Prelude.{◌≡◌, ◌+◌, IsTrue};
+ghost use Rattle.std.specs.List.{list_all};
+ghost use Rattle.router_rules.specs.Taking.{is_input};
 ghost use Rattle.std.specs.Io.KnownBytes.{IsAtEnd};
 ghost use Rattle.slee_disk.specs.Causes.{Rose};
 ghost use Rattle.slee_disk.specs.Taken.{ConsumesSome};
@@ -12,16 +14,15 @@ use crate::finishing::{finish, refuse};
 use crate::playing::{End, play};
 use crate::reading::read_lines;
 use crate::{Given, Status};
+use commit_journal::SIDE_LIMIT;
 use router_core::Inputs;
-use slee_container::{Container, Limits, Mode, OpenFault};
+use router_journal::OpenFault;
+use slee_container::{Container, Limits, Mode};
 use slee_disk::{Disk, Sink, Source};
 use std::alloc::Global;
 
 /// The text of the deployment that the journal keeps: it is built in.
 pub const KEPT_DEPLOYMENT: &[u8] = b"";
-
-/// The most bytes of a side of the journal.
-pub const JOURNAL_LIMIT: u64 = 268_435_456;
 
 /// Reads the lines, plays them and writes the trace.
 pub fn play_source<T: Source, K: Sink, D: Disk>(
@@ -54,6 +55,7 @@ fn play_lines<K: Sink, D: Disk>(
     disk: D,
     steps: u64,
 ) -> (Status, D)
+    requires valid { IsTrue (list_all is_input lines.now) }
     ensures played { IsPlayedBy (λ base history stood. IsPlayOn base steps lines.now history stood)
         (K.contents out.old) (K.contents out.new) (D.disk disk) (D.disk result.1) result.0 }
     ensures write { result.0 ≡ Status.WriteFault → Rose (K.faults out.old) (K.faults out.new) }
@@ -61,7 +63,7 @@ fn play_lines<K: Sink, D: Disk>(
     ensures late { IsBeforeOpening result.0 → ⊥ }
 {
     let limits = Limits {
-        journal: JOURNAL_LIMIT,
+        journal: SIDE_LIMIT,
         steps,
     };
     let mut container = match Container::open(
@@ -75,8 +77,6 @@ fn play_lines<K: Sink, D: Disk>(
         Ok(container) => container,
         Err((fault, disk)) => return (refuse(out, status_of(fault)), disk),
     };
-    let valid = lines.as_slice();
-    let _ = valid;
     let end = play(&mut container);
     let stood = status_after(container.history().len(), end);
     let status = finish(alloc, out, &container, stood);

@@ -8,7 +8,8 @@ ghost use Rattle.slee_run.specs.Answers.{IsShownBy, IsShownAs};
 
 use crate::Status;
 use crate::finishing::refuse;
-use crate::running::{JOURNAL_LIMIT, KEPT_DEPLOYMENT, status_of};
+use crate::running::{KEPT_DEPLOYMENT, status_of};
+use commit_journal::SIDE_LIMIT;
 use router_core::Inputs;
 use slee_container::{Container, Limits, Mode, OutFault};
 use slee_disk::{Disk, Sink};
@@ -23,7 +24,7 @@ pub fn show<K: Sink, D: Disk>(alloc: Global, out: &mut K, disk: D) -> (Status, D
 {
     let lines = Inputs::new(alloc);
     let limits = Limits {
-        journal: JOURNAL_LIMIT,
+        journal: SIDE_LIMIT,
         steps: 0,
     };
     let container = match Container::open(

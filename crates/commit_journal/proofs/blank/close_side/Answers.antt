@@ -3,26 +3,26 @@ use Rattle.slee_disk.proofs.Moments.{reached_look, tells, on_ok, clean_told, cle
 use Rattle.commit_journal.proofs.Blanks.{IsFirst, close_write, beside_look, seen_not_open, seen_closed}
 use Rattle.commit_journal.proofs.blank.close_side.Goals as goal
 
-pub returns-then-first-ne1-clause-blank : goal.returns-then-first-ne1-clause-blank
-returns-then-first-ne1-clause-blank g c told =
+pub returns-then-first-ne-OPEN_GATE-clause-blank : goal.returns-then-first-ne-OPEN_GATE-clause-blank
+returns-then-first-ne-OPEN_GATE-clause-blank g c told =
     let old = g.D.Disk.disk c.args.disk.now in
     let bytes = c.in_ok-read.ensures.bytes told in
     let look : IsFirst (on c.args.side old.seen) c.in_ok-read.field-0 c.read.new.into = record { count_is = bytes.0; first_is = bytes.1 } in
-    seen_not_open c.args.side old _ c.read.ensures.looks.seen _ _ look c.if-first-ne1.true
+    seen_not_open c.args.side old _ c.read.ensures.looks.seen _ _ look c.if-first-ne-OPEN_GATE.true
 
 pub returns-in_err-write_at-clause-any_moment : goal.returns-in_err-write_at-clause-any_moment
 returns-in_err-write_at-clause-any_moment g c clean =
     let old = g.D.Disk.disk c.args.disk.now in
     let bytes = c.in_ok-read.ensures.bytes (clean_told old clean) in
     let look : IsFirst (on c.args.side old.seen) c.in_ok-read.field-0 c.read.new.into = record { count_is = bytes.0; first_is = bytes.1 } in
-    (close_write c.args.side old (clean_only old clean) _ _ _ _ c.read.ensures.looks _ _ look c.if-first-ne1.false c.write_at.ensures.changes).leaves
+    (close_write c.args.side old (clean_only old clean) _ _ _ _ c.read.ensures.looks _ _ look c.if-first-ne-OPEN_GATE.false c.write_at.ensures.changes).leaves
 
 pub returns-clause-any_moment : goal.returns-clause-any_moment
 returns-clause-any_moment g c clean =
     let old = g.D.Disk.disk c.args.disk.now in
     let bytes = c.in_ok-read.ensures.bytes (clean_told old clean) in
     let look : IsFirst (on c.args.side old.seen) c.in_ok-read.field-0 c.read.new.into = record { count_is = bytes.0; first_is = bytes.1 } in
-    let wrote = close_write c.args.side old (clean_only old clean) _ _ _ _ c.read.ensures.looks _ _ look c.if-first-ne1.false c.write_at.ensures.changes in
+    let wrote = close_write c.args.side old (clean_only old clean) _ _ _ _ c.read.ensures.looks _ _ look c.if-first-ne-OPEN_GATE.false c.write_at.ensures.changes in
     (reached_look _ _ _ _ _ wrote c.sync.ensures.looks).leaves
 
 pub returns-clause-blank : goal.returns-clause-blank

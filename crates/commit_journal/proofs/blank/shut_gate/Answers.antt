@@ -19,8 +19,8 @@ returns-then-length-gt1-clause-shut g c told =
     let long : 1 < length (on c.args.side old.seen) = omega (arith, c.in_ok-length.ensures.length told, c.if-length-gt1.true) in
     on_ok c.cut.result _ _ (c.cut.ensures.cut (tells _ _ c.len.ensures.looks.passes.told told)) (λ done. one_cut c.args.side old (c.requires told) _ _ c.len.ensures.looks.seen long done)
 
-pub returns-then-first-eq1-clause-any_moment : goal.returns-then-first-eq1-clause-any_moment
-returns-then-first-eq1-clause-any_moment g c clean =
+pub returns-then-first-eq-OPEN_GATE-clause-any_moment : goal.returns-then-first-eq-OPEN_GATE-clause-any_moment
+returns-then-first-eq-OPEN_GATE-clause-any_moment g c clean =
     let old = g.D.Disk.disk c.args.disk.now in
     let told = clean_told old clean in
     let only = clean_only old clean in

@@ -9,6 +9,6 @@ pub returns-in-Ok-clause-items : goal.returns-in-Ok-clause-items
 returns-in-Ok-clause-items c =
     let test = stands_before c.args.entity.0 c.args.activity.0 in
     let links = c.args.rows.now.items in
-    let absent : is_linked links c.args.entity.0 c.args.activity.0 ≡ false = rw (← c.deref.ensures.value, ← c.has_link.ensures) c.if-not-has_link.true in
+    let absent : is_linked links c.args.entity.0 c.args.activity.0 ≡ false = rw (← c.deref.ensures.value, ← c.has_link.ensures.linked) c.if-not-has_link.true in
     let place = rw c.deref-then-not-has_link.ensures.value at c.link_place-place.ensures.place in
     rw (absent, length_front test links, ← place) c.in-Ok.ensures.items

@@ -14,5 +14,5 @@ raise-requires c = record {
 pub returns-then-not-has_link-clause-counts : goal.returns-then-not-has_link-clause-counts
 returns-then-not-has_link-clause-counts c =
     let y : Link = record { entity = c.args.entity; activity = c.args.activity } in
-    let absent : is_linked c.args.rows.now c.args.entity.0 c.args.activity.0 ≡ false = sym c.has_link.ensures ∙ c.if-not-has_link.true in
+    let absent : is_linked c.args.rows.now c.args.entity.0 c.args.activity.0 ≡ false = sym c.has_link.ensures.linked ∙ c.if-not-has_link.true in
     link_counted c.args.counts.now c.raise.new.tally c.args.rows.now y c.requires.counts absent c.raise.ensures.count

@@ -1,6 +1,6 @@
 use Rattle.std.proofs.Common.{◌≡◌, drop, option_map}
 use Rattle.router_model.specs.Activities.{least_waiting}
-use Rattle.router_stores.proofs.LeastLemmas.{joined}
+use Rattle.slee_container.proofs.Leasts.{joined}
 use Rattle.slee_container.specs.Container.{unclaimed}
 use Rattle.slee_container.proofs.claims.least_unclaimed.Given as goal
 

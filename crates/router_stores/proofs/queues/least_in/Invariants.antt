@@ -1,7 +1,0 @@
-use Rattle.std.proofs.Common.{◌≡◌, drop, option_map}
-use Rattle.router_model.specs.Activities.{least_waiting}
-use Rattle.router_stores.proofs.LeastLemmas.{joined}
-use Rattle.router_stores.proofs.queues.least_in.Given as goal
-
-abbrev pub invariant-loop-q : goal.invariant-loop-q
-invariant-loop-q l = joined (option_map (λ a. a.0) l.least) (least_waiting (drop l.q-index l.events)) ≡ least_waiting l.events
