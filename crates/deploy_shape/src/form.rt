@@ -2,8 +2,8 @@
 ghost use Rattle.deployment_parts.specs.Faults.{Fault, Says};
 ghost use Rattle.serde_json.specs.View.{view};
 
-use serde_json::Value;
 use deployment_parts::DeployFault;
+use serde_json::Value;
 use std::alloc::Global;
 
 /// A form of values.

@@ -4,8 +4,8 @@ ghost use Rattle.deploy_shape.specs.Forms.{priority, flag, or_null};
 
 use crate::fault::here;
 use crate::form::Form;
-use serde_json::Value;
 use deployment_parts::{DeployBad, DeployFault};
+use serde_json::Value;
 use std::alloc::Global;
 
 /// The least priority.

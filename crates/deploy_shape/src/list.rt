@@ -6,8 +6,8 @@ ghost use Rattle.deploy_shape.specs.Forms.{list_of, items_fault};
 
 use crate::fault::{here, under_step};
 use crate::form::Form;
-use serde_json::Value;
 use deployment_parts::{DeployBad, DeployFault};
+use serde_json::Value;
 use std::alloc::Global;
 
 /// An array, each item of one form.

@@ -7,8 +7,8 @@ ghost use Rattle.deploy_shape.specs.Forms.{map_of, entries_fault, named};
 use crate::fault::{here, under_name};
 use crate::form::{EntryForm, Form};
 use crate::text::check_name;
-use serde_json::{Map, Value};
 use deployment_parts::{DeployBad, DeployFault};
+use serde_json::{Map, Value};
 use std::alloc::Global;
 
 /// An object whose members have one form, which may go by their names.

@@ -7,8 +7,8 @@ ghost use Rattle.deploy_shape.specs.Forms.{Want, object, wants_fault, others_fau
 
 use crate::fault::{here, under_name, under_step};
 use crate::form::Form;
-use serde_json::{Map, Value};
 use deployment_parts::{DeployBad, DeployFault};
+use serde_json::{Map, Value};
 use std::alloc::Global;
 
 /// The members that an object may have, in order.

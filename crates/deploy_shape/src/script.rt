@@ -5,8 +5,8 @@ ghost use Rattle.deploy_shape.specs.Scripts.{script};
 use crate::form::Form;
 use crate::list::ListOf;
 use crate::text::{AnyText, TextOf};
-use serde_json::Value;
 use deployment_parts::DeployFault;
+use serde_json::Value;
 use std::alloc::Global;
 
 /// A text, or an array of texts.

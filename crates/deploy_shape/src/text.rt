@@ -10,8 +10,8 @@ use crate::fault::{here, unless};
 use crate::firsts::Numbers;
 use crate::form::Form;
 use crate::numbers::number_of_name;
-use serde_json::Value;
 use deployment_parts::{DeployBad, DeployFault, LABEL_LIMIT};
+use serde_json::Value;
 use slee_value::Name;
 use std::alloc::Global;
 

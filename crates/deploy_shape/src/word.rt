@@ -6,8 +6,8 @@ ghost use Rattle.deploy_shape.specs.Texts.{kind_of_word as kind_so, type_word, p
 
 use crate::fault::{here, unless};
 use crate::text::TextRule;
-use serde_json::Value;
 use deployment_parts::{DeployBad, DeployFault};
+use serde_json::Value;
 use slee_value::Kind;
 use std::alloc::Global;
 

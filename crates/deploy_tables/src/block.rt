@@ -15,8 +15,8 @@ use deploy_shape::{
     End, EntryForm, Form, FreshName, Label, MapOf, May, Named, Need, Object, Priority, Reference,
     ScriptForm, Table, TextOf, TextRule, TypeWord, check_name, here, unless,
 };
-use serde_json::Value;
 use deployment_parts::{DeployBad, DeployFault};
+use serde_json::Value;
 use slee_value::Kind;
 use std::alloc::Global;
 

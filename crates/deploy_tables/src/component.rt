@@ -5,8 +5,8 @@ ghost use Rattle.deploy_tables.specs.Tables.{version};
 
 use crate::ids::Ids;
 use deploy_shape::{TextRule, check_fresh, check_label};
-use serde_json::Value;
 use deployment_parts::DeployFault;
+use serde_json::Value;
 use std::alloc::Global;
 
 /// The version of a component of which no earlier item has all three texts.

@@ -10,8 +10,8 @@ use crate::lookup::{Lookup, lookup_of};
 use crate::profile::ProfileForm;
 use crate::service::ServiceForm;
 use deploy_shape::{End, Form, ListOf, MapOf, May, Named, Object, Reference, Table, TextOf};
-use serde_json::Value;
 use deployment_parts::DeployFault;
+use serde_json::Value;
 use std::alloc::Global;
 
 /// The members of the whole document.

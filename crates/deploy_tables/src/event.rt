@@ -11,8 +11,8 @@ use deploy_shape::{
     End, Form, Label, MapOf, May, Named, Need, Numbers, Object, TextOf, TextRule, TypeWord,
     check_fresh, check_name, unless,
 };
-use serde_json::Value;
 use deployment_parts::{DeployBad, DeployFault};
+use serde_json::Value;
 use std::alloc::Global;
 
 /// The key of an event type.

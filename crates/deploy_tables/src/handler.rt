@@ -11,8 +11,8 @@ use deploy_shape::{
     End, Flag, Form, ListOf, May, Need, NeedIf, Numbers, Object, ScriptForm, Table, TextOf,
     TextRule, array_items, check_fresh, here, numbers_of,
 };
-use serde_json::Value;
 use deployment_parts::{DeployBad, DeployFault};
+use serde_json::Value;
 use std::alloc::Global;
 
 /// The event that a handler is for; a block has one handler for each.

@@ -8,8 +8,8 @@ use deploy_shape::{
     End, Form, FreshName, ListOf, May, Need, Numbers, Object, OrNull, ScriptForm, TextOf, TypeWord,
     array_items, numbers_of,
 };
-use serde_json::Value;
 use deployment_parts::DeployFault;
+use serde_json::Value;
 use std::alloc::Global;
 
 /// A parameter, whose name no earlier one has.

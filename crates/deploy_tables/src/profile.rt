@@ -11,8 +11,8 @@ use deploy_shape::{
     End, Form, FreshName, Label, ListOf, MapOf, May, Named, Need, Object, ProfileWord, TextOf,
     TextRule, unless,
 };
-use serde_json::Value;
 use deployment_parts::{DeployBad, DeployFault};
+use serde_json::Value;
 use std::alloc::Global;
 
 /// The name of an attribute of the profile.

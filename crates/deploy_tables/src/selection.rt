@@ -16,8 +16,8 @@ use deploy_shape::{
     End, Form, ListOf, Need, Object, TextOf, TextRule, array_items, check_fresh, here, items_in,
     unless,
 };
-use serde_json::Value;
 use deployment_parts::{DeployBad, DeployFault, rule_of, variable_of};
+use serde_json::Value;
 use slee_value::Kind;
 use std::alloc::Global;
 

@@ -9,8 +9,8 @@ use crate::lookup::Lookup;
 use deploy_shape::{
     End, Flag, Form, FreshName, Label, May, Need, Object, Priority, Reference, TextOf,
 };
-use serde_json::Value;
 use deployment_parts::DeployFault;
+use serde_json::Value;
 use std::alloc::Global;
 
 /// A service.
