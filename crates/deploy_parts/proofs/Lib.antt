@@ -1,0 +1,4 @@
+pub mod Faultless
+pub mod Shaped
+pub mod Each
+pub mod Misreading

@@ -1,0 +1,18 @@
+//! Reads deployments from standard input, one a line, and prints what each is: no JSON, its first fault, its first script
+//! that can't be read, or that it is fine. With a number behind its name it reads the whole input as one document so many times.
+#![tactic(auto)]
+
+mod rows;
+mod trouble;
+
+use std::process::ExitCode;
+use trouble::Trouble;
+
+fn main(rt: HostRuntime) -> ExitCode {
+    match rows::play(&rt) {
+        Ok(()) => ExitCode::from(0),
+        Err(Trouble::Stream) => ExitCode::from(1),
+        Err(Trouble::Words) => ExitCode::from(2),
+        Err(Trouble::Memory) => ExitCode::from(12),
+    }
+}
