@@ -9,15 +9,3 @@ mod calls;
 mod command_words;
 #[cfg(test)]
 mod faults;
-#[cfg(test)]
-mod foreign_journals;
-#[cfg(test)]
-mod journal;
-#[cfg(test)]
-mod one_call;
-#[cfg(test)]
-mod running;
-#[cfg(test)]
-mod stops;
-#[cfg(test)]
-mod want_of_memory;

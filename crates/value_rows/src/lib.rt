@@ -1,9 +1,5 @@
-//! Tests of values, signal lines and histories, by their public calls.
+//! Tests of values, by their public calls.
 #![tactic(auto)]
 
-#[cfg(test)]
-mod histories;
-#[cfg(test)]
-mod signal_lines;
 #[cfg(test)]
 mod values;

@@ -1,11 +1,11 @@
 //! A disk that fails, and what a stop in any of its calls leaves.
-use crate::one_call::{CALL, PLAY, SHOW, SHOWN, show};
-use crate::running::{SOUND, run_alone, run_over, text_of};
 use slee_disk::MemoryDisk;
 use slee_value::Blob;
 use std::alloc::Global;
 use std::process::Abort;
 use std::test::Fail;
+use whole_runs::one_call::{CALL, PLAY, SHOW, SHOWN, show};
+use whole_runs::running::{SOUND, run_alone, run_over, text_of};
 
 // How many entries the text has: the lines that begin with a number.
 fn entries_of(text: &str) -> usize {

@@ -1,11 +1,11 @@
 //! What becomes of the call where an allocation is refused. With ample memory it is played whole. Where the refused
 //! allocation is one of the test's own, there is nothing to look at.
-use crate::one_call::{CALL, CALL_TRACE, PLAY, SHOW, SHOWN, show};
-use crate::running::{Ran, SOUND, run_alone, run_over, text_of};
 use slee_disk::MemoryDisk;
 use std::alloc::Global;
 use std::process::Abort;
 use std::test::Fail;
+use whole_runs::one_call::{CALL, CALL_TRACE, PLAY, SHOW, SHOWN, show};
+use whole_runs::running::{Ran, SOUND, run_alone, run_over, text_of};
 
 // Whether the text is a front of the call's trace and then this status.
 fn is_front_and(text: &str, status: &str) -> bool {
