@@ -1,3 +1,4 @@
+//! A script read from its text: its tree, or the first fault with its place.
 ghost use Rattle.std.specs.Prelude.{◌≡◌, ◌≤◌, ◌-◌, length, IfOk, MatchResult, Ok};
 ghost use Rattle.script_tree.specs.Grammar.{script_of, Faulty};
 ghost use Rattle.script_tree.specs.Lexer.{lexemes_of};

@@ -1,3 +1,4 @@
+//! Lists of entities or activities. Contracts see the list of their numbers.
 ghost use Rattle.std.specs.Prelude.{◌≡◌, ◌++◌, ◌∷◌, [], OnOk, OnErr, length};
 
 use slee_value::NoMemory;

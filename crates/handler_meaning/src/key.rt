@@ -1,3 +1,5 @@
+//! What a script asks of the state, one key for each thing that it can see.
+
 use slee_value::{ActivityId, EntityId, Name, Text, TimerId};
 
 /// What a script asks of the state.

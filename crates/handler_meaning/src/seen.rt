@@ -1,3 +1,5 @@
+//! What is answered to a key.
+
 use crate::Ids;
 use slee_value::{ActivityId, EntityId, EventId, Names, Payload, Value};
 

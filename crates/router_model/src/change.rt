@@ -1,3 +1,5 @@
+//! The changes of the state, one for each list that a step can change.
+
 use crate::{AcKind, Event};
 use slee_value::{ActivityId, ConvName, EntityId};
 

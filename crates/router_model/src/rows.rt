@@ -1,3 +1,5 @@
+//! The rows of the state's lists.
+
 use slee_value::{ActivityId, ConvName, EntityId, EventId, Name, Payload, Text};
 
 /// What an activity context stands for (JSR 240, chapter 7).

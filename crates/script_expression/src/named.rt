@@ -1,3 +1,4 @@
+//! Operands that name something: fields of the block and the event, tables, priorities, counts.
 ghost use Rattle.std.specs.Prelude.{◌≡◌, ◌≤◌, ◌<◌, ◌+◌, ◌∷◌, [], length, true, MatchResult};
 ghost use Rattle.script_tree.specs.Grammar.{Level, ATree};
 ghost use Rattle.script_tree.specs.Spelling.{fixed};

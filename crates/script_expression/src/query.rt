@@ -1,3 +1,4 @@
+//! Functions of expressions: the word, what stands before the expression in the brackets, and the rest.
 ghost use Rattle.std.specs.Prelude.{◌≡◌, ◌≤◌, ◌<◌, ◌+◌, ◌∷◌, ◌++◌, [], length, IfOk, MatchResult};
 ghost use Rattle.script_tree.specs.Grammar as g;
 ghost use Rattle.script_tree.specs.Grammar.{Level, One, AName, AText};

@@ -1,3 +1,4 @@
+//! Why no tree is read from tokens: want of memory, or the first token that can't go on.
 ghost use Rattle.std.specs.Prelude.{◌≡◌, length};
 ghost use Rattle.script_expression.specs.declared.refusal.ReadError.TheVariants.{NoMemory as NoMemoryLeft};
 ghost use Rattle.script_expression.specs.Takes.{kind_at};

@@ -1,3 +1,4 @@
+//! Single tokens taken from the front: fixed words and signs, names, texts, operators.
 ghost use Rattle.std.specs.Prelude.{◌≡◌, ◌≢◌, ◌≤◌, ◌<◌, ◌+◌, ◌∷◌, [], length, true, false, ℕ, List, Err, MatchResult, MatchOption};
 ghost use Rattle.script_tree.specs.declared.symbol.Symbol.TheVariants as s;
 ghost use Rattle.script_tree.specs.declared.lexeme.Lexeme.{Lexeme as ALexeme};

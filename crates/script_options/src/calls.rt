@@ -1,3 +1,4 @@
+//! `call`: a method of a child with its arguments, and the name for what it returns.
 ghost use Rattle.std.specs.Prelude.{◌≡◌, ◌≤◌, ◌<◌, ◌+◌, ◌∷◌, ◌++◌, ◌&&◌, [], length, true, map, MatchResult};
 ghost use Rattle.std.specs.List.{list_all};
 ghost use Rattle.script_tree.specs.Grammar.{Stmt as AStmt, AStatement, Arguments, MoreResult, One, Level, Make, WithArgument, NextArgument};

@@ -1,3 +1,4 @@
+//! `fire`: an event with the service that receives it and its fields.
 ghost use Rattle.std.specs.Prelude.{◌≡◌, ◌≤◌, ◌<◌, ◌+◌, ◌∷◌, ◌&&◌, [], length, true, map, MatchResult};
 ghost use Rattle.std.specs.List.{list_all};
 ghost use Rattle.script_tree.specs.Grammar.{Stmt as AStmt, AStatement, MoreService, MoreFields, NextField, WithField, One, Level, Make};

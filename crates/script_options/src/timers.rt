@@ -1,3 +1,4 @@
+//! `timer`: the time at which it is due, its repetition, and what is kept of missed occurrences.
 ghost use Rattle.std.specs.Prelude.{◌≡◌, ◌≢◌, ◌≤◌, ◌<◌, ◌+◌, ◌∷◌, [], length, true, Err, MatchResult, MatchOption, IfOk};
 ghost use Rattle.script_tree.specs.declared.lexeme.Lexeme.{Lexeme as ALexeme};
 ghost use Rattle.script_tree.specs.Grammar.{Stmt as AStmt, AStatement, MoreRepeat, MoreKeep, KeepWord};

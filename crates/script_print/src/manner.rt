@@ -1,3 +1,4 @@
+//! How a token stands among others where a script is printed: with blanks, or close to its neighbour.
 ghost use Rattle.std.specs.Prelude.{◌≡◌, ◌<◌};
 ghost use Rattle.script_print.specs.Layout.{manner, symbol_manner, fixed_manner, is_tight, ends_line, nesting, margin};
 

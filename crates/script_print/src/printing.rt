@@ -1,3 +1,4 @@
+//! Scripts printed for people: a statement or brace a line, and blocks indented.
 ghost use Rattle.std.specs.Prelude.{◌≡◌, ◌++◌, OnOk, OnErr, IfOk, Ok, length, drop};
 ghost use Rattle.script_print.specs.Layout.{printed, laid_out, lexeme_text, gap, indent};
 ghost use Rattle.script_tree.specs.Reading.{script_read};

@@ -1,3 +1,4 @@
+//! Statements on activities: they are attached, masked, begun and bound.
 ghost use Rattle.std.specs.Prelude.{◌≡◌, ◌≤◌, ◌<◌, ◌+◌, ◌∷◌, [], length, true, MatchResult};
 ghost use Rattle.script_tree.specs.Grammar.{Stmt as AStmt, AStatement};
 ghost use Rattle.script_tree.specs.Spelling.{fixed, statement_fits};

@@ -1,3 +1,4 @@
+//! Statements that give a variable, a field or an attribute its value.
 ghost use Rattle.std.specs.Prelude.{◌≡◌, ◌≤◌, ◌<◌, ◌+◌, ◌∷◌, [], length, true, MatchResult};
 ghost use Rattle.script_tree.specs.declared.lexeme.Lexeme.TheVariants as t;
 ghost use Rattle.script_tree.specs.Grammar.{Stmt as AStmt, AStatement, stmt_after};

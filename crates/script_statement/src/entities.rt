@@ -1,3 +1,4 @@
+//! Statements on child entities: they are created, removed and given a priority.
 ghost use Rattle.std.specs.Prelude.{◌≡◌, ◌≤◌, ◌<◌, ◌+◌, ◌∷◌, [], length, true, MatchResult};
 ghost use Rattle.script_tree.specs.Grammar.{Stmt as AStmt, AStatement};
 ghost use Rattle.script_tree.specs.Spelling.{fixed, statement_fits};

@@ -1,3 +1,4 @@
+//! All statements that hold no block, chosen by their first word.
 ghost use Rattle.std.specs.Prelude.{◌≡◌, ◌≤◌, ◌∷◌, [], false, MatchResult};
 ghost use Rattle.script_tree.specs.declared.symbol.Symbol.TheVariants as s;
 ghost use Rattle.script_tree.specs.declared.lexeme.Lexeme.TheVariants as t;

@@ -1,3 +1,5 @@
+//! Why a text is no script.
+
 /// Why a token can't continue a script.
 #[derive(Clone, Copy, Debug, PartialEq, Eq)]
 pub enum SyntaxBad {

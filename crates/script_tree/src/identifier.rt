@@ -1,3 +1,4 @@
+//! Names that a script gives and uses. Contracts see the name's bytes.
 ghost use Rattle.std.specs.Prelude.{◌≡◌, IsTrue, IfOk};
 ghost use Rattle.script_tree.specs.Words.{is_identifier};
 

@@ -1,3 +1,5 @@
+//! Tokens with what they say, as the lexer cuts them from a text.
+
 use crate::{Literal, NameRef, Number, Symbol};
 use slee_value::Text;
 

@@ -1,3 +1,4 @@
+//! A text cut into tokens, blanks and comments left out.
 ghost use Rattle.std.specs.Prelude.{◌≡◌, ◌≤◌, ◌∷◌, [], map, drop, length, slice_index, IfOk, IfSome, IsTrue, MatchOption};
 ghost use Rattle.std.specs.List.{list_all, prefix_len};
 ghost use Rattle.slee_value.specs.Name.{is_letter, is_digit, is_byte_of_name};

@@ -1,3 +1,4 @@
+//! Texts between quotes. Contracts see the bytes that they stand for.
 ghost use Rattle.std.specs.Prelude.{◌≡◌, IsTrue, IfOk};
 ghost use Rattle.script_tree.specs.Words.{is_literal};
 

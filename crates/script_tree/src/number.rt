@@ -1,3 +1,4 @@
+//! Numbers that a script writes. Contracts see the number.
 ghost use Rattle.std.specs.Prelude.{◌≡◌, ◌≤◌, pos};
 
 use std::marker::Model;

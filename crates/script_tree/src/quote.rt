@@ -1,3 +1,4 @@
+//! A text between quotes read with its escapes.
 ghost use Rattle.std.specs.Prelude.{◌≡◌, ◌≤◌, false, length, IfOk};
 ghost use Rattle.std.specs.List.{prefix_len};
 ghost use Rattle.script_tree.specs.Lexer.{text_cut, quote_of};

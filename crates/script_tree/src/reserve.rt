@@ -1,3 +1,4 @@
+//! The words of the language, told from names.
 ghost use Rattle.std.specs.Prelude.{◌≡◌, ◌≤◌, ◌-◌, take, drop};
 ghost use Rattle.script_tree.specs.declared.symbol.TheConstants.{WORDS};
 ghost use Rattle.script_tree.specs.Words.{find_word, reserved};

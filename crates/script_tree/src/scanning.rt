@@ -1,3 +1,4 @@
+//! The tokens of a text, and the line and column of each.
 ghost use Rattle.std.specs.Prelude.{◌≡◌, ◌<◌, length, slice_get, take, IfOk, MatchResult, Ok};
 ghost use Rattle.script_tree.specs.Reading.{tokens_of, fault_at, fault_in, place_after, place_of, place_of_token, start_at, IsFault};
 

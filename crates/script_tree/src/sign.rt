@@ -1,3 +1,4 @@
+//! Signs of one or two bytes.
 ghost use Rattle.std.specs.Prelude.{◌≡◌};
 ghost use Rattle.script_tree.specs.Lexer.{sign_cut, sign_of_one, sign_of_two};
 

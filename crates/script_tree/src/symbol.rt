@@ -1,3 +1,4 @@
+//! The fixed words and signs of the language, each with its spelling.
 ghost use Rattle.std.specs.Prelude.{◌≡◌};
 ghost use Rattle.script_tree.specs.Grammar.{level_of};
 ghost use Rattle.script_tree.specs.Numbers.{fixed_number};

@@ -1,3 +1,4 @@
+//! Tokens by their kind and their place in the text.
 ghost use Rattle.std.specs.Prelude.{◌≡◌};
 
 /// The kind of a token.

@@ -1,3 +1,4 @@
+//! Scripts as trees of statements and expressions.
 ghost use Rattle.std.specs.Prelude.{◌≡◌, ◌≤◌};
 ghost use Rattle.script_tree.specs.Spelling.{prefix_level};
 

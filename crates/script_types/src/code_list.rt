@@ -1,3 +1,4 @@
+//! Lists that grow at their end. Contracts see the list of the items.
 ghost use Rattle.std.specs.Prelude.{◌≡◌, ◌++◌, ◌∷◌, [], OnOk, OnErr, length};
 
 use slee_value::NoMemory;

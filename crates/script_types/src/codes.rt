@@ -1,3 +1,5 @@
+//! What scripts may name: events, tables, and blocks with their fields, relations and methods.
+
 use crate::{BlockSteps, CodeList};
 use script_tree::Script;
 use slee_value::{Kind, Name, Text};

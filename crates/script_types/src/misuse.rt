@@ -1,3 +1,5 @@
+//! Why a script isn't well typed, and at which token.
+
 /// Why a script isn't well typed.
 #[derive(Clone, Copy, Debug, PartialEq, Eq)]
 pub enum CheckBad {

@@ -1,3 +1,5 @@
+//! The calls of a disk, as a disk in memory writes them down.
+
 use crate::Side;
 use slee_value::Blob;
 

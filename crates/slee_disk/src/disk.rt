@@ -1,3 +1,4 @@
+//! What a disk of two sides promises.
 ghost use Rattle.std.specs.Prelude.{◌≡◌, ◌≤◌, ◌+◌, ◌++◌, ℕ, length, take, drop, IsTrue, IfOk, OnOk, IsErr};
 ghost use Rattle.slee_disk.specs.Sides.{Sides, on, given, AtSide, Holds, Torn, Cut};
 ghost use Rattle.slee_disk.specs.Disk.{DiskState, Looks, Changes, KeepsSettled, Settles};

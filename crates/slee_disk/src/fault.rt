@@ -1,3 +1,5 @@
+//! The failure of what lies outside the program.
+
 use std::{fmt, io};
 
 /// The outside has failed. Its count of faults tells that it has.

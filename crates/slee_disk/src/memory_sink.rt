@@ -1,3 +1,4 @@
+//! A sink in memory. Contracts see the bytes that it has, the writes that will fail, and the count of its faults.
 ghost use Rattle.std.specs.Prelude.{◌≡◌, ◌<◌, ◌++◌, [], drop, take, IfOk, OnOk, IsErr, IsTrue, Ok, length, Some};
 ghost use Rattle.std.specs.Io.{WritesAtMost};
 ghost use Rattle.std.specs.Io.KnownBytes.{WriteAppends};

@@ -1,3 +1,4 @@
+//! A source in memory. Contracts see the bytes that are left, how many are read at a time, the reads that will fail, and the count of its faults.
 ghost use Rattle.std.specs.Prelude.{◌≡◌, ◌<◌, ◌≤◌, ◌↔◌, [], drop, take, min, IfOk, IsErr, IsTrue, OnOk, length, Some};
 ghost use Rattle.std.specs.Io.{ReadsAtMost};
 ghost use Rattle.std.specs.Io.KnownBytes.{ReadConsumes};

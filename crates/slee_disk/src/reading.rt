@@ -1,3 +1,4 @@
+//! A source read whole, up to a limit.
 ghost use Rattle.std.specs.Prelude.{◌≡◌, ◌<◌, ◌≤◌, ◌+◌, IfOk, IfSome, IsErrOf, OnOk, OnErr, length};
 ghost use Rattle.std.specs.Io.KnownBytes.{Consumes, IsAtEnd};
 ghost use Rattle.slee_disk.specs.Causes.{Rose};

@@ -1,3 +1,4 @@
+//! Bytes written whole to a sink.
 ghost use Rattle.slee_disk.specs.Writes.{Writes};
 
 use crate::{Failed, Sink};

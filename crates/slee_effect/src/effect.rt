@@ -1,3 +1,4 @@
+//! The effects of a handler.
 ghost use Rattle.std.specs.Prelude.{◌≡◌, IfOk};
 
 use crate::making::{create, fire, set_attr, set_field, set_mask, set_timer, usage};

@@ -1,3 +1,4 @@
+//! Lists of effects, and their copies and resolution. Contracts see the list.
 ghost use Rattle.std.specs.Prelude.{◌≡◌, ◌++◌, ◌∷◌, [], IfOk, OnOk, OnErr, length, map};
 ghost use Rattle.std.specs.List.{AllByRecursion};
 ghost use Rattle.slee_effect.specs.Resolving.{resolved_effect, CanResolve};

@@ -1,3 +1,5 @@
+//! Why bytes are no list of effects.
+
 /// Why no list of effects was read.
 #[derive(Clone, Copy, Debug, PartialEq, Eq)]
 pub enum EffectFault {

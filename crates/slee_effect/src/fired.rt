@@ -1,3 +1,4 @@
+//! The fields of a fired event, their names rising. Contracts see the list of names and values.
 ghost use Rattle.std.specs.Prelude.{◌≡◌, ◌++◌, ◌∷◌, [], IsTrue, IfOk, OnOk, OnErr, length, map};
 ghost use Rattle.std.specs.List.{AllByRecursion};
 ghost use Rattle.slee_effect.specs.Resolving.{resolved_field, CanResolveField};

@@ -1,3 +1,4 @@
+//! The names of an event's fields read in rising order, with the first byte that breaks it.
 ghost use Rattle.std.specs.Prelude.{◌≡◌, ℕ, List, [], Some};
 ghost use Rattle.slee_value.specs.Reading.{Gives, Fails, text_at};
 ghost use Rattle.slee_effect.specs.Rising.{greatest_behind, greatest_first, greatest_next, behind_next, reach, fall, name_fall};

@@ -1,3 +1,5 @@
+//! References to entities, activities and timers, those of the same list of effects included.
+
 /// Names an entity, an activity or a timer.
 #[derive(Debug, Clone, Copy, PartialEq, Eq)]
 pub enum Ref {

@@ -1,3 +1,4 @@
+//! References to what effects create, replaced by the numbers that it gets.
 ghost use Rattle.std.specs.Prelude.{◌≡◌, ◌+◌, ◌<◌, ◌^◌, map};
 ghost use Rattle.std.specs.List.{AllByRecursion};
 ghost use Rattle.slee_effect.specs.Resolving.{resolved_ref, resolved_val, resolved_field, resolved_effect, CanResolveRef, CanResolveVal, CanResolveField, CanResolve};

@@ -1,3 +1,4 @@
+//! The fields of a fired event read from bytes.
 ghost use Rattle.std.specs.Prelude.{◌≡◌, None};
 ghost use Rattle.slee_value.specs.Reading.{Gives};
 ghost use Rattle.slee_effect.specs.Reading.{field_at, rows_at, fields_at, last_name};

@@ -1,3 +1,4 @@
+//! Values in effects.
 ghost use Rattle.std.specs.Prelude.{◌≡◌, IfOk};
 
 use slee_value::{NoMemory, Value};

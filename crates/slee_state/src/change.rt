@@ -1,3 +1,5 @@
+//! The changes of the state, each a call of one store or of the few things that no store keeps.
+
 use crate::{AcKind, Event, ServiceState, TimerSpec};
 use slee_value::{ActivityId, ConvName, EntityId, Name, Names, Payload, Text, TimerId, Value};
 

@@ -1,3 +1,5 @@
+//! The rows of the state's lists.
+
 use slee_value::{
     ActivityId, ConvName, EntityId, EventId, Keep, Name, Payload, Text, TimerId, Value,
 };

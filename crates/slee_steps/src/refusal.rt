@@ -1,3 +1,5 @@
+//! Why a signal line is refused.
+
 /// Why a line is refused.
 #[derive(Debug, Clone, Copy, PartialEq, Eq)]
 pub enum Refusal {

@@ -1,3 +1,4 @@
+//! What identifies a component (JSR 240, chapter 3).
 ghost use Rattle.std.specs.Prelude.{◌≡◌, ◌↔◌, IsTrue, IfOk};
 
 use crate::{NoMemory, Text};

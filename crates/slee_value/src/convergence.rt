@@ -1,3 +1,4 @@
+//! Convergence names (JSR 240, chapter 8).
 ghost use Rattle.std.specs.Prelude.{◌≡◌, ◌↔◌, IsTrue, IfOk};
 
 use crate::{ActivityId, Blob, EventId, NoMemory, Text};

@@ -1,3 +1,4 @@
+//! Why bytes are no value.
 ghost use Rattle.std.specs.Prelude.{◌≡◌};
 
 use crate::NoMemory;

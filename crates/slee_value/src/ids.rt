@@ -1,3 +1,5 @@
+//! The numbers of entities, activities, timers and events.
+
 /// The number of an entity. Entities are numbered from 1, and no number is used twice; 0 is no entity.
 #[derive(Debug, Clone, Copy, PartialEq, Eq)]
 pub struct EntityId(pub u64);

@@ -1,3 +1,5 @@
+//! The types of values.
+
 /// The type of a value.
 #[derive(Debug, Clone, Copy, PartialEq, Eq)]
 pub enum Kind {

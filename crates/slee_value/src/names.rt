@@ -1,3 +1,4 @@
+//! Names of events in byte order. Contracts see their list.
 ghost use Rattle.std.specs.Prelude.{◌≡◌, ◌++◌, ◌∷◌, [], IsTrue, IfOk, OnOk, OnErr, length};
 ghost use Rattle.slee_value.specs.Order.{rises};
 

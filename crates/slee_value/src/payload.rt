@@ -1,3 +1,4 @@
+//! The fields of an event in byte order. Contracts see the list of names and values.
 ghost use Rattle.std.specs.Prelude.{◌≡◌, ◌++◌, ◌∷◌, [], IsTrue, IfOk, OnOk, OnErr, length};
 ghost use Rattle.slee_value.specs.Fields.{are_fields};
 

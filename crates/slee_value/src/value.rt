@@ -1,3 +1,4 @@
+//! Values of fields and attributes, typed.
 ghost use Rattle.std.specs.Prelude.{◌≡◌, ◌↔◌, IsTrue, IfOk};
 ghost use Rattle.slee_value.specs.Kinds.{kind_of};
 
