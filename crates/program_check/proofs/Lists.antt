@@ -7,7 +7,7 @@ use Rattle.script_types.specs.declared.codes.BlockCode.{BlockCode}
 use Rattle.script_types.specs.declared.checked_script.BlockSteps.{BlockSteps}
 use Rattle.script_tree.specs.Script.{tree_of_script}
 use Rattle.script_tree.specs.Tree.{Bytes}
-use Rattle.script_types.specs.Codes.{Codes, Block, Handler, Method}
+use Rattle.script_types.specs.Codes.{Codes, Block, Handler}
 use Rattle.script_types.specs.CodesOf.{handler_of_code, method_of_code, block_of_code}
 use Rattle.script_types.specs.Typing.{handler_task, method_task}
 use Rattle.script_types.specs.Program.{Steps, HandlerProgram, MethodProgram, BlockProgram}
