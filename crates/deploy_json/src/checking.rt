@@ -3,10 +3,10 @@ ghost use Rattle.std.specs.Prelude.{◌≡◌, [], IfOk, Option, MatchResult, Ok
 ghost use Rattle.script_types.specs.ProgramOf.{IsChecked};
 ghost use Rattle.deployment_parts.specs.Tables.{parts_fault};
 ghost use Rattle.deploy_parts.specs.Rows.{parts_row};
-ghost use Rattle.deploy_json.specs.Reading.{Tells, checked_parts, reading_of, read_as};
+ghost use Rattle.deploy_reading.specs.Reading.{Tells};
+ghost use Rattle.deploy_json.specs.Reading.{checked_parts, reading_of, read_as};
 
-use crate::fault::ReadFault;
-use crate::reading::read_parts;
+use deploy_reading::{ReadFault, read_parts};
 use deployment_parts::{DeployFault, Parts};
 use handler_check::{CheckFault, Checked, check};
 use slee_descriptor::Deployment;

@@ -2,10 +2,12 @@
 
 use crate::print::print_answer;
 use crate::trouble::Trouble;
-use deploy_json::{ReadFault, read_deployment, read_parts};
+use deploy_json::{ReadFault, read_deployment};
+use deploy_reading::read_parts;
 use std::{env, io};
 
 /// How much of a reading is done again and again.
+#[derive(Clone, Copy)]
 enum Extent {
     Parts,
     Deployment,
@@ -51,13 +53,13 @@ fn print_all(rt: &HostRuntime, text: &str) -> Result<(), Trouble> {
 /// Reads a document so many times.
 fn repeat(rt: &HostRuntime, text: &str, extent: Extent, count: u32) -> Result<(), Trouble> {
     for _ in 0..count {
-        read_once(rt, text, &extent)?;
+        read_once(rt, text, extent)?;
     }
     println!(rt; "{count}")?;
     Ok(())
 }
 
-fn read_once(rt: &HostRuntime, text: &str, extent: &Extent) -> Result<(), Trouble> {
+fn read_once(rt: &HostRuntime, text: &str, extent: Extent) -> Result<(), Trouble> {
     let fault = match extent {
         Extent::Parts => read_parts(rt.alloc(), text.as_bytes()).err(),
         Extent::Deployment => read_deployment(rt.alloc(), text.as_bytes()).err(),

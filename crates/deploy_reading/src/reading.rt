@@ -6,7 +6,7 @@ ghost use Rattle.deployment_parts.specs.Faults.{Tells as ShapeTells};
 ghost use Rattle.deploy_tables.specs.Tables.{shape_fault};
 ghost use Rattle.deploy_parts.specs.Sources.{first_misread, Tells as ScriptTells};
 ghost use Rattle.deploy_parts.specs.Rows.{parts_row};
-ghost use Rattle.deploy_json.specs.Reading.{Tells, document_parts, parts_of, value_in};
+ghost use Rattle.deploy_reading.specs.Reading.{Tells, document_parts, parts_of, value_in};
 
 use crate::fault::ReadFault;
 use deploy_parts::{PartsFault, build_parts};
@@ -90,9 +90,9 @@ fn read_document(alloc: Global, document: &Value) -> Result<Parts, ReadFault>
     }
 }
 
-/// The parts that the bytes are, or the first thing that is wrong with them. No script is checked.
+/// The parts that the bytes are, or the first thing that is wrong with them. The parts have no fault, and no script is checked.
 pub fn read_parts(alloc: Global, bytes: &[u8]) -> Result<Parts, ReadFault>
-    ensures { MatchResult result (λ p. parts_of bytes.now ≡ Ok (parts_row p)) (Tells (parts_of bytes.now)) }
+    ensures read { MatchResult result (λ p. parts_of bytes.now ≡ Ok (parts_row p)) (Tells (parts_of bytes.now)) }
 {
     match read_value(alloc, bytes) {
         Ok(document) => read_document(alloc, &document),

@@ -2,7 +2,7 @@ use Rattle.std.proofs.Common.{subst}
 use Rattle.deployment_parts.specs.declared.fault.DeployFault.{DeployFault}
 use Rattle.deployment_parts.specs.Faults.{Tells}
 use Rattle.deploy_tables.specs.Tables.{shape_fault}
-use Rattle.deploy_json.proofs.reading.shape_of.Goals as goal
+use Rattle.deploy_reading.proofs.reading.shape_of.Goals as goal
 
 pub returns-in-NoMemory : goal.returns-in-NoMemory
 returns-in-NoMemory c = λ d m. tt

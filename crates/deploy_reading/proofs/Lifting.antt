@@ -4,9 +4,9 @@ use Rattle.serde_json.specs.Data.{Data}
 use Rattle.serde_json.specs.Read.{read}
 use Rattle.script_tree.specs.Tree.{Bytes}
 use Rattle.deployment_parts.specs.declared.parts.Parts.{Parts}
-use Rattle.deploy_json.specs.declared.fault.ReadFault.{ReadFault}
-use Rattle.deploy_json.specs.declared.fault.ReadFault.TheVariants as faults
-use Rattle.deploy_json.specs.Reading.{Means, HasParts, AreParts, IsFirst, IsFaultOf}
+use Rattle.deploy_reading.specs.declared.fault.ReadFault.{ReadFault}
+use Rattle.deploy_reading.specs.declared.fault.ReadFault.TheVariants as faults
+use Rattle.deploy_reading.specs.Reading.{Means, HasParts, AreParts, IsFirst, IsFaultOf}
 
 fault_of : (bytes : Bytes) (d : Data) (e : ReadFault) → Means bytes d → IsFirst d e → IsFaultOf bytes e
 fault_of bytes d faults.Json m h = absurd h

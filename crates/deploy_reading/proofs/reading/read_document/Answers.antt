@@ -1,5 +1,5 @@
 use Rattle.serde_json.specs.View.{view}
-use Rattle.deploy_json.proofs.reading.read_document.Goals as goal
+use Rattle.deploy_reading.proofs.reading.read_document.Goals as goal
 
 pub read_scripts-requires : goal.read_scripts-requires
 read_scripts-requires c = c.in-Ok.ensures

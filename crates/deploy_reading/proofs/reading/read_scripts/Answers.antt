@@ -1,5 +1,5 @@
 use Rattle.serde_json.specs.View.{view}
-use Rattle.deploy_json.proofs.reading.read_scripts.Goals as goal
+use Rattle.deploy_reading.proofs.reading.read_scripts.Goals as goal
 
 pub build_parts-requires : goal.build_parts-requires
 build_parts-requires c = record { shape = c.requires }

@@ -1,7 +1,7 @@
 use Rattle.std.proofs.Common.{◌≡◌, Some, subst}
 use Rattle.script_tree.specs.declared.fault.SyntaxFault.{SyntaxFault}
 use Rattle.deploy_parts.specs.Sources.{first_misread}
-use Rattle.deploy_json.proofs.reading.misread.Goals as goal
+use Rattle.deploy_reading.proofs.reading.misread.Goals as goal
 
 pub returns-in-NoMemory : goal.returns-in-NoMemory
 returns-in-NoMemory c = λ d s m. tt
