@@ -1,1 +1,3 @@
-pub mod Lifting
+pub mod Walks
+pub mod LookUps
+pub mod NoFault
