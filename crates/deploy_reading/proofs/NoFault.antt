@@ -77,21 +77,21 @@ named_fresh all m owner s h = later_none (name_rule s) (fresh (all s) m) h
 version_fresh : (parts all : p.IdNumbering) → ((q : ComponentId) → parts q ≡ all q) → (m : ℕ) (id : ComponentId) → p.version all m id ≡ None → p.version parts m id ≡ None
 version_fresh parts all same m id h =
     both_none (first_none (label_rule id.version) (fresh (all id) m) h)
-      (ap (λ (o : Option ℕ). fresh o m) (same id) ∙ later_none (label_rule id.version) (fresh (all id) m) h)
+    (ap (λ (o : Option ℕ). fresh o m) (same id) ∙ later_none (label_rule id.version) (fresh (all id) m) h)
 
 component_none : (d : Data) (keys : Numbering) (ids all : p.IdNumbering) → ((q : ComponentId) → ids q ≡ all q) → (m : ℕ)
-  → fresh (keys (text_at (codes "key") d)) m ≡ None
-  → label_rule (text_at (codes "name") d) ≡ None
-  → label_rule (text_at (codes "vendor") d) ≡ None
-  → p.version all m (id_of d) ≡ None
-  → p.component (text_at (codes "key")) id_of keys ids m d ≡ None
+    → fresh (keys (text_at (codes "key") d)) m ≡ None
+    → label_rule (text_at (codes "name") d) ≡ None
+    → label_rule (text_at (codes "vendor") d) ≡ None
+    → p.version all m (id_of d) ≡ None
+    → p.component (text_at (codes "key")) id_of keys ids m d ≡ None
 component_none d keys ids all same m key name vendor version =
     both_none (kept_none (codes "key") key)
-      (both_none
-        (both_none (kept_none (codes "name") name)
-          (both_none (kept_none (codes "vendor") vendor)
-            (both_none (kept_none (codes "version") (version_fresh ids all same m (id_of d) version)) ended)))
-        ended)
+    (both_none
+    (both_none (kept_none (codes "name") name)
+    (both_none (kept_none (codes "vendor") vendor)
+    (both_none (kept_none (codes "version") (version_fresh ids all same m (id_of d) version)) ended)))
+    ended)
 
 -- types and attributes
 field_kind : (o : Option Kind) → profile_type o ≡ None → profile_kind (unwrap_or o kinds.Int) ≡ None
@@ -116,13 +116,13 @@ event_none all keys ids same_key same_id owner m x d e h =
     let first = later_none (unless (not (p.is_taken key)) bad.Repeated) (fresh (all.events key) m) rule in
     let P : EventType → Type 0 = λ y. p.event_type keys ids m y ≡ None in
     subst P (sym e)
-      (both_none (kept_none (codes "key") free)
-        (both_none
-          (component_none d keys ids all.event_ids same_id m (key_fresh keys all.events same_key m key first)
-            (needed_text (codes "name") label m d (get (codes "name") d) w.1.0)
-            (needed_text (codes "vendor") label m d (get (codes "vendor") d) w.1.1.0)
-            (needed_text (codes "version") (t.version all.event_ids) m d (get (codes "version") d) w.1.1.1.0))
-          ended))
+    (both_none (kept_none (codes "key") free)
+    (both_none
+    (component_none d keys ids all.event_ids same_id m (key_fresh keys all.events same_key m key first)
+    (needed_text (codes "name") label m d (get (codes "name") d) w.1.0)
+    (needed_text (codes "vendor") label m d (get (codes "vendor") d) w.1.1.0)
+    (needed_text (codes "version") (t.version all.event_ids) m d (get (codes "version") d) w.1.1.1.0))
+    ended))
 
 profile_none : (all : Names) (keys : Numbering) (ids : p.IdNumbering) → ((q : Bytes) → keys q ≡ all.profiles q) → ((q : ComponentId) → ids q ≡ all.profile_ids q) → (owner : Data) (m : ℕ) (x : ProfileSpec) (d : Data) → IsProfile d → x ≡ profile_of d → object (t.profile_members all) m owner d ≡ None → p.profile_spec keys ids m x ≡ None
 profile_none all keys ids same_key same_id owner m x d fits e h =
@@ -132,20 +132,20 @@ profile_none all keys ids same_key same_id owner m x d fits e h =
     let first = named_fresh all.profiles m d key (needed_text (codes "key") (fresh_name all.profiles) m d (get (codes "key") d) w.0) in
     let P : ProfileSpec → Type 0 = λ y. p.profile_spec keys ids m y ≡ None in
     subst P (sym e)
-      (both_none
-        (component_none d keys ids all.profile_ids same_id m (key_fresh keys all.profiles same_key m key first)
-          (needed_text (codes "name") label m d (get (codes "name") d) w.1.0)
-          (needed_text (codes "vendor") label m d (get (codes "vendor") d) w.1.1.0)
-          (needed_text (codes "version") (t.version all.profile_ids) m d (get (codes "version") d) w.1.1.1.0))
-        (both_none
-          (kept_none (codes "attributes")
-            (map_none (λ (a : Bytes × Kind). a) field_of (λ a. a.0) (λ a. profile_kind a.1) (codes "attributes") (named (text profile_word)) m d
-              (attribute_none m d) own (get (codes "attributes") d) (map-id own) w.1.1.1.1.0))
-          (both_none
-            (kept_none (codes "unique")
-              (list_none (λ (s : Bytes). s) text_of (λ _ s. known (p.kind_of own s)) (codes "unique") (text t.attribute_name) m d
-                (unique_none own d (same_kind (codes "attributes") d fits.attributes)) (listed text_of (items_at (codes "unique") d)) (get (codes "unique") d) (map-id (listed text_of (items_at (codes "unique") d))) w.1.1.1.1.1.0))
-            ended)))
+    (both_none
+    (component_none d keys ids all.profile_ids same_id m (key_fresh keys all.profiles same_key m key first)
+    (needed_text (codes "name") label m d (get (codes "name") d) w.1.0)
+    (needed_text (codes "vendor") label m d (get (codes "vendor") d) w.1.1.0)
+    (needed_text (codes "version") (t.version all.profile_ids) m d (get (codes "version") d) w.1.1.1.0))
+    (both_none
+    (kept_none (codes "attributes")
+    (map_none (λ (a : Bytes × Kind). a) field_of (λ a. a.0) (λ a. profile_kind a.1) (codes "attributes") (named (text profile_word)) m d
+    (attribute_none m d) own (get (codes "attributes") d) (map-id own) w.1.1.1.1.0))
+    (both_none
+    (kept_none (codes "unique")
+    (list_none (λ (s : Bytes). s) text_of (λ _ s. known (p.kind_of own s)) (codes "unique") (text t.attribute_name) m d
+    (unique_none own d (same_kind (codes "attributes") d fits.attributes)) (listed text_of (items_at (codes "unique") d)) (get (codes "unique") d) (map-id (listed text_of (items_at (codes "unique") d))) w.1.1.1.1.1.0))
+    ended)))
 
 table_none : (all : Names) (parts : p.Known) → Agree all parts → (m : ℕ) (owner : Data) (x : Table) (k : Bytes) (d : Data) → x ≡ table_of k d → named (text (reference all.profiles)) k m owner d ≡ None → known (parts.profiles x.profile) ≡ None
 table_none all parts agree m owner x k d e h =
@@ -160,12 +160,12 @@ service_none all parts agree keys ids same_key same_id owner m x d e h =
     let root = needed_text (codes "root") (reference all.blocks) m d (get (codes "root") d) w.1.1.1.1.0 in
     let P : Service → Type 0 = λ y. p.service parts keys ids m y ≡ None in
     subst P (sym e)
-      (both_none
-        (component_none d keys ids all.service_ids same_id m (key_fresh keys all.services same_key m key first)
-          (needed_text (codes "name") label m d (get (codes "name") d) w.1.0)
-          (needed_text (codes "vendor") label m d (get (codes "vendor") d) w.1.1.0)
-          (needed_text (codes "version") (t.version all.service_ids) m d (get (codes "version") d) w.1.1.1.0))
-        (both_none (kept_none (codes "root") (referred parts.blocks all.blocks agree.blocks m d (text_at (codes "root") d) root)) ended))
+    (both_none
+    (component_none d keys ids all.service_ids same_id m (key_fresh keys all.services same_key m key first)
+    (needed_text (codes "name") label m d (get (codes "name") d) w.1.0)
+    (needed_text (codes "vendor") label m d (get (codes "vendor") d) w.1.1.0)
+    (needed_text (codes "version") (t.version all.service_ids) m d (get (codes "version") d) w.1.1.1.0))
+    (both_none (kept_none (codes "root") (referred parts.blocks all.blocks agree.blocks m d (text_at (codes "root") d) root)) ended))
 
 -- aliases and relations
 alias_none : (all : Names) (parts : p.Known) → Agree all parts → (b : Block) (owner : Data) → block_row b ≡ block_of owner → IsBlock owner → (m : ℕ) (x : Bytes × Bytes) (k : Bytes) (d : Data) → x ≡ alias_of k d → t.alias_entry all k m owner d ≡ None → alias (p.kind_of b.attributes x.0) (parts.alias_kind x.1) ≡ None
@@ -214,11 +214,11 @@ variables_none : (b : Bool) (owner : Data) (ds : Items) → (if b && true then h
 variables_none true owner ds h = cc
 variables_none false owner ds h =
     items_none (λ (s : Bytes). s) text_of (variable_word (listed text_of ds)) (λ k. text (t.variable (texts_of ds)) k owner)
-      (λ k x d e g.
-        ap (λ (s : Bytes). variable_word (listed text_of ds) k s) e
-        ∙ ap (λ (l : List Bytes). variable_word l k (text_of d)) (sym (texts_listed ds))
-        ∙ text_keeps (t.variable (texts_of ds)) k owner d g)
-      (listed text_of ds) ds (map-id (listed text_of ds)) h
+    (λ k x d e g.
+    ap (λ (s : Bytes). variable_word (listed text_of ds) k s) e
+    ∙ ap (λ (l : List Bytes). variable_word l k (text_of d)) (sym (texts_listed ds))
+    ∙ text_keeps (t.variable (texts_of ds)) k owner d g)
+    (listed text_of ds) ds (map-id (listed text_of ds)) h
 
 initial_none : (event : Bytes) (m : ℕ) (owner : Data) (v : Option Data) → value_fault (may (codes "initial") (t.initial event)) m owner v ≡ None → p.initial event (option_map (listed text_of) (option_and_then as_array v)) ≡ None
 initial_none event m owner None h = refl
@@ -241,7 +241,7 @@ rule_none all parts agree event m owner d h =
     let w = object_members ws m owner d h in
     let field = needed_text (codes "field") (t.selection_field all event) m d (get (codes "field") d) w.1.0 in
     both_none (kept_none (codes "rule") (needed_text (codes "rule") t.selection_rule m d (get (codes "rule") d) w.0))
-      (both_none (kept_none (codes "field") (ap (λ (o : Option Kind). text_field o) (same_event_field all parts agree event (text_at (codes "field") d)) ∙ field)) ended)
+    (both_none (kept_none (codes "field") (ap (λ (o : Option Kind). text_field o) (same_event_field all parts agree event (text_at (codes "field") d)) ∙ field)) ended)
 
 unwanted_never : (b : Bool) (P : Type 0) → (if b then here bad.Range else here bad.WrongType) ≡ None → P
 unwanted_never true P h = cc
@@ -271,22 +271,22 @@ handler_none all parts agree ours theirs same owner m x d e h =
     let P : Bool → Type 0 = λ b. p.custom parts event b (custom_of d) ≡ None in
     ap (row_fault parts ours m) e
     ∙ both_none
-        (kept_none (codes "event") (event_name_none all parts agree ours theirs same m d event (needed_text (codes "event") (t.event_name all theirs) m d (get (codes "event") d) w.0)))
-        (both_none (kept_none (codes "initial") (initial_none event m d (get (codes "initial") d) w.1.0))
-          (both_none (kept_none (codes "custom") (subst P (wanted_same (option_and_then as_array (get (codes "initial") d))) custom)) ended))
+    (kept_none (codes "event") (event_name_none all parts agree ours theirs same m d event (needed_text (codes "event") (t.event_name all theirs) m d (get (codes "event") d) w.0)))
+    (both_none (kept_none (codes "initial") (initial_none event m d (get (codes "initial") d) w.1.0))
+    (both_none (kept_none (codes "custom") (subst P (wanted_same (option_and_then as_array (get (codes "initial") d))) custom)) ended))
 
 handlers_none : (all : Names) (parts : p.Known) → Agree all parts → (hs : List BlockEvent) (m : ℕ) (owner : Data) (v : Option Data) → map handler_row hs ≡ listed handler_of (items_or_none (option_and_then as_array v)) → value_fault (may (codes "events") (t.handlers all)) m owner v ≡ None → items (p.block_event parts (p.key_number (λ x. x.event) hs)) hs ≡ None
 handlers_none all parts agree hs m owner None e h = nothing_none handler_row (p.block_event parts (p.key_number (λ x. x.event) hs)) hs e
 handlers_none all parts agree hs m owner (Some d) e h =
     let theirs : Numbering = numbers_from (codes "event") 0 (items_of d) in
     let has = list_items (HasText (codes "event")) (t.handler all theirs) m owner
-        (λ k x g.
-          let w = object_members (t.handler_members all theirs (text_at (codes "event") x) (t.is_custom x)) k owner x g in
-          needed_there (codes "event") (t.event_name all theirs) k x (get (codes "event") x) w.0)
-        d h in
+    (λ k x g.
+    let w = object_members (t.handler_members all theirs (text_at (codes "event") x) (t.is_custom x)) k owner x g in
+    needed_there (codes "event") (t.event_name all theirs) k x (get (codes "event") x) w.0)
+    d h in
     array_none handler_row handler_of (p.block_event parts (p.key_number (λ x. x.event) hs)) (t.handler all theirs) m owner
-      (handler_none all parts agree (p.key_number (λ x. x.event) hs) theirs (same_numbers handler_row (codes "event") (λ (r : HandlerRow). r.event) handler_of (λ x. refl) hs (items_of d) e has) owner)
-      hs d e h
+    (handler_none all parts agree (p.key_number (λ x. x.event) hs) theirs (same_numbers handler_row (codes "event") (λ (r : HandlerRow). r.event) handler_of (λ x. refl) hs (items_of d) e has) owner)
+    hs d e h
 
 -- methods
 parameter_none : (ours theirs : Numbering) → ((q : Bytes) → ours q ≡ theirs q) → (owner : Data) (m : ℕ) (x : Bytes × Kind) (d : Data) → x ≡ parameter_of d → t.parameter theirs m owner d ≡ None → p.parameter ours m x ≡ None
@@ -305,11 +305,11 @@ parameters_none m owner (Some d) h =
     let theirs : Numbering = numbers_from (codes "name") 0 (items_of d) in
     let ws : List Want = need (codes "name") (text (fresh_name theirs)) ∷ need (codes "type") (text type_word) ∷ [] in
     let has = list_items (HasText (codes "name")) (t.parameter theirs) m owner
-        (λ k x g. needed_there (codes "name") (fresh_name theirs) k x (get (codes "name") x) (object_members ws k owner x g).0)
-        d h in
+    (λ k x g. needed_there (codes "name") (fresh_name theirs) k x (get (codes "name") x) (object_members ws k owner x g).0)
+    d h in
     array_none (λ (x : Bytes × Kind). x) parameter_of (p.parameter (p.key_number (λ x. x.0) all)) (t.parameter theirs) m owner
-      (parameter_none (p.key_number (λ x. x.0) all) theirs (same_numbers (λ (x : Bytes × Kind). x) (codes "name") (λ x. x.0) parameter_of (λ x. refl) all (items_of d) (map-id all) has) owner)
-      all d (map-id all) h
+    (parameter_none (p.key_number (λ x. x.0) all) theirs (same_numbers (λ (x : Bytes × Kind). x) (codes "name") (λ x. x.0) parameter_of (λ x. refl) all (items_of d) (map-id all) has) owner)
+    all d (map-id all) h
 
 abbrev method_fault : MethodRow → Option Fault
 method_fault r = and_then (under (codes "params") (items (p.parameter (p.key_number (λ x. x.0) r.params)) r.params)) None
@@ -328,28 +328,28 @@ block_none all parts agree ids same_id owner m b d fits e h =
     let key : Bytes = text_at (codes "key") d in
     let first = named_fresh all.blocks m d key (needed_text (codes "key") (fresh_name all.blocks) m d (get (codes "key") d) w.0) in
     both_none
-      (ap (λ (x : BlockRow). p.component (λ (y : BlockRow). y.key) (λ y. y.id) parts.blocks ids m x) e
-        ∙ component_none d parts.blocks ids all.block_ids same_id m (key_fresh parts.blocks all.blocks agree.blocks m key first)
-            (needed_text (codes "name") label m d (get (codes "name") d) w.1.0)
-            (needed_text (codes "vendor") label m d (get (codes "vendor") d) w.1.1.0)
-            (needed_text (codes "version") (t.version all.block_ids) m d (get (codes "version") d) w.1.1.1.0))
-      (both_none
-        (both_none
-          (kept_none (codes "aliases")
-            (map_none (λ (a : Bytes × Bytes). a) alias_of (λ a. a.0) (λ a. alias (p.kind_of b.attributes a.0) (parts.alias_kind a.1)) (codes "aliases") (t.alias_entry all) m d
-              (alias_none all parts agree b d e fits m) b.aliases (get (codes "aliases") d) (map-id b.aliases ∙ ap (λ (x : BlockRow). x.aliases) e) r.1.1.0))
-          (both_none
-            (kept_none (codes "relations")
-              (map_none (λ (a : Relation). a) relation_of (λ a. a.name) (p.relation parts) (codes "relations") (named (t.relation all)) m d
-                (relation_none all parts agree m d) b.relations (get (codes "relations") d) (map-id b.relations ∙ ap (λ (x : BlockRow). x.relations) e) r.1.1.1.0))
-            (both_none
-              (kept_none (codes "events") (handlers_none all parts agree b.events m d (get (codes "events") d) (ap (λ (x : BlockRow). x.events) e) r.1.1.1.1.0))
-              (both_none
-                (kept_none (codes "methods")
-                  (map_none method_row method_of (λ x. x.name) p.method (codes "methods") (named t.method) m d
-                    (method_none m d) b.methods (get (codes "methods") d) (ap (λ (x : BlockRow). x.methods) e) r.1.1.1.1.1.0))
-                ended))))
-        ended)
+    (ap (λ (x : BlockRow). p.component (λ (y : BlockRow). y.key) (λ y. y.id) parts.blocks ids m x) e
+    ∙ component_none d parts.blocks ids all.block_ids same_id m (key_fresh parts.blocks all.blocks agree.blocks m key first)
+    (needed_text (codes "name") label m d (get (codes "name") d) w.1.0)
+    (needed_text (codes "vendor") label m d (get (codes "vendor") d) w.1.1.0)
+    (needed_text (codes "version") (t.version all.block_ids) m d (get (codes "version") d) w.1.1.1.0))
+    (both_none
+    (both_none
+    (kept_none (codes "aliases")
+    (map_none (λ (a : Bytes × Bytes). a) alias_of (λ a. a.0) (λ a. alias (p.kind_of b.attributes a.0) (parts.alias_kind a.1)) (codes "aliases") (t.alias_entry all) m d
+    (alias_none all parts agree b d e fits m) b.aliases (get (codes "aliases") d) (map-id b.aliases ∙ ap (λ (x : BlockRow). x.aliases) e) r.1.1.0))
+    (both_none
+    (kept_none (codes "relations")
+    (map_none (λ (a : Relation). a) relation_of (λ a. a.name) (p.relation parts) (codes "relations") (named (t.relation all)) m d
+    (relation_none all parts agree m d) b.relations (get (codes "relations") d) (map-id b.relations ∙ ap (λ (x : BlockRow). x.relations) e) r.1.1.1.0))
+    (both_none
+    (kept_none (codes "events") (handlers_none all parts agree b.events m d (get (codes "events") d) (ap (λ (x : BlockRow). x.events) e) r.1.1.1.1.0))
+    (both_none
+    (kept_none (codes "methods")
+    (map_none method_row method_of (λ x. x.name) p.method (codes "methods") (named t.method) m d
+    (method_none m d) b.methods (get (codes "methods") d) (ap (λ (x : BlockRow). x.methods) e) r.1.1.1.1.1.0))
+    ended))))
+    ended)
 
 -- the whole document
 names_agree : (d : Data) (parts : Parts) → IsDocument d → parts_row parts ≡ parts_in d → Agree (names_in d) (p.known_in parts)
@@ -388,30 +388,30 @@ sound d parts shape e =
     let block_ids : p.IdNumbering = p.id_number (λ (x : Block). x.id) parts.blocks in
     let service_ids : p.IdNumbering = p.id_number (λ (x : Service). x.id) parts.services in
     both_none
-      (kept_none (codes "events")
-        (list_none (λ (x : EventType). x) event_type_of (p.event_type known_parts.events event_ids) (codes "events") (object (t.event_members all)) 0 d
-          (event_none all known_parts.events event_ids agree.events (same_ids (λ (x : EventType). x) (λ x. x.id) event_type_of (λ x. refl) parts.events (items_at (codes "events") d) (map-id parts.events ∙ events)) d)
-          parts.events (get (codes "events") d) (map-id parts.events ∙ events) w.0))
-      (both_none
-        (kept_none (codes "profiles")
-          (fitting_list_none IsProfile (λ (x : ProfileSpec). x) profile_of (p.profile_spec known_parts.profiles profile_ids) (codes "profiles") (object (t.profile_members all)) 0 d
-            (profile_none all known_parts.profiles profile_ids agree.profiles (same_ids (λ (x : ProfileSpec). x) (λ x. x.id) profile_of (λ x. refl) parts.profiles (items_at (codes "profiles") d) (map-id parts.profiles ∙ profiles)) d)
-            parts.profiles (get (codes "profiles") d) (map-id parts.profiles ∙ profiles) fits.profiles w.1.0))
-        (both_none
-          (kept_none (codes "tables")
-            (map_none (λ (x : Table). x) table_of (λ x. x.name) (λ x. known (known_parts.profiles x.profile)) (codes "tables") (named (text (reference all.profiles))) 0 d
-              (table_none all known_parts agree 0 d) parts.tables (get (codes "tables") d) (map-id parts.tables ∙ tables) w.1.1.0))
-          (both_none
-            (kept_none (codes "blocks")
-              (fitting_list_none IsBlock block_row block_of (p.block known_parts block_ids) (codes "blocks") (object (t.block_members all)) 0 d
-                (block_none all known_parts agree block_ids (same_ids block_row (λ (x : BlockRow). x.id) block_of (λ x. refl) parts.blocks (items_at (codes "blocks") d) blocks) d)
-                parts.blocks (get (codes "blocks") d) blocks fits.blocks w.1.1.1.0))
-            (both_none
-              (kept_none (codes "services")
-                (list_none (λ (x : Service). x) service_of (p.service known_parts service_keys service_ids) (codes "services") (object (t.service_members all)) 0 d
-                  (service_none all known_parts agree service_keys service_ids
-                    (same_numbers (λ (x : Service). x) (codes "key") (λ x. x.key) service_of (λ x. refl) parts.services (items_at (codes "services") d) (map-id parts.services ∙ services)
-                      (each_item (λ x f. text_there (member_text (codes "key") x) f.key) (items_at (codes "services") d) fits.services))
-                    (same_ids (λ (x : Service). x) (λ x. x.id) service_of (λ x. refl) parts.services (items_at (codes "services") d) (map-id parts.services ∙ services)) d)
-                  parts.services (get (codes "services") d) (map-id parts.services ∙ services) w.1.1.1.1.0))
-              ended))))
+    (kept_none (codes "events")
+    (list_none (λ (x : EventType). x) event_type_of (p.event_type known_parts.events event_ids) (codes "events") (object (t.event_members all)) 0 d
+    (event_none all known_parts.events event_ids agree.events (same_ids (λ (x : EventType). x) (λ x. x.id) event_type_of (λ x. refl) parts.events (items_at (codes "events") d) (map-id parts.events ∙ events)) d)
+    parts.events (get (codes "events") d) (map-id parts.events ∙ events) w.0))
+    (both_none
+    (kept_none (codes "profiles")
+    (fitting_list_none IsProfile (λ (x : ProfileSpec). x) profile_of (p.profile_spec known_parts.profiles profile_ids) (codes "profiles") (object (t.profile_members all)) 0 d
+    (profile_none all known_parts.profiles profile_ids agree.profiles (same_ids (λ (x : ProfileSpec). x) (λ x. x.id) profile_of (λ x. refl) parts.profiles (items_at (codes "profiles") d) (map-id parts.profiles ∙ profiles)) d)
+    parts.profiles (get (codes "profiles") d) (map-id parts.profiles ∙ profiles) fits.profiles w.1.0))
+    (both_none
+    (kept_none (codes "tables")
+    (map_none (λ (x : Table). x) table_of (λ x. x.name) (λ x. known (known_parts.profiles x.profile)) (codes "tables") (named (text (reference all.profiles))) 0 d
+    (table_none all known_parts agree 0 d) parts.tables (get (codes "tables") d) (map-id parts.tables ∙ tables) w.1.1.0))
+    (both_none
+    (kept_none (codes "blocks")
+    (fitting_list_none IsBlock block_row block_of (p.block known_parts block_ids) (codes "blocks") (object (t.block_members all)) 0 d
+    (block_none all known_parts agree block_ids (same_ids block_row (λ (x : BlockRow). x.id) block_of (λ x. refl) parts.blocks (items_at (codes "blocks") d) blocks) d)
+    parts.blocks (get (codes "blocks") d) blocks fits.blocks w.1.1.1.0))
+    (both_none
+    (kept_none (codes "services")
+    (list_none (λ (x : Service). x) service_of (p.service known_parts service_keys service_ids) (codes "services") (object (t.service_members all)) 0 d
+    (service_none all known_parts agree service_keys service_ids
+    (same_numbers (λ (x : Service). x) (codes "key") (λ x. x.key) service_of (λ x. refl) parts.services (items_at (codes "services") d) (map-id parts.services ∙ services)
+    (each_item (λ x f. text_there (member_text (codes "key") x) f.key) (items_at (codes "services") d) fits.services))
+    (same_ids (λ (x : Service). x) (λ x. x.id) service_of (λ x. refl) parts.services (items_at (codes "services") d) (map-id parts.services ∙ services)) d)
+    parts.services (get (codes "services") d) (map-id parts.services ∙ services) w.1.1.1.1.0))
+    ended))))

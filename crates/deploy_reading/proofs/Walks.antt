@@ -46,8 +46,8 @@ fitting_none P row of rule f each n [] ds e fits h = refl
 fitting_none P row of rule f each n (x ∷ xs) no_items e fits h = cc
 fitting_none P row of rule f each n (x ∷ xs) (item d ds) e fits h =
     both_none
-      (kept_none (decimal n) (each n x d fits.0 (first_same (row x) (of d) (map row xs) (listed of ds) e) (under_none (decimal n) (f n d) (first_none (under (decimal n) (f n d)) (items_fault f (n + 1) ds) h))))
-      (fitting_none P row of rule f each (n + 1) xs ds (rest_same (row x) (of d) (map row xs) (listed of ds) e) fits.1 (later_none (under (decimal n) (f n d)) (items_fault f (n + 1) ds) h))
+    (kept_none (decimal n) (each n x d fits.0 (first_same (row x) (of d) (map row xs) (listed of ds) e) (under_none (decimal n) (f n d) (first_none (under (decimal n) (f n d)) (items_fault f (n + 1) ds) h))))
+    (fitting_none P row of rule f each (n + 1) xs ds (rest_same (row x) (of d) (map row xs) (listed of ds) e) fits.1 (later_none (under (decimal n) (f n d)) (items_fault f (n + 1) ds) h))
 
 pub items_none : {A R : Type 0} (row : A → R) (of : Data → R) (rule : ℕ → Rule A) (f : ℕ → Data → Option Fault) → ((n : ℕ) (x : A) (d : Data) → row x ≡ of d → f n d ≡ None → rule n x ≡ None) → (xs : List A) (ds : Items) → map row xs ≡ listed of ds → items_fault f 0 ds ≡ None → items rule xs ≡ None
 items_none row of rule f each xs ds e h = fitting_none (λ d. Unit {0}) row of rule f (λ n x d t same none. each n x d same none) 0 xs ds e (any_items ds) h
@@ -74,8 +74,8 @@ entries_none row of name rule f each [] ms e h = refl
 entries_none row of name rule f each (x ∷ xs) no_members e h = cc
 entries_none row of name rule f each (x ∷ xs) (member k d ms) e h =
     both_none
-      (kept_none (name x) (each x k d (first_same (row x) (of k d) (map row xs) (entries_in of ms) e) (under_none (escaped k) (f k d) (first_none (under (escaped k) (f k d)) (entries_fault f ms) h))))
-      (entries_none row of name rule f each xs ms (rest_same (row x) (of k d) (map row xs) (entries_in of ms) e) (later_none (under (escaped k) (f k d)) (entries_fault f ms) h))
+    (kept_none (name x) (each x k d (first_same (row x) (of k d) (map row xs) (entries_in of ms) e) (under_none (escaped k) (f k d) (first_none (under (escaped k) (f k d)) (entries_fault f ms) h))))
+    (entries_none row of name rule f each xs ms (rest_same (row x) (of k d) (map row xs) (entries_in of ms) e) (later_none (under (escaped k) (f k d)) (entries_fault f ms) h))
 
 in_object : {A R : Type 0} (row : A → R) (of : Bytes → Data → R) (name : A → Bytes) (rule : Rule A) (f : Bytes → Data → Option Fault) → ((x : A) (k : Bytes) (d : Data) → row x ≡ of k d → f k d ≡ None → rule x ≡ None) → (xs : List A) (o : Option Members) → map row xs ≡ entries_in of (members_or_none o) → map_or_type f o ≡ None → entries name rule xs ≡ None
 in_object row of name rule f each xs None e h = entries_none row of name rule f each xs no_members e refl
