@@ -33,6 +33,12 @@ use Rattle.deploy_reading.specs.declared.fault.ReadFault.TheVariants as faults
 use Rattle.deploy_json.specs.Scripts.{method_name, path_in, script_path, text_in, script_text, codes_in_rows}
 use Rattle.deploy_json.specs.Reading.{Reading, check_at, check_read, programmed, checked_parts}
 use Rattle.deploy_json.proofs.Codes.{codes_same}
+use Rattle.script_types.specs.ProgramOf.{kept_program}
+use Rattle.slee_descriptor.specs.declared.deployment.Deployment.{Deployment}
+use Rattle.handler_check.specs.declared.fault.CheckFault.TheVariants as answers
+use Rattle.handler_check.specs.Told.{Tells as CheckTells}
+use Rattle.deploy_reading.specs.Reading.{Tells, parts_of}
+use Rattle.deploy_json.specs.Reading.{read_as, reading_of}
 
 -- names of methods
 name_found : (o : Option Method) → option_map_or (λ (m : MethodCode). m.name) (option_map method_code o) [] ≡ option_map_or (λ (m : MethodRow). m.name) (option_map method_row o) []
@@ -124,3 +130,24 @@ reading_same p all e =
     ap (λ a. programmed (parts_row p) (program_of a)) (sym (codes_same p))
     ∙ told_same p (program_of (codes_of (codes_in p [])))
     ∙ ap (λ a. answered (parts_row p) (checked a)) (sym e)
+
+pub reading_told : (p : Parts) (all : Codes) (f : Fault) → all ≡ codes_in p [] → checked all ≡ Err f → checked_parts (Ok (parts_row p)) ≡ Err (faults.Check f.path f.line f.column f.kind)
+reading_told p all f e h = reading_same p all e ∙ ap (answered (parts_row p)) h
+
+pub reading_done : (d c : Deployment) → d.codes ≡ codes_in d.parts [] → c.parts ≡ d.parts → checked d.codes ≡ Ok (kept_program c.codes) → checked_parts (Ok (parts_row d.parts)) ≡ Ok (read_as c)
+reading_done d c e same h =
+    let with : Parts → Result Reading ReadFault = λ p. Ok (record { parts = parts_row p; program = kept_program c.codes }) in
+    reading_same d.parts d.codes e ∙ ap (answered (parts_row d.parts)) h ∙ ap with (sym same)
+
+-- what is answered where the parts are these, is answered of the bytes
+pub of_bytes : {A : Type 0} (P : A → Result Reading ReadFault → Type 0) (bytes : Bytes) (p : Parts) (x : A) → parts_of bytes ≡ Ok (parts_row p) → P x (checked_parts (Ok (parts_row p))) → P x (reading_of bytes)
+of_bytes P bytes p x e h =
+    let Q : Result PartsRow ReadFault → Type 0 = λ r. P x (checked_parts r) in
+    subst Q (sym e) h
+
+pub told_of_bytes : (bytes : Bytes) (f : ReadFault) → Tells (parts_of bytes) f → Tells (reading_of bytes) f
+told_of_bytes bytes faults.NoMemory h = tt
+told_of_bytes bytes faults.Json h = ap checked_parts h
+told_of_bytes bytes (faults.Shape pointer kind) h = ap checked_parts h
+told_of_bytes bytes (faults.Syntax pointer line column kind) h = ap checked_parts h
+told_of_bytes bytes (faults.Check pointer line column kind) h = ap checked_parts h
