@@ -8,7 +8,6 @@ use Rattle.std.specs.Ordering.{nat_cmp, is_eq, match_ordering}
 use Rattle.std.specs.Cmp.Lexicographic.{slice_cmp}
 use Rattle.serde_json.specs.Data.{Data, null, boolean, number, string, array, object, Items, no_items, item, Members, no_members, member}
 use Rattle.serde_json.specs.Find.{get, get_member, get_item, as_str, as_object}
-use Rattle.slee_value.specs.Name.{is_name}
 use Rattle.slee_value.specs.declared.kind.Kind.{Kind}
 use Rattle.slee_value.specs.declared.kind.Kind.TheVariants as kinds
 use Rattle.slee_value.specs.declared.component.ComponentId.{ComponentId}

@@ -15,28 +15,27 @@ use Rattle.deployment_parts.specs.declared.parts.EventType.{EventType}
 use Rattle.deployment_parts.specs.declared.parts.ProfileSpec.{ProfileSpec}
 use Rattle.deployment_parts.specs.declared.parts.Table.{Table}
 use Rattle.deployment_parts.specs.declared.parts.Relation.{Relation}
-use Rattle.deployment_parts.specs.declared.parts.CustomRule.{CustomRule}
 use Rattle.deployment_parts.specs.declared.parts.BlockEvent.{BlockEvent}
 use Rattle.deployment_parts.specs.declared.parts.Method.{Method}
 use Rattle.deployment_parts.specs.declared.parts.Block.{Block}
 use Rattle.deployment_parts.specs.declared.parts.Service.{Service}
 use Rattle.deployment_parts.specs.declared.parts.Parts.{Parts}
 use Rattle.deployment_parts.specs.Faults.{Fault, here, unless, under, and_then}
-use Rattle.deployment_parts.specs.Rules.{Numbering, Rule, items, entries as entries_rule, fresh, known, label as label_rule, alias, profile_kind, variable_word, rule_word, text_field}
+use Rattle.deployment_parts.specs.Rules.{Numbering, items, fresh, known, label as label_rule, alias, profile_kind, variable_word, text_field}
 use Rattle.deployment_parts.specs.Tables as p
-use Rattle.deploy_shape.specs.Forms.{Form, Want, need, may, list_of, map_of, named, object, name_rule, value_fault, items_fault, list_or_type, priority, flag, or_null}
-use Rattle.deploy_shape.specs.Texts.{TextRule, text, text_or_type, label, fresh_name, reference, name_number, type_word, profile_word, profile_type, kind_of_word}
+use Rattle.deploy_shape.specs.Forms.{Want, need, may, named, object, name_rule, value_fault, items_fault, priority, or_null}
+use Rattle.deploy_shape.specs.Texts.{TextRule, text, text_or_type, label, fresh_name, reference, type_word, profile_word, profile_type, kind_of_word}
 use Rattle.deploy_shape.specs.Scripts.{script}
 use Rattle.deploy_shape.specs.Numbers.{member_text, items_of, items_at, items_or_none, numbers_from}
-use Rattle.deploy_tables.specs.Ids.{text_at, id_of, id_with, ids_from}
+use Rattle.deploy_tables.specs.Ids.{text_at, id_of}
 use Rattle.deploy_tables.specs.Names.{Names, names_in, attribute_kind, texts_of, members_at}
 use Rattle.deploy_tables.specs.Names as n
 use Rattle.deploy_tables.specs.Tables as t
-use Rattle.deploy_parts.specs.Values.{listed, entries, text_of, kind_of, field_of, fields_at, event_type_of, profile_of, table_of, relation_of, alias_of, service_of, initial_of, custom_rule_of, custom_of, parameter_of}
+use Rattle.deploy_parts.specs.Values.{listed, entries, text_of, field_of, fields_at, event_type_of, profile_of, table_of, relation_of, alias_of, service_of, custom_rule_of, custom_of, parameter_of}
 use Rattle.deploy_parts.specs.Rows.{HandlerRow, MethodRow, BlockRow, PartsRow, handler_row, method_row, block_row, parts_row}
 use Rattle.deploy_parts.specs.Documents.{handler_of, method_of, block_of, parts_in}
-use Rattle.deploy_parts.specs.Shapes.{EachItem, EachMember, IsName, IsField, IsEventType, IsProfile, IsBlock, IsService, IsDocument}
-use Rattle.deploy_parts.proofs.Faultless.{first_none, later_none, unless_none, object_members, text_keeps, needed_text, list_items}
+use Rattle.deploy_parts.specs.Shapes.{EachItem, IsEventType, IsProfile, IsBlock, IsDocument}
+use Rattle.deploy_parts.proofs.Faultless.{first_none, later_none, object_members, text_keeps, needed_text, list_items}
 use Rattle.deploy_parts.proofs.Shaped.{shaped}
 use Rattle.deploy_reading.proofs.Walks.{ended, both_none, kept_none, nothing_none, items_none, array_none, list_none, fitting_list_none, map_none}
 use Rattle.deploy_reading.proofs.LookUps.{HasText, text_there, each_item, same_numbers, same_ids, same_kind, same_field, block_kind, same_aliases}

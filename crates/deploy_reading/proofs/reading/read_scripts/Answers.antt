@@ -8,8 +8,8 @@ build_parts-requires c = record { shape = c.requires }
 
 pub returns-in-Ok : goal.returns-in-Ok
 returns-in-Ok c = record {
-  sound = sound (view c.args.document.now) c.in-Ok.value c.requires c.in-Ok.ensures.built;
-  read = of_parts (view c.args.document.now) c.in-Ok.value c.requires c.in-Ok.ensures.fault c.in-Ok.ensures.built;
+  sound = sound (view c.args.document.now) c.in-Ok.parts c.requires c.in-Ok.ensures.built;
+  read = of_parts (view c.args.document.now) c.in-Ok.parts c.requires c.in-Ok.ensures.fault c.in-Ok.ensures.built;
 }
 
 pub returns-in-Err : goal.returns-in-Err

@@ -1,5 +1,4 @@
 use Rattle.std.proofs.Common.{true≢false, sym, ◌∙◌}
-use Rattle.serde_json.specs.View.{view}
 use Rattle.deploy_reading.proofs.Answering.{no_value, value_is}
 use Rattle.deploy_reading.proofs.reading.read_value.Goals as goal
 
