@@ -3,8 +3,8 @@ use Rattle.deploy_json.proofs.checking.check_scripts.Goals as goal
 
 pub returns-in-Ok : goal.returns-in-Ok
 returns-in-Ok c = record {
-  typed = typed c.args.deployment.codes c.in-Ok.checked.deployment.codes c.in-Ok.ensures.codes c.in-Ok.ensures.program;
-  read = reading_done c.args.deployment c.in-Ok.checked.deployment c.requires c.in-Ok.ensures.parts c.in-Ok.ensures.program;
+  typed = typed c.args.deployment.codes c.in-Ok.checked.codes c.in-Ok.ensures.codes c.in-Ok.ensures.program;
+  read = reading_done c.args.deployment c.in-Ok.checked c.requires c.in-Ok.ensures.parts c.in-Ok.ensures.program;
 }
 
 pub returns-in-Err : goal.returns-in-Err

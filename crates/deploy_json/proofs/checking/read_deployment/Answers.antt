@@ -8,7 +8,7 @@ use Rattle.deploy_json.proofs.checking.read_deployment.Goals as goal
 
 pub returns-in-Ok : goal.returns-in-Ok
 returns-in-Ok c =
-    let P : Result PartsRow ReadFault → Type 0 = λ r. MatchResult c.check_parts.result (λ d. checked_parts r ≡ Ok (read_as d.deployment)) (Tells (checked_parts r)) in
+    let P : Result PartsRow ReadFault → Type 0 = λ r. MatchResult c.check_parts.result (λ d. checked_parts r ≡ Ok (read_as d)) (Tells (checked_parts r)) in
     record { typed = c.check_parts.ensures.typed; read = subst P (sym c.in-Ok.ensures.read) c.check_parts.ensures.read }
 
 pub returns-in-Err : goal.returns-in-Err
