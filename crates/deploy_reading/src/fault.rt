@@ -2,6 +2,7 @@
 
 use deployment_parts::DeployBad;
 use handler_lang::SyntaxBad;
+use script_types::CheckBad;
 use slee_value::Text;
 
 /// Why bytes are no deployment. Pointers are JSON pointers; lines and columns count from 1, columns in bytes.
@@ -20,6 +21,13 @@ pub enum ReadFault {
         line: u64,
         column: u64,
         kind: SyntaxBad,
+    },
+    /// The first fault of a script that can be read, and where.
+    Check {
+        pointer: Text,
+        line: u64,
+        column: u64,
+        kind: CheckBad,
     },
     NoMemory,
 }

@@ -1,11 +1,13 @@
-//! Deployments of bytes: no JSON comes first, then the first fault of the JSON value, then the first script that can't be read.
-ghost use Rattle.std.specs.Prelude.{◌≡◌, Option, MatchResult};
+//! The parts of bytes: no JSON comes first, then the first fault of the JSON value, then the first script that can't be read.
+ghost use Rattle.std.specs.Prelude.{◌≡◌, Option, IfOk, MatchResult, Ok};
 ghost use Rattle.serde_json.specs.Data.{Data};
 ghost use Rattle.serde_json.specs.View.{view};
 ghost use Rattle.deployment_parts.specs.Faults.{Tells as ShapeTells};
+ghost use Rattle.deployment_parts.specs.Tables.{parts_fault};
 ghost use Rattle.deploy_tables.specs.Tables.{shape_fault};
-ghost use Rattle.deploy_parts.specs.Sources.{first_misread, Tells};
-ghost use Rattle.deploy_json.specs.Reading.{Means, HasParts, AreParts, IsFirst, IsFaultOf};
+ghost use Rattle.deploy_parts.specs.Sources.{first_misread, Tells as ScriptTells};
+ghost use Rattle.deploy_parts.specs.Rows.{parts_row};
+ghost use Rattle.deploy_reading.specs.Reading.{Tells, document_parts, parts_of, value_in};
 
 use crate::fault::ReadFault;
 use deploy_parts::{PartsFault, build_parts};
@@ -18,7 +20,7 @@ use std::alloc::Global;
 
 /// The JSON value that bytes are.
 fn read_value(alloc: Global, bytes: &[u8]) -> Result<Value, ReadFault>
-    ensures { MatchResult result (λ v. Means bytes.now (view v)) (IsFaultOf bytes.now) }
+    ensures { MatchResult result (λ v. value_in bytes.now ≡ Option.Some (view v)) (Tells (parts_of bytes.now)) }
 {
     match Value::from_slice(alloc, bytes) {
         Ok(value) => Ok(value),
@@ -32,7 +34,7 @@ fn read_value(alloc: Global, bytes: &[u8]) -> Result<Value, ReadFault>
 
 /// The fault of a script at a place of the document.
 fn misread(pointer: Text, fault: SyntaxFault) -> ReadFault
-    ensures { (d : Data) → shape_fault d ≡ Option.None → first_misread d ≡ Option.Some (record { path = pointer; fault = fault }) → IsFirst d result }
+    ensures { (d : Data) → shape_fault d ≡ Option.None → first_misread d ≡ Option.Some (record { path = pointer; fault = fault }) → Tells (document_parts d) result }
 {
     match fault {
         SyntaxFault::NoMemory => ReadFault::NoMemory,
@@ -47,7 +49,7 @@ fn misread(pointer: Text, fault: SyntaxFault) -> ReadFault
 
 /// The fault of a document's first script that can't be read.
 fn script_fault(fault: PartsFault) -> ReadFault
-    ensures { (d : Data) → shape_fault d ≡ Option.None → Tells (first_misread d) fault → IsFirst d result }
+    ensures { (d : Data) → shape_fault d ≡ Option.None → ScriptTells (first_misread d) fault → Tells (document_parts d) result }
 {
     match fault {
         PartsFault::NoMemory => ReadFault::NoMemory,
@@ -58,7 +60,8 @@ fn script_fault(fault: PartsFault) -> ReadFault
 /// The parts that a document without shape fault is.
 fn read_scripts(alloc: Global, document: &Value) -> Result<Parts, ReadFault>
     requires { shape_fault (view document.now) ≡ Option.None }
-    ensures { MatchResult result (HasParts (view document.now)) (IsFirst (view document.now)) }
+    ensures sound { IfOk result (λ p. parts_fault p ≡ Option.None) }
+    ensures read { MatchResult result (λ p. document_parts (view document.now) ≡ Ok (parts_row p)) (Tells (document_parts (view document.now))) }
 {
     match build_parts(alloc, document) {
         Ok(parts) => Ok(parts),
@@ -68,7 +71,7 @@ fn read_scripts(alloc: Global, document: &Value) -> Result<Parts, ReadFault>
 
 /// The fault of a document's shape.
 fn shape_of(fault: DeployFault) -> ReadFault
-    ensures { (d : Data) → ShapeTells (shape_fault d) fault → IsFirst d result }
+    ensures { (d : Data) → ShapeTells (shape_fault d) fault → Tells (document_parts d) result }
 {
     match fault {
         DeployFault::NoMemory => ReadFault::NoMemory,
@@ -81,7 +84,8 @@ fn shape_of(fault: DeployFault) -> ReadFault
 
 /// The parts that a document is.
 fn read_document(alloc: Global, document: &Value) -> Result<Parts, ReadFault>
-    ensures { MatchResult result (HasParts (view document.now)) (IsFirst (view document.now)) }
+    ensures sound { IfOk result (λ p. parts_fault p ≡ Option.None) }
+    ensures read { MatchResult result (λ p. document_parts (view document.now) ≡ Ok (parts_row p)) (Tells (document_parts (view document.now))) }
 {
     match check_document(alloc, document) {
         Ok(()) => read_scripts(alloc, document),
@@ -89,9 +93,10 @@ fn read_document(alloc: Global, document: &Value) -> Result<Parts, ReadFault>
     }
 }
 
-/// The parts that the bytes are, or the first thing that is wrong with them.
+/// The parts that the bytes are, or the first thing that is wrong with them. The parts have no fault, and no script is checked.
 pub fn read_parts(alloc: Global, bytes: &[u8]) -> Result<Parts, ReadFault>
-    ensures { MatchResult result (AreParts bytes.now) (IsFaultOf bytes.now) }
+    ensures sound { IfOk result (λ p. parts_fault p ≡ Option.None) }
+    ensures read { MatchResult result (λ p. parts_of bytes.now ≡ Ok (parts_row p)) (Tells (parts_of bytes.now)) }
 {
     match read_value(alloc, bytes) {
         Ok(document) => read_document(alloc, &document),

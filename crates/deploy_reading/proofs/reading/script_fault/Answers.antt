@@ -1,7 +1,7 @@
 use Rattle.std.proofs.Common.{subst}
 use Rattle.deploy_parts.specs.declared.fault.PartsFault.{PartsFault}
 use Rattle.deploy_parts.specs.Sources.{first_misread, Tells}
-use Rattle.deploy_json.proofs.reading.script_fault.Goals as goal
+use Rattle.deploy_reading.proofs.reading.script_fault.Goals as goal
 
 pub returns-in-NoMemory : goal.returns-in-NoMemory
 returns-in-NoMemory c = λ d s m. tt

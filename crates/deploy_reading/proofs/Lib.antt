@@ -1,0 +1,4 @@
+pub mod Walks
+pub mod LookUps
+pub mod NoFault
+pub mod Answering
