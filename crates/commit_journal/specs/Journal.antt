@@ -4,7 +4,7 @@ use Rattle.slee_disk.specs.declared.side.Side.{Side}
 use Rattle.slee_disk.specs.Sides.{on}
 use Rattle.slee_disk.specs.Disk.{DiskState}
 use Rattle.commit_journal.specs.declared.record.Record.{Record}
-use Rattle.commit_journal.specs.declared.limits.TheConstants.{SIDE_LIMIT}
+use Rattle.commit_journal.specs.declared.limits.TheConstants.{SIDE_LIMIT, DEPLOYMENT_MARGIN}
 use Rattle.commit_journal.specs.declared.stage.Stage.{Stage}
 use Rattle.commit_journal.specs.declared.stage.Stage.TheVariants.{Ready, Found, Stopped}
 use Rattle.commit_journal.specs.declared.stage.Stage.TheVariants as stages
@@ -59,7 +59,7 @@ pub record IsSound (stage : Stage) (kept : Kept) (end : ℕ) (batch : List (List
   pub idle : (stage ≡ Found) ⊎ (stage ≡ stages.Blank) → batch ≡ []
   pub first : stage ≡ stages.Blank → kept.head.snapshot ≡ []
   pub short : stage ≢ stages.Blank → FitsText kept.head.deployment
-  pub sized : length kept.head.deployment + 64 < 2 ^ 63
+  pub sized : length kept.head.deployment + DEPLOYMENT_MARGIN < 2 ^ 63
   -- places and sizes are numbers of 64 bits
   pub room : end + records_size batch < 2 ^ 64 - 2 ^ 20
   pub limited : limit ≤ SIDE_LIMIT

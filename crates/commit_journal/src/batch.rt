@@ -1,10 +1,12 @@
 // A batch of payloads in memory.
-ghost use Rattle.std.specs.Prelude.{◌≡◌, ◌≢◌, ◌<◌, ◌+◌, ◌^◌, ◌↔◌, [], ◌∷◌, ◌++◌, List, ℕ, length, IsTrue, OnOk, OnErr, IfOk};
+ghost use Rattle.std.specs.Prelude.{◌≡◌, ◌≢◌, ◌<◌, ◌≤◌, ◌+◌, ◌-◌, ◌^◌, ◌↔◌, [], ◌∷◌, ◌++◌, List, ℕ, length, IsTrue, OnOk, OnErr, IfOk, IfErr};
 ghost use Rattle.std.specs.List.{AllByRecursion};
 ghost use Rattle.commit_journal.specs.Spelling.{FitsText, records_size};
 ghost use Rattle.commit_journal.specs.Kept.{batched};
 
+use crate::SideFull;
 use crate::gate::{CLOSED_GATE, OPEN_GATE};
+use crate::limits::{PAYLOAD_LIMIT, RECORD_FRAME};
 use slee_value::{NoMemory, write_bytes};
 use std::alloc::Global;
 use std::marker::Model;
@@ -57,6 +59,26 @@ impl Batch {
         ensures fits { AllByRecursion FitsText self.now }
     {
         &self.bytes[1..]
+    }
+
+    /// Tests whether a payload of so many bytes has room behind it, on a side whose last gate stands at `end`.
+    pub(crate) fn check_room(
+        &self,
+        end: u64,
+        payload_len: usize,
+        limit: u64,
+    ) -> Result<(), SideFull>
+        requires room { end + records_size self.now < 2 ^ 64 - 2 ^ 20 }
+        requires short { payload_len ≤ PAYLOAD_LIMIT }
+        ensures full { IfErr result (λ full. (full.length ≡ end + 1 + records_size self.now) × (full.adding ≡ RECORD_FRAME + payload_len) × (limit < full.length + full.adding)) }
+        ensures fits { OnOk result (end + 1 + records_size self.now + (RECORD_FRAME + payload_len) ≤ limit) }
+    {
+        let length = end + 1 + self.size();
+        let adding = RECORD_FRAME + payload_len as u64;
+        if length + adding > limit {
+            return Err(SideFull { length, adding });
+        }
+        Ok(())
     }
 
     /// Adds a payload.

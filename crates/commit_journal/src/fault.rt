@@ -71,6 +71,13 @@ pub enum BeginFault {
     NoMemory,
 }
 
+/// A payload has no room: the side has `length` bytes with the batch, and the record would add `adding`.
+#[derive(Clone, Copy, Debug, PartialEq, Eq)]
+pub struct SideFull {
+    pub length: u64,
+    pub adding: u64,
+}
+
 /// Why a payload isn't taken. `length` is the size in bytes of the side with the batch, and `adding` what the record
 /// would add.
 #[derive(Clone, Copy, Debug, PartialEq, Eq, Error)]

@@ -5,7 +5,7 @@ ghost use Rattle.commit_journal.specs.Journal.{IsTooLarge};
 
 use crate::BeginFault;
 use crate::gate::CLOSED_GATE;
-use crate::limits::{SIDE_FRAME, SIDE_LIMIT};
+use crate::limits::{DEPLOYMENT_MARGIN, SIDE_FRAME, SIDE_LIMIT};
 use crate::reading::MAGIC;
 use slee_value::{NoMemory, write_bytes, write_u64};
 use std::alloc::Global;
@@ -39,7 +39,7 @@ pub(crate) fn header_within(
     snapshot: &[u8],
 ) -> Result<Vec<u8>, BeginFault>
     requires limit { limit ≤ SIDE_LIMIT }
-    requires sized { length deployment.now + 64 < 2 ^ 63 }
+    requires sized { length deployment.now + DEPLOYMENT_MARGIN < 2 ^ 63 }
     ensures bytes { IfOk result (λ v. v.items ≡ header (record { generation = generation; deployment = deployment.now; snapshot = snapshot.now }) ++ CLOSED_GATE ∷ []) }
     ensures fits { OnOk result (size (record { generation = generation; deployment = deployment.now; snapshot = snapshot.now }) [] ≤ limit) }
     ensures refused { IfErr result (λ fault. IsTooLarge (size (record { generation = generation; deployment = deployment.now; snapshot = snapshot.now }) []) limit fault) }

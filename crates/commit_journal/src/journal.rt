@@ -8,7 +8,7 @@ use crate::limits::{PAYLOAD_LIMIT, RECORD_FRAME, SIDE_LIMIT};
 use crate::reading::{next_of, other_of};
 use crate::start::find;
 use crate::writing::{cut_behind, write_batch};
-use crate::{AppendFault, BeginFault, JournalFault, Record, Stage};
+use crate::{AppendFault, BeginFault, JournalFault, Record, SideFull, Stage};
 use slee_disk::{Disk, Failed, Side};
 use slee_value::Blob;
 use std::alloc::Global;
@@ -196,6 +196,18 @@ impl<D: Disk> Journal<D> {
         }
     }
 
+    /// Tests whether a payload of so many bytes has room. It takes no memory, and calls no disk.
+    pub fn check_room(&self, payload_len: usize) -> Result<(), SideFull>
+        requires ready { self.now.stage ≡ Ready }
+        requires short { payload_len ≤ PAYLOAD_LIMIT }
+        ensures full { IfErr result (λ full. Refuses (D.disk self.now.disk).told
+            (size self.now.kept.head (self.now.kept.payloads ++ self.now.batch)) (RECORD_FRAME + payload_len) self.now.limit (AppendFault.Full full.length full.adding)) }
+        ensures fits { IsTrue (D.disk self.now.disk).told → OnOk result
+            (size self.now.kept.head (self.now.kept.payloads ++ self.now.batch) + (RECORD_FRAME + payload_len) ≤ self.now.limit) }
+    {
+        self.batch.check_room(self.end, payload_len, self.limit)
+    }
+
     /// Adds a payload to the batch, without a call of the disk.
     pub fn append(&mut self, payload: &[u8]) -> Result<(), AppendFault>
         requires ready { self.old.stage ≡ Ready }
@@ -207,10 +219,9 @@ impl<D: Disk> Journal<D> {
         ensures fits { IsTrue (D.disk self.old.disk).told → OnOk result
             (size self.old.kept.head (self.old.kept.payloads ++ self.old.batch) + (RECORD_FRAME + length payload.now) ≤ self.old.limit) }
     {
-        let length = self.end + 1 + self.batch.size();
-        let adding = RECORD_FRAME + payload.len() as u64;
-        if length + adding > self.limit {
-            return Err(AppendFault::Full { length, adding });
+        match self.batch.check_room(self.end, payload.len(), self.limit) {
+            Ok(()) => {}
+            Err(SideFull { length, adding }) => return Err(AppendFault::Full { length, adding }),
         }
         self.batch.push(self.alloc, payload)?;
         Ok(())

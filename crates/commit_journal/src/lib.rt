@@ -16,8 +16,10 @@ mod stage;
 mod start;
 mod writing;
 
-pub use fault::{AppendFault, BeginFault, JournalBad, JournalFault};
+pub use fault::{AppendFault, BeginFault, JournalBad, JournalFault, SideFull};
 pub use journal::Journal;
-pub use limits::{HEADER_FRAME, PAYLOAD_LIMIT, RECORD_FRAME, SIDE_FRAME, SIDE_LIMIT};
+pub use limits::{
+    DEPLOYMENT_MARGIN, HEADER_FRAME, PAYLOAD_LIMIT, RECORD_FRAME, SIDE_FRAME, SIDE_LIMIT,
+};
 pub use record::Record;
 pub use stage::Stage;

@@ -6,6 +6,9 @@ pub const SIDE_LIMIT: u64 = 268_435_456;
 /// The most that a payload has.
 pub const PAYLOAD_LIMIT: usize = 65_536;
 
+/// How far below the most bytes that memory can hold a deployment stays, so that the size of its side is a number.
+pub const DEPLOYMENT_MARGIN: usize = 64;
+
 /// What a record has beside its payload: its gate and the payload's length.
 pub const RECORD_FRAME: u64 = 5;
 

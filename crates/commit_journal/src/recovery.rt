@@ -7,7 +7,7 @@ ghost use Rattle.commit_journal.specs.Views.{head_view, IsCause, IsRecovered, ke
 
 use crate::Stage;
 use crate::fault::{JournalBad, JournalFault};
-use crate::limits::HEADER_FRAME;
+use crate::limits::{DEPLOYMENT_MARGIN, HEADER_FRAME};
 use crate::reading::{Heading, choose, differ, records_of};
 use crate::record::{Found, RecordsFault};
 use slee_disk::Side;
@@ -15,7 +15,7 @@ use slee_value::Blob;
 use std::alloc::Global;
 
 // No memory holds the side that would begin with a longer deployment.
-const LONGEST_DEPLOYMENT: usize = isize::MAX as usize - 64;
+const LONGEST_DEPLOYMENT: usize = isize::MAX as usize - DEPLOYMENT_MARGIN;
 
 /// What a side keeps, to a container with this deployment.
 fn keep(
@@ -79,7 +79,7 @@ pub(crate) fn recover(
     ensures named { IfOk result (λ f. f.deployment ≡ deployment.now) }
     ensures fresh { IfOk result (λ f. IsFresh f.stage) }
     ensures short { IfOk result (λ f. f.stage ≡ Stage.Found → FitsText f.deployment) }
-    ensures sized { IfOk result (λ f. length f.deployment + 64 < 2 ^ 63) }
+    ensures sized { IfOk result (λ f. length f.deployment + DEPLOYMENT_MARGIN < 2 ^ 63) }
     ensures blank { IfOk result (λ f. f.stage ≡ Stage.Blank → AreBlank (record { a = a.now; b = b.now })) }
     ensures first { IfOk result (λ f. f.stage ≡ Stage.Blank → (f.snapshot ≡ []) × (f.records.items ≡ [])) }
     ensures cause { IfErr result (λ e. IsCause e (recovered deployment.now (record { a = a.now; b = b.now }))) }

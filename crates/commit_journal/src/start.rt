@@ -9,7 +9,7 @@ ghost use Rattle.commit_journal.specs.Views.{IsCause, IsDevice, IsRecovered, kep
 
 use crate::Stage;
 use crate::fault::JournalFault;
-use crate::limits::HEADER_FRAME;
+use crate::limits::{DEPLOYMENT_MARGIN, HEADER_FRAME};
 use crate::record::Found;
 use crate::recovery::recover;
 use slee_disk::{Disk, Side};
@@ -43,7 +43,7 @@ pub(crate) fn find<D: Disk>(
     ensures named { IfOk result (λ f. f.deployment ≡ deployment.now) }
     ensures fresh { IfOk result (λ f. IsFresh f.stage) }
     ensures short { IfOk result (λ f. f.stage ≡ Stage.Found → FitsText f.deployment) }
-    ensures sized { IfOk result (λ f. length f.deployment + 64 < 2 ^ 63) }
+    ensures sized { IfOk result (λ f. length f.deployment + DEPLOYMENT_MARGIN < 2 ^ 63) }
     ensures blank { IsTrue (D.disk disk.old).told → IfOk result (λ f. f.stage ≡ Stage.Blank → AreBlank (D.disk disk.old).seen) }
     ensures first { IfOk result (λ f. f.stage ≡ Stage.Blank → (f.snapshot ≡ []) × (f.records.items ≡ [])) }
     ensures cause { IsTrue (D.disk disk.old).told → IfErr result (λ e. IsCause e (recovered deployment.now (D.disk disk.old).seen)) }

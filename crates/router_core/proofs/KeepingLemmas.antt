@@ -1,10 +1,9 @@
 -- The bytes that the journal keeps.
-use Rattle.std.proofs.Common.{◌≡◌, ℕ, ◌^◌, ◌<◌, ◌≤◌, true, List, [], ◌∷◌, ◌++◌, map, length, codes, sym, ◌∙◌, ap, subst, arith, inl, inr, Option, Some, None, nat_le, length-append}
+use Rattle.std.proofs.Common.{◌≡◌, ℕ, ◌^◌, ◌<◌, ◌≤◌, true, List, [], ◌∷◌, ◌++◌, map, length, codes, sym, ◌∙◌, ap, subst, arith, inl, inr, Option, Some, None, length-append}
 use Rattle.std.specs.Option.{option_map_or}
-use Rattle.std.specs.Str.{bytes_eq, is_utf8}
-use Rattle.std.proofs.lemmas.Bool.{cases_Bool, and_parts, leb-true}
+use Rattle.std.specs.Str.{bytes_eq}
+use Rattle.std.proofs.lemmas.Bool.{cases_Bool}
 use Rattle.slee_value.specs.declared.value.Value.{Value}
-use Rattle.slee_value.specs.declared.value.Value.TheVariants as values
 use Rattle.slee_effect.specs.declared.effect.Effect.TheVariants as effects
 use Rattle.slee_effect.specs.declared.reference.Ref.TheVariants as references
 use Rattle.signal_script.specs.declared.signal.Signal.{Signal}
@@ -13,12 +12,12 @@ use Rattle.router_model.specs.State.{Parts}
 use Rattle.router_model.specs.Activities.{front}
 use Rattle.router_model.specs.declared.rows.Entity.{Entity}
 use Rattle.router_model.specs.declared.rows.Event.{Event}
-use Rattle.router_rules.specs.BuiltIn.{invite, addr, emitted, address_in, text_of}
+use Rattle.router_rules.specs.BuiltIn.{invite, emitted, address_in}
 use Rattle.router_rules.specs.Effects.{effects_of}
 use Rattle.router_rules.specs.Payload.{effects_due}
 use Rattle.router_rules.specs.Selection.{first}
-use Rattle.router_rules.specs.Well.{IsWell, IsBuiltInEvent, has_fields, is_address, is_short_text}
-use Rattle.router_rules.proofs.PayloadLemmas.{short_line}
+use Rattle.router_rules.specs.Well.{IsWell, IsBuiltInEvent, has_fields, is_address}
+use Rattle.router_rules.proofs.PayloadLemmas.{short_line, short_address}
 use Rattle.router_rules.proofs.RowLemmas.{front_all}
 
 pub line_fits : (signal : Signal) (bytes : List ℕ) → bytes ≡ spelled signal → is_signal signal ≡ true → length bytes < 2 ^ 32
@@ -27,7 +26,7 @@ line_fits signal bytes is valid = omega (arith, short_line signal valid, ap leng
 pub no_effects : (s : Parts) (a : ℕ) → front s.events a ≡ None → effects_due s a ≡ []
 no_effects s a none = ap (λ (o : Option Event). option_map_or (λ (v : Event). option_map_or (λ (row : Entity). effects_of v row) (first s a v) []) o []) none
 
-effects_at : (s : Parts) (a : ℕ) (v : Event) (next : Option Entity) → front s.events a ≡ Some v → first s a v ≡ next → effects_due s a ≡ option_map_or (λ (row : Entity). effects_of v row) next []
+pub effects_at : (s : Parts) (a : ℕ) (v : Event) (next : Option Entity) → front s.events a ≡ Some v → first s a v ≡ next → effects_due s a ≡ option_map_or (λ (row : Entity). effects_of v row) next []
 effects_at s a v next is found =
     ap (λ (o : Option Event). option_map_or (λ (w : Event). option_map_or (λ (row : Entity). effects_of w row) (first s a w) []) o []) is
     ∙ ap (λ (o : Option Entity). option_map_or (λ (row : Entity). effects_of v row) o []) found
@@ -40,28 +39,13 @@ pub one_effect : (s : Parts) (a : ℕ) (v : Event) (row : Entity) (said : List �
 one_effect s a v row said is found emits =
     effects_at s a v (Some row) is (sym found) ∙ ap (λ (texts : List (List ℕ)). map (λ (text : List ℕ). effects.Emit (references.Known row.number.0) text) texts) emits
 
-short_text : (value : Value) → is_short_text value ≡ true → length (text_of value) ≤ 4096
-short_text (values.Int n) is = cc
-short_text (values.Text text) is = leb-true (length text) 4096 (and_parts (nat_le (length text) 4096) (is_utf8 text) is).0
-short_text (values.Bool b) is = cc
-short_text (values.Activity a) is = cc
-short_text (values.Timer t) is = cc
-
-short_address : (fields : List (List ℕ × Value)) → is_address fields ≡ true → length (address_in fields) ≤ 4096
-short_address [] is = cc
-short_address (field ∷ []) is =
-    let parts = and_parts (bytes_eq field.0 addr) (is_short_text field.1) is in
-    let named : bytes_eq field.0 addr ≡ true = parts.0 in
-    rw named (short_text field.1 parts.1)
-short_address (field ∷ other ∷ fields) is = cc
-
 emitted_short : (name : List ℕ) (fields : List (List ℕ × Value)) (said : List ℕ) → has_fields name fields ≡ true → emitted 0 name fields ≡ said ∷ [] → length said < 2 ^ 32
 emitted_short name fields said has emits = elim (cases_Bool (bytes_eq name invite)) [
   | inl is ↦
       let address : is_address fields ≡ true = rw is at has in
       let text : (codes "call " ++ address_in fields) ∷ [] ≡ said ∷ [] = rw is at emits in
       let same : codes "call " ++ address_in fields ≡ said = cc in
-      omega (arith, ap length same, length-append (codes "call ") (address_in fields), short_address fields address)
+      omega (arith, ap length same, length-append (codes "call ") (address_in fields), (short_address fields address).0)
   | inr other ↦
       let text : codes "over" ∷ [] ≡ said ∷ [] = rw other at emits in
       let same : codes "over" ≡ said = cc in

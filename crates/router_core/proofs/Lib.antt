@@ -9,3 +9,4 @@ pub mod ClosingLemmas
 pub mod KeepingLemmas
 pub mod ShowLemmas
 pub mod InputLemmas
+pub mod MeasureLemmas

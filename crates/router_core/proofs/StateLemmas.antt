@@ -53,3 +53,7 @@ planned_well s u t c plan ds is w made same after_is =
 -- what the journal keeps of a step is short
 pub short_payload : (s : Parts) (c : Choice) (bytes : List ℕ) → IsWell s → is_choice c ≡ true → bytes ≡ payload s c → length bytes ≤ 65536
 short_payload s c bytes well valid is = subst (λ (b : List ℕ). length b ≤ 65536) (sym is) (payload_fits s c well valid)
+
+-- and so is its length, however it was found
+pub short_measure : (s : Parts) (c : Choice) (n : ℕ) → IsWell s → is_choice c ≡ true → n ≡ length (payload s c) → n ≤ 65536
+short_measure s c n well valid is = omega (arith, is, payload_fits s c well valid)

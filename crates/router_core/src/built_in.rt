@@ -1,5 +1,5 @@
 //! The deployment that is built in: the event invite, the block call and the service prepaid.
-ghost use Rattle.std.specs.Prelude.{◌≡◌, ◌∷◌, [], IsTrue, IfOk, option_copied, is_some, slice_get};
+ghost use Rattle.std.specs.Prelude.{◌≡◌, ◌<◌, ◌+◌, ◌^◌, ◌∷◌, [], IsTrue, IfOk, option_copied, is_some, slice_get, map, length};
 ghost use Rattle.router_rules.specs.BuiltIn.{handles, is_initial, is_event, fields_given, text_of, address_in, emitted, activity_end};
 ghost use Rattle.router_rules.specs.Taking.{fields_of};
 ghost use Rattle.std.specs.Str.{bytes_eq};
@@ -97,4 +97,15 @@ pub fn emitted(alloc: Global, event: &Event) -> Result<Text, NoMemory>
         return Ok(Text::from(format!(in alloc; "call {address}")?));
     }
     Ok(Text::from_str(alloc, "over")?)
+}
+
+/// How many bytes that text has.
+pub fn emitted_len(event: &Event) -> usize
+    ensures len { map length (emitted 0 event.now.name event.now.fields) ≡ result ∷ [] }
+    ensures small { result < 2 ^ 63 + 8 }
+{
+    if is_event(event.name.as_str()) {
+        return "call ".len() + address_in(event.fields.as_slice()).len();
+    }
+    "over".len()
 }

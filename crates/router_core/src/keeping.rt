@@ -19,9 +19,6 @@ use slee_value::{ActivityId, EntityId, NoMemory, Text, write_bytes, write_u64};
 use std::alloc::Global;
 use trace_history::Choice;
 
-/// The most bytes that the journal keeps of a step.
-pub const PAYLOAD_LIMIT: usize = 65_536;
-
 #[tactic(auto, using(crate::proofs::KeepingLemmas::line_fits))]
 fn input(alloc: Global, signal: &Signal) -> Result<Vec<u8>, NoMemory>
     requires { IsTrue (is_signal signal.now) }

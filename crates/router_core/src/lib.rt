@@ -2,6 +2,7 @@
 #![tactic(auto)]
 
 mod built_in;
+mod choice_ref;
 mod choosing;
 mod closing;
 mod draft;
@@ -9,6 +10,7 @@ mod drafting;
 mod fronts;
 mod inputs;
 mod keeping;
+mod measuring;
 mod plan;
 mod reading;
 mod showing;
@@ -16,8 +18,9 @@ mod state;
 mod taking;
 mod telling;
 
+pub use choice_ref::ChoiceRef;
 pub use inputs::Inputs;
-pub use keeping::PAYLOAD_LIMIT;
+pub use measuring::INPUT_FRAME;
 pub use plan::Plan;
 pub use reading::choice_in;
 pub use state::State;

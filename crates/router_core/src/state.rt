@@ -5,13 +5,15 @@ ghost use Rattle.router_model.specs.Changes.{after_changes};
 ghost use Rattle.router_rules.specs.Selection.{first, next};
 ghost use Rattle.router_model.specs.Activities.{front};
 ghost use Rattle.router_rules.specs.Step.{after, is_choice, is_enabled, step_entry};
+ghost use Rattle.router_rules.specs.Payload.{payload};
 ghost use Rattle.router_rules.specs.Show.{show_text};
 ghost use Rattle.router_rules.specs.Well.{IsWell};
 ghost use Rattle.router_stores.specs.Room.{HasRoom, HasNumbers};
-ghost use Rattle.router_core.specs.declared.keeping.TheConstants.{PAYLOAD_LIMIT};
+ghost use Rattle.router_rules.specs.declared.limits.TheConstants.{PAYLOAD_LIMIT};
 ghost use Rattle.router_core.specs.Plans.{AllFit, IsPlanOf, HasRoomFor};
+ghost use Rattle.router_core.specs.Lent.{choice_of};
 
-use crate::{Plan, choosing, closing, drafting, keeping, showing};
+use crate::{ChoiceRef, Plan, choosing, closing, drafting, keeping, measuring, showing};
 use router_model::{Change, Entity, Event, Queued};
 use router_rules::Kindred;
 use router_stores::Stores;
@@ -85,6 +87,15 @@ impl State {
         ensures { result ≡ is_enabled self.now.parts choice.now }
     {
         choosing::is_enabled(&self.stores, choice)
+    }
+
+    /// How many bytes the journal keeps of the choice. It takes no memory.
+    pub fn payload_len(&self, choice: &ChoiceRef<'_>) -> usize
+        requires { IsTrue (is_choice (choice_of choice.now)) }
+        ensures len { result ≡ length (payload self.now.parts (choice_of choice.now)) }
+        ensures short { result ≤ PAYLOAD_LIMIT }
+    {
+        measuring::payload_len(&self.stores, choice)
     }
 
     /// Plans the choice: what it changes, what it tells and what the journal is to keep of it. The state stays as it is.

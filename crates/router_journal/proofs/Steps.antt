@@ -30,7 +30,7 @@ use Rattle.router_journal.specs.Recovery.{records_of}
 use Rattle.router_journal.specs.Facts.{Origin, base_of, records_since, RestartsIn, IsCrashSafe, HasRecords, HasRecordsOrMore, size_after, size_added, HasRoom, IsFullFor}
 use Rattle.router_journal.specs.declared.fault.StepFault.{StepFault}
 use Rattle.router_journal.specs.declared.fault.StepFault.TheVariants as faults
-use Rattle.router_journal.specs.Core.{Held, is_down, IsStopOf, IsSound, IsHeld, Stepped, Made}
+use Rattle.router_journal.specs.Core.{Held, is_down, IsStopOf, IsSound, IsHeld, Stepped}
 use Rattle.router_journal.proofs.Recovers.{restarts_in}
 
 module _ {A : Type 0} where
@@ -357,17 +357,17 @@ same_held {D} o j j1 h g s t acked stop p q r =
     ∙ ap (λ (x : List Entry). held o j x s acked stop) q
     ∙ ap (λ (x : Parts). held o j g x acked stop) r
 
--- a payload that is refused for its size
-module _ {D : Type 0} (disk_of : D → DiskState) (j j1 : View D) (b : List ℕ) (o : Origin) (history : List Entry) (parts : Parts) (acked : ℕ) (stop : Option Stop)
+-- a record that is refused for its size, by the length of its payload
+module _ {D : Type 0} (disk_of : D → DiskState) (j j1 : View D) (n : ℕ) (o : Origin) (history : List Entry) (parts : Parts) (acked : ℕ) (stop : Option Stop)
     (sound : IsSound j (disk_of j.disk) o history parts acked stop) (live : stop ≡ None)
-    (c : Choice) (valid : is_choice c ≡ true) (enabled : is_enabled parts c ≡ true) (is_payload : b ≡ payload parts c)
-    (length_of adding : ℕ) (refused : Refuses (disk_of j.disk).told (size j.kept.head (j.kept.payloads ++ j.batch)) (5 + length b) j.limit (append_faults.Full length_of adding)) where
+    (c : Choice) (valid : is_choice c ≡ true) (enabled : is_enabled parts c ≡ true) (is_length : n ≡ length (payload parts c))
+    (length_of adding : ℕ) (refused : Refuses (disk_of j.disk).told (size j.kept.head (j.kept.payloads ++ j.batch)) (5 + n) j.limit (append_faults.Full length_of adding)) where
   live_sound : IsSound j (disk_of j.disk) o history parts acked None
   live_sound = subst (λ (x : Option Stop). IsSound j (disk_of j.disk) o history parts acked x) live sound
 
   pub full_is : IsFullFor o j.limit history c length_of adding
   full_is = is_full j (disk_of j.disk) o history parts acked live_sound c valid enabled length_of adding
-      (subst (λ (p : List ℕ). Refuses (disk_of j.disk).told (size j.kept.head (j.kept.payloads ++ j.batch)) (5 + length p) j.limit (append_faults.Full length_of adding)) is_payload refused)
+      (subst (λ m. Refuses (disk_of j.disk).told (size j.kept.head (j.kept.payloads ++ j.batch)) (5 + m) j.limit (append_faults.Full length_of adding)) is_length refused)
 
   pub full_sound : j1 ≡ j → (h : List Entry) (s : Parts) → h ≡ history → s ≡ parts → IsSound j1 (disk_of j1.disk) o h s acked (Some (stops.Full length_of adding))
   full_sound same h s is_h is_s =
@@ -386,13 +386,13 @@ still_refused {D} disk_of j j1 o history entries acked safe same is told =
     subst (λ (v : View D). LeavesOnly (disk_of j.disk) (disk_of v.disk) (RestartsIn o entries acked)) (sym same)
     (subst (λ (h : List Entry). LeavesOnly (disk_of j.disk) (disk_of j.disk) (RestartsIn o h acked)) (sym is) (leaves_still (disk_of j.disk) o history acked safe told))
 
--- the record of a payload that isn't refused for its size has room
-pub room_for : {D : Type 0} (disk_of : D → DiskState) (j : View D) (b : List ℕ) (o : Origin) (history : List Entry) (parts : Parts) (acked : ℕ) (stop : Option Stop)
-    → IsSound j (disk_of j.disk) o history parts acked stop → stop ≡ None → (c : Choice) → is_choice c ≡ true → is_enabled parts c ≡ true → b ≡ payload parts c
-    → (IsTrue (disk_of j.disk).told → size j.kept.head (j.kept.payloads ++ j.batch) + (5 + length b) ≤ j.limit) → HasRoom o j.limit history c
-room_for disk_of j b o history parts acked stop sound live c valid enabled is_payload fits =
+-- a record that isn't refused for its size has room
+pub room_for : {D : Type 0} (disk_of : D → DiskState) (j : View D) (n : ℕ) (o : Origin) (history : List Entry) (parts : Parts) (acked : ℕ) (stop : Option Stop)
+    → IsSound j (disk_of j.disk) o history parts acked stop → stop ≡ None → (c : Choice) → is_choice c ≡ true → is_enabled parts c ≡ true → n ≡ length (payload parts c)
+    → (IsTrue (disk_of j.disk).told → size j.kept.head (j.kept.payloads ++ j.batch) + (5 + n) ≤ j.limit) → HasRoom o j.limit history c
+room_for disk_of j n o history parts acked stop sound live c valid enabled is_length fits =
     has_room j (disk_of j.disk) o history parts acked (subst (λ (x : Option Stop). IsSound j (disk_of j.disk) o history parts acked x) live sound) c valid enabled
-    (λ told. subst (λ (p : List ℕ). size j.kept.head (j.kept.payloads ++ j.batch) + (5 + length p) ≤ j.limit) is_payload (fits told))
+    (λ told. subst (λ m. size j.kept.head (j.kept.payloads ++ j.batch) + (5 + m) ≤ j.limit) is_length (fits told))
 
 -- a payload that was added is let go
 pub taken_back : {D : Type 0} (j j1 j2 : View D) (b : List ℕ) → j.batch ≡ [] → j1 ≡ record { disk = j.disk; stage = j.stage; kept = j.kept; batch = j.batch ++ b ∷ []; records = j.records; limit = j.limit }
@@ -413,10 +413,6 @@ back_sound {D} disk_of j j2 o h g s t acked stop same is_h is_s sound =
 pub running : (stage : Stage) → stage ≡ Ready → stage ≢ stages.Stopped
 running stage ready stopped = let never : Ready ≡ stages.Stopped = sym ready ∙ stopped in cc never
 
--- what is known of a step that was planned is known of one that is planned first
-pub made_by : {D : Type 0} (old new : Held D) (c : Choice) (r : Result ℕ StepFault) → Stepped old c r new → Made old c r new
-made_by old new c (Ok number) step = step
-made_by old new c (Err faults.DiskFault) step = step
-made_by old new c (Err (faults.Full size adding)) step = step
-made_by old new c (Err faults.NoMemory) step = step.0
-made_by old new c (Err faults.Spent) step = step
+-- the step of a plan is that of its choice
+pub step_of : {D : Type 0} (old new : Held D) (planned c : Choice) (r : Result ℕ StepFault) → planned ≡ c → Stepped old planned r new → Stepped old c r new
+step_of old new planned c r is step = subst (λ (x : Choice). Stepped old x r new) is step

@@ -73,7 +73,7 @@ pub record IsSound {D : Type 0} (j : View D) (disk : DiskState) (o : Origin) (hi
   pub faults : o.faults ≤ disk.faults
   pub cause : IsStopOf o j.limit history disk stop
 
--- How a step that was planned ends. A refusal changes nothing, but that one for the size stops the core; where memory ran out,
+-- How a step ends. A refusal changes nothing, but that one for the size stops the core; where memory ran out,
 -- the record had room. What the disk's fault leaves stands in the history.
 abbrev pub Stepped : {D : Type 0} → Held D → Choice → Result ℕ StepFault → Held D → Type 0
 Stepped old c (Ok number) new = (new.history ≡ old.history ++ step_entry old.state c ∷ []) × (number ≡ length new.history) × (new.stop ≡ None) × (new.state ≡ after old.state c) × HasRoom old.origin old.limit old.history c
@@ -81,14 +81,6 @@ Stepped old c (Err faults.DiskFault) new = (new.history ≡ old.history ++ step_
 Stepped old c (Err (faults.Full size adding)) new = (new ≡ record old { stop = Some (stops.Full size adding) }) × IsFullFor old.origin old.limit old.history c size adding
 Stepped old c (Err faults.NoMemory) new = (new ≡ old) × HasRoom old.origin old.limit old.history c
 Stepped old c (Err faults.Spent) new = ⊥
-
--- How a step ends that is planned first: the same, but that memory may run out before it is known how long its record is.
-abbrev pub Made : {D : Type 0} → Held D → Choice → Result ℕ StepFault → Held D → Type 0
-Made old c (Ok number) new = Stepped old c (Ok number) new
-Made old c (Err faults.DiskFault) new = Stepped old c (Err faults.DiskFault) new
-Made old c (Err (faults.Full size adding)) new = Stepped old c (Err (faults.Full size adding)) new
-Made old c (Err faults.NoMemory) new = new ≡ old
-Made old c (Err faults.Spent) new = ⊥
 
 -- What a step leaves acknowledged of the history: all of it, since each step is flushed by itself; as many entries as before
 -- where it is refused or the disk fails.

@@ -12,15 +12,11 @@ ghost use Rattle.router_journal.specs.Opening.{first_fault, IsReplayCause};
 
 use crate::OpenFault;
 use commit_journal::{Journal, JournalBad, Record};
-use router_core::{State, choice_in};
+use router_core::{INPUT_FRAME, State, choice_in};
 use signal_script::LINE_LIMIT;
 use slee_disk::{Disk, Side};
-use slee_value::COUNT_LEN;
 use std::alloc::Global;
 use trace_history::Choice;
-
-/// What the payload of a line has beside the line: its kind, and the line's count.
-const INPUT_FRAME: usize = 1 + COUNT_LEN;
 
 /// Why a payload isn't replayed.
 #[derive(Clone, Copy)]

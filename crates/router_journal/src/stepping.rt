@@ -1,19 +1,21 @@
 //! Steps of the router that are kept in a journal, and what they leave on the disk.
 ghost use Rattle.router_journal.specs.Opening.{fault_of, begin_fault_of};
 ghost use Rattle.commit_journal.specs.declared.limits.TheConstants.{PAYLOAD_LIMIT, SIDE_FRAME, SIDE_LIMIT};
-ghost use Rattle.router_core.specs.Plans.{HasRoomFor};
+ghost use Rattle.router_core.specs.Lent.{choice_of};
+ghost use Rattle.router_core.specs.Plans.{HasRoomFor, IsPlanOf};
+ghost use Rattle.router_rules.specs.Step.{is_enabled, is_choice};
 ghost use Rattle.std.specs.Prelude.{◌≡◌, ◌≤◌, ◌<◌, ◌+◌, [], true, false, length, IsTrue, Some, None, Ok, Err, IfOk, IfErr, OnOk, OnErr, IsErrOf, IsOk};
 
 use crate::replaying::replay;
 use crate::{OpenFault, StepFault, Stop};
-use commit_journal::{AppendFault, BeginFault, Journal, JournalFault};
-use router_core::{Plan, State};
+use commit_journal::{AppendFault, BeginFault, Journal, JournalFault, SideFull};
+use router_core::{ChoiceRef, Plan, State};
 use slee_disk::{Disk, Failed};
 use slee_value::NoMemory;
 use std::alloc::Global;
 use std::marker::Model;
 use std::snapshot::Snapshot;
-use trace_history::{Choice, History};
+use trace_history::History;
 
 /// A state, its history since the opening, and the journal of it.
 #[derive(Drop)]
@@ -57,12 +59,10 @@ impl<'d, D: Disk> Core<'d, D> {
     ghost use Rattle.slee_disk.specs.Disk.{LeavesOnly, is_clean};
     ghost use Rattle.commit_journal.specs.Reading.{Wrong, recovered};
     ghost use Rattle.router_model.specs.State.{Parts};
-    ghost use Rattle.router_rules.specs.Step.{is_enabled, is_choice};
-    ghost use Rattle.router_core.specs.Plans.{IsPlanOf};
     ghost use Rattle.router_journal.specs.Recovery.{restart, records, counting_side};
     ghost use Rattle.router_journal.specs.Opening.{IsOpenCause, IsSmall, IsUntouchedFor, IsLeftAlone, StandsFor};
     ghost use Rattle.router_journal.specs.Facts.{RestartsIn, IsCrashSafe};
-    ghost use Rattle.router_journal.specs.Core.{Stepped, Made, Acknowledges, IsHeld, is_down};
+    ghost use Rattle.router_journal.specs.Core.{Stepped, Acknowledges, IsHeld, is_down};
 
     /// Opens what a disk keeps. It replays all records before it writes anything.
     #[tactic(auto, using(crate::proofs::Opens::small_of_journal, crate::proofs::Opens::small_of_replay, crate::proofs::Opens::small_of_begin, crate::proofs::Opens::plain_of))]
@@ -169,14 +169,13 @@ impl<'d, D: Disk> Core<'d, D> {
         }
     }
 
-    /// Makes the step of a choice. Its record is as long as its plan says, so that nothing is known of its room where no memory
-    /// is found to plan it.
-    #[tactic(auto, using(crate::proofs::Steps::made_by))]
-    pub fn make(&mut self, choice: Choice) -> Result<u64, StepFault>
+    /// Makes the step of a choice. Whether its record has room is tested before memory is taken.
+    #[tactic(auto, using(crate::proofs::Steps::step_of))]
+    pub fn make(&mut self, choice: &ChoiceRef<'_>) -> Result<u64, StepFault>
         requires live { self.old.stop ≡ None }
-        requires valid { IsTrue (is_choice choice) }
-        requires enabled { IsTrue (is_enabled self.old.state choice) }
-        ensures step { Made self.old choice result self.new }
+        requires valid { IsTrue (is_choice (choice_of choice.now)) }
+        requires enabled { IsTrue (is_enabled self.old.state (choice_of choice.now)) }
+        ensures step { Stepped self.old (choice_of choice.now) result self.new }
         ensures acked { Acknowledges self.old.acked result self.new.history self.new.acked }
         ensures origin { self.new.origin ≡ self.old.origin }
         ensures limit { self.new.limit ≡ self.old.limit }
@@ -184,7 +183,14 @@ impl<'d, D: Disk> Core<'d, D> {
         ensures any_moment { IsTrue self.old.origin.told → LeavesOnly (D.disk self.old.disk) (D.disk self.new.disk)
             (RestartsIn self.old.origin self.new.history self.old.acked) }
     {
-        let Ok(plan) = self.state.plan(self.alloc, choice) else {
+        match self.journal.check_room(self.state.payload_len(choice)) {
+            Ok(()) => {}
+            Err(SideFull { length, adding }) => {
+                self.stop = Some(Stop::Full { length, adding });
+                return Err(StepFault::Full { length, adding });
+            }
+        }
+        let Ok(plan) = plan_of(self.alloc, &self.state, choice) else {
             return Err(StepFault::NoMemory);
         };
         self.step(plan)
@@ -245,6 +251,17 @@ impl<'d, D: Disk> Core<'d, D> {
         } = self;
         journal.into_disk()
     }
+}
+
+/// Plans a choice, with a line of its own.
+fn plan_of(alloc: Global, state: &State, choice: &ChoiceRef<'_>) -> Result<Plan, NoMemory>
+    requires valid { IsTrue (is_choice (choice_of choice.now)) }
+    requires enabled { IsTrue (is_enabled state.now.parts (choice_of choice.now)) }
+    ensures made { IfOk result (λ plan. IsPlanOf state.now.parts (choice_of choice.now) plan) }
+    ensures short { IfOk result (λ plan. length plan.payload ≤ PAYLOAD_LIMIT) }
+{
+    let choice = choice.to_choice(alloc)?;
+    state.plan(alloc, choice)
 }
 
 /// Makes the memory for a plan, in the state and in the history.

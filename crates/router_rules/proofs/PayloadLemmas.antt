@@ -92,7 +92,7 @@ short_text (values.Bool b) is = absurd cc
 short_text (values.Activity a) is = absurd cc
 short_text (values.Timer t) is = absurd cc
 
-short_address : (fields : List (List ℕ × Value)) → is_address fields ≡ true → (length (address_in fields) ≤ 4096) × (is_utf8 (address_in fields) ≡ true)
+pub short_address : (fields : List (List ℕ × Value)) → is_address fields ≡ true → (length (address_in fields) ≤ 4096) × (is_utf8 (address_in fields) ≡ true)
 short_address [] is = absurd cc
 short_address (field ∷ []) is =
     let both = and_parts (bytes_eq field.0 addr) (is_short_text field.1) is in

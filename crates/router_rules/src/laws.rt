@@ -13,6 +13,7 @@ ghost use Rattle.router_rules.specs.Payload.{payload, choice_in};
 ghost use Rattle.router_rules.specs.Selection.{first};
 ghost use Rattle.router_rules.specs.Step.{after, is_choice, is_enabled};
 ghost use Rattle.router_rules.specs.Well.{IsWell};
+ghost use Rattle.router_rules.specs.declared.limits.TheConstants.{PAYLOAD_LIMIT};
 
 /// The state at the start is well formed.
 #[tactic(auto, using(crate::proofs::StepLemmas::initial_well))]
@@ -68,5 +69,5 @@ pub fn payloads_have_one_spelling()
 /// No payload is longer than a record of the journal may be.
 #[tactic(auto, using(crate::proofs::StepLemmas::payload_fits))]
 pub fn payloads_are_short()
-    ensures { (s : Parts) (c : Choice) → IsWell s → IsTrue (is_choice c) → length (payload s c) ≤ 65536 }
+    ensures { (s : Parts) (c : Choice) → IsWell s → IsTrue (is_choice c) → length (payload s c) ≤ PAYLOAD_LIMIT }
 {}

@@ -3,6 +3,7 @@
 
 mod kindred;
 mod laws;
+mod limits;
 
 pub use kindred::Kindred;
 pub use laws::{
@@ -10,3 +11,4 @@ pub use laws::{
     histories_keep_the_state_well_formed, initial_is_well_formed, payloads_are_read,
     payloads_are_short, payloads_have_one_spelling, steps_keep_the_state_well_formed,
 };
+pub use limits::PAYLOAD_LIMIT;

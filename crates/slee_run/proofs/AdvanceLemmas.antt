@@ -304,7 +304,7 @@ module _ {D : Type 0} (v : View D) (live : v.stop ≡ None) (free : v.claims ≡
   moved c (Ok number) w none m = (record { history = m.0; state = m.4; taken = m.3; room = m.5 }, m.2, none)
   moved c (Err faults.DiskFault) w none m = (record { history = m.0; state = m.3; taken = m.2; room = m.4 }, m.1)
   moved c (Err (faults.Full size adding)) w none m = (record { history = ap (λ u. u.history) m.0; taken = ap (λ u. u.taken) m.0 }, ap (λ u. u.stop) m.0, m.1.adds, m.1.above)
-  moved c (Err faults.NoMemory) w none m = (record { history = ap (λ u. u.history) m; taken = ap (λ u. u.taken) m }, ap (λ u. u.stop) m)
+  moved c (Err faults.NoMemory) w none m = (record { history = ap (λ u. u.history) m.0; taken = ap (λ u. u.taken) m.0 }, ap (λ u. u.stop) m.0)
   moved c (Err faults.Spent) w none m = (record { history = ap (λ u. u.history) m.0; taken = ap (λ u. u.taken) m.0 }, ap (λ u. u.stop) m.0, m.1)
 
   pub line_advances : (r : Result ℕ StepFault) (w : View D) → works.Line ≡ next_work v → v.taken < length v.setup.lines → w.claims ≡ v.claims

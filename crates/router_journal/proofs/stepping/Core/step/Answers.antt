@@ -83,7 +83,7 @@ returns-in-Ok-flushed-clause-step g c =
     let state = c.apply-entry.ensures.parts ∙ ap (λ (s : Parts). after s choice) c.reserve.ensures.state in
     let f = c.flush-flushed.ensures in
     let flushed : Flushed g.D.Disk.disk c.append.new.self c.flush-flushed.new.self = record { head = f.still.head; told = f.told; rising = f.rising; leaves = f.any_moment } in
-    let room = room_for g.D.Disk.disk c.self.inside.journal _ _ _ parts _ _ c.self.invariant live choice made.valid made.enabled paid c.in-Ok.ensures.fits in
+    let room = room_for g.D.Disk.disk c.self.inside.journal _ _ _ parts _ _ c.self.invariant live choice made.valid made.enabled (ap length paid) c.in-Ok.ensures.fits in
     rw (← c.self.view_is) (entries, c.len-number.ensures, live, state, room)
 
 pub returns-in-Err-clause-step : goal.returns-in-Err-clause-step
@@ -98,7 +98,7 @@ returns-in-Err-clause-step g c =
     let state = c.apply-entry.ensures.parts ∙ ap (λ (s : Parts). after s choice) c.reserve.ensures.state in
     let f = c.flush-flushed.ensures in
     let flushed : Flushed g.D.Disk.disk c.append.new.self c.flush-flushed.new.self = record { head = f.still.head; told = f.told; rising = f.rising; leaves = f.any_moment } in
-    let room = room_for g.D.Disk.disk c.self.inside.journal _ _ _ parts _ _ c.self.invariant live choice made.valid made.enabled paid c.in-Ok.ensures.fits in
+    let room = room_for g.D.Disk.disk c.self.inside.journal _ _ _ parts _ _ c.self.invariant live choice made.valid made.enabled (ap length paid) c.in-Ok.ensures.fits in
     rw (← c.self.view_is) (entries, refl, state, room)
 
 pub invariant_of-self : goal.invariant_of-self
@@ -109,7 +109,7 @@ invariant_of-self g c =
     let made : IsPlanOf parts choice c.args.plan = subst (λ (s : Parts). IsPlanOf s choice c.args.plan) (sym (ap (λ v. v.state) c.self.view_is)) c.requires.made in
     let paid = c.payload.ensures ∙ made.payload in
     let refused = rw c.in-Err-Full.field-0-is at c.in-Err-Full.ensures.refused in
-    full_sound g.D.Disk.disk c.self.inside.journal c.append.new.self _ _ _ parts _ _ c.self.invariant live choice made.valid made.enabled paid _ _ refused
+    full_sound g.D.Disk.disk c.self.inside.journal c.append.new.self _ _ _ parts _ _ c.self.invariant live choice made.valid made.enabled (ap length paid) _ _ refused
     c.in-Err-Full.ensures.err _ _ refl refl
 
 pub returns-in-Err-Full-clause-step : goal.returns-in-Err-Full-clause-step
@@ -122,7 +122,7 @@ returns-in-Err-Full-clause-step g c =
     let refused = rw c.in-Err-Full.field-0-is at c.in-Err-Full.ensures.refused in
     rw (← c.self.view_is) (
       same_held _ c.self.inside.journal c.append.new.self _ _ _ _ _ _ c.in-Err-Full.ensures.err refl refl,
-      full_is g.D.Disk.disk c.self.inside.journal c.append.new.self _ _ _ parts _ _ c.self.invariant live choice made.valid made.enabled paid _ _ refused,
+      full_is g.D.Disk.disk c.self.inside.journal c.append.new.self _ _ _ parts _ _ c.self.invariant live choice made.valid made.enabled (ap length paid) _ _ refused,
     )
 
 pub returns-in-Err-Full-clause-any_moment : goal.returns-in-Err-Full-clause-any_moment
@@ -141,7 +141,7 @@ returns-in-Err-NoMemory-clause-step g c =
     let made : IsPlanOf parts choice c.args.plan = subst (λ (s : Parts). IsPlanOf s choice c.args.plan) (sym (ap (λ v. v.state) c.self.view_is)) c.requires.made in
     let paid = c.payload.ensures ∙ made.payload in
     let refused = rw c.in-Err-NoMemory.field-0-is at c.in-Err-NoMemory.ensures.refused in
-    let room = room_for g.D.Disk.disk c.self.inside.journal _ _ _ parts _ _ c.self.invariant live choice made.valid made.enabled paid refused in
+    let room = room_for g.D.Disk.disk c.self.inside.journal _ _ _ parts _ _ c.self.invariant live choice made.valid made.enabled (ap length paid) refused in
     rw (← c.self.view_is) (same_held _ c.self.inside.journal c.append.new.self _ _ _ _ _ _ c.in-Err-NoMemory.ensures.err refl refl, room)
 
 pub returns-in-Err-NoMemory-clause-any_moment : goal.returns-in-Err-NoMemory-clause-any_moment
@@ -165,7 +165,7 @@ returns-in_default-clause-step g c =
     let live = ap (λ v. v.stop) c.self.view_is ∙ c.requires.live in
     let made : IsPlanOf parts choice c.args.plan = subst (λ (s : Parts). IsPlanOf s choice c.args.plan) (sym (ap (λ v. v.state) c.self.view_is)) c.requires.made in
     let paid = c.payload.ensures ∙ made.payload in
-    let room = room_for g.D.Disk.disk c.self.inside.journal _ _ _ parts _ _ c.self.invariant live choice made.valid made.enabled paid c.in-Ok.ensures.fits in
+    let room = room_for g.D.Disk.disk c.self.inside.journal _ _ _ parts _ _ c.self.invariant live choice made.valid made.enabled (ap length paid) c.in-Ok.ensures.fits in
     let back = taken_back c.self.inside.journal c.append.new.self c.discard.new.self _ (c.self.invariant.batch (ap is_down live)) c.in-Ok.ensures.ok c.discard.ensures in
     rw (← c.self.view_is) (same_held _ c.self.inside.journal c.discard.new.self _ _ _ _ _ _ back c.reserve.ensures.history c.reserve.ensures.state, room)
 
