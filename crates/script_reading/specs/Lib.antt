@@ -1,2 +1,3 @@
 pub mod Things
 pub mod Done
+pub mod Rows
