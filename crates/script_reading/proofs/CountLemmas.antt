@@ -9,3 +9,8 @@ from makes does n m (e ∷ xs) ys x is = from makes does (n + makes e) m xs ys (
 
 pub laid_behind : {A : Type 0} (makes : Effect → ℕ) (does : ℕ → Effect → A → A) (xs ys : List Effect) (x : A) → overlay makes does (xs ++ ys) x ≡ overlay_from makes does (count_of makes xs) ys (overlay_from makes does 0 xs x)
 laid_behind makes does xs ys x = let h : count_of makes xs ≡ 0 + count_of makes xs = omega arith in from makes does 0 (count_of makes xs) xs ys x h
+
+-- what two lists make together
+pub count_behind : (makes : Effect → ℕ) (xs ys : List Effect) → count_of makes (xs ++ ys) ≡ count_of makes xs + count_of makes ys
+count_behind makes [] ys = let h : count_of makes ys ≡ 0 + count_of makes ys = omega arith in h
+count_behind makes (e ∷ xs) ys = let h : makes e + count_of makes (xs ++ ys) ≡ makes e + count_of makes xs + count_of makes ys = omega (arith, count_behind makes xs ys) in h

@@ -4,7 +4,7 @@ use Rattle.slee_effect.specs.declared.reference.Ref.{Ref}
 use Rattle.slee_effect.specs.declared.value.Val.{Val}
 use Rattle.slee_effect.specs.declared.effect.Effect.{Effect}
 use Rattle.slee_effect.specs.declared.effect.Effect.TheVariants as ef
-use Rattle.handler_meaning.specs.Overlay.{overlay, overlay_from, field_after, attr_after, attached_after, named_after, entities_by, activities_by}
+use Rattle.handler_meaning.specs.Overlay.{overlay, overlay_from, field_after, attr_after, attached_after, named_after, activities_after, entities_by, activities_by}
 use Rattle.script_reading.specs.Done.{done}
 
 plain : {A : Type 0} (makes : Effect → ℕ) (does : ℕ → Effect → A → A) → ((n : ℕ) (e : Effect) (x : A) → does n e x ≡ does 0 e x) → (n : ℕ) (es : List Effect) (x : A) → overlay_from makes does n es x ≡ done (does 0) es x
@@ -14,6 +14,10 @@ plain makes does same n (e ∷ es) x = ap (λ y. overlay_from makes does (n + ma
 behind : {A : Type 0} (does : Effect → A → A) (xs ys : List Effect) (x : A) → done does (xs ++ ys) x ≡ done does ys (done does xs x)
 behind does [] ys x = refl
 behind does (e ∷ xs) ys x = behind does xs ys (does e x)
+
+-- effects of two lists, one behind the other
+pub laid : {A : Type 0} (makes : Effect → ℕ) (does : ℕ → Effect → A → A) → ((n : ℕ) (e : Effect) (x : A) → does n e x ≡ does 0 e x) → (xs ys : List Effect) (x : A) → overlay makes does (xs ++ ys) x ≡ done (does 0) ys (done (does 0) xs x)
+laid makes does same xs ys x = plain makes does same 0 (xs ++ ys) x ∙ behind (does 0) xs ys x
 
 field_same : (who : Ref) (name : List ℕ) (n : ℕ) (eff : Effect) (x : Val) → field_after who name n eff x ≡ field_after who name 0 eff x
 field_same who name n (ef.SetField p q r) x = refl
@@ -114,3 +118,12 @@ named_same name n (ef.Resume p) x = refl
 -- effects of two lists, one behind the other
 pub named_laid : (name : List ℕ) (xs ys : List Effect) (x : (Option Ref)) → overlay activities_by (named_after name) (xs ++ ys) x ≡ done (named_after name 0) ys (done (named_after name 0) xs x)
 named_laid name xs ys x = plain activities_by (named_after name) (named_same name) 0 (xs ++ ys) x ∙ behind (named_after name 0) xs ys x
+
+activities_same : (who : Ref) (n : ℕ) (eff : Effect) (x : List Ref) → activities_after who n eff x ≡ activities_after who 0 eff x
+activities_same who n (ef.Attach p q) x = refl
+activities_same who n (ef.Detach p q) x = refl
+activities_same who n other x = refl
+
+-- effects of two lists, one behind the other
+pub activities_laid : (who : Ref) (xs ys : List Effect) (x : List Ref) → overlay activities_by (activities_after who) (xs ++ ys) x ≡ done (activities_after who 0) ys (done (activities_after who 0) xs x)
+activities_laid who xs ys x = laid activities_by (activities_after who) (activities_same who) xs ys x

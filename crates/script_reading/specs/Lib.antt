@@ -1,2 +1,4 @@
 pub mod Things
 pub mod Done
+pub mod Masked
+pub mod Rows

@@ -1,10 +1,13 @@
 //! Answers by the form that their keys have. One of another form is read as the empty answer.
-ghost use Rattle.std.specs.Prelude.{◌≡◌};
+ghost use Rattle.std.specs.Prelude.{◌≡◌, map, IfOk};
 ghost use Rattle.std.specs.Option.{option_copied};
-ghost use Rattle.handler_meaning.specs.Answers.{number_in, activity_in, flag_in, refers_in};
+ghost use Rattle.slee_effect.specs.declared.reference.Ref.TheVariants as ref;
+ghost use Rattle.handler_meaning.specs.Answers.{number_in, activity_in, flag_in, refers_in, ids_in, row_in};
 
 use handler_meaning::{AcSeen, Seen};
 use slee_effect::Ref;
+use slee_value::{NoMemory, Payload};
+use std::alloc::Global;
 
 pub(crate) fn number_in(seen: Option<&Seen>) -> i64
     ensures { result ≡ number_in (option_copied seen.entry) }
@@ -38,6 +41,28 @@ pub(crate) fn refers_in(seen: Option<&Seen>) -> Option<Ref>
 {
     match seen {
         Some(Seen::Refers(Some(activity))) => Some(Ref::Known(activity.0)),
+        _ => None,
+    }
+}
+
+/// The things of an answer, in its order.
+pub(crate) fn known_in(alloc: Global, seen: Option<&Seen>) -> Result<Vec<Ref>, NoMemory>
+    ensures { IfOk result (λ refs. refs.items ≡ map ref.Known (ids_in (option_copied seen.entry))) }
+{
+    let mut refs = Vec::new(alloc);
+    if let Some(Seen::Ids(ids)) = seen {
+        for number in ids.as_slice() {
+            refs.push(Ref::Known(*number))?;
+        }
+    }
+    Ok(refs)
+}
+
+pub(crate) fn row_in<'a>(seen: Option<&'a Seen>) -> Option<&'a Payload>
+    ensures { option_copied result ≡ row_in (option_copied seen.entry) }
+{
+    match seen {
+        Some(Seen::Row(Some(row))) => Some(row),
         _ => None,
     }
 }

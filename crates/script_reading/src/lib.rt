@@ -4,14 +4,21 @@
 mod activities;
 mod answers;
 mod fields;
+mod lists;
+mod masks;
 mod numbers;
+mod refs;
+mod rows;
 mod standing;
 mod things;
 mod values;
 
 pub use activities::{state_of, used, used_active};
 pub use fields::{attribute, field};
+pub use lists::{attached_activities, children};
+pub use masks::is_masked;
 pub use numbers::{now, priority};
-pub use standing::{attached, named};
-pub use things::{Thing, count_made, made_by};
+pub use rows::{has_profile, profile_value};
+pub use standing::{attached, named, timer};
+pub use things::{Thing, count_made, made_by, next_number};
 pub use values::{fit, held_in, initial, is_of};

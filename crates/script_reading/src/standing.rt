@@ -99,3 +99,67 @@ pub fn named(machine: &mut Machine, scene: &Scene, name: &Text) -> Result<Option
     let seen = machine.look(scene, Some(key))?;
     Ok(named_laid(machine, scene, name, refers_in(seen)))
 }
+
+fn stands_on(activity: Ref, place: Option<Ref>) -> bool
+    ensures { result ≡ stands_on activity place }
+{
+    match place {
+        Some(other) => is_same_ref(activity, other),
+        None => false,
+    }
+}
+
+/// The activity on which a timer stands behind an effect, before which so many were made.
+fn timer_after(timer: Ref, made: u32, effect: &Effect, place: Option<Ref>) -> Option<Ref>
+    ensures { result ≡ timer_after timer made effect.now place }
+{
+    match effect {
+        Effect::SetTimer { activity, .. } if is_same_ref(Ref::Fresh(made), timer) => {
+            Some(*activity)
+        }
+        Effect::CancelTimer { timer: other } if is_same_ref(*other, timer) => None,
+        Effect::EndNull { activity } if stands_on(*activity, place) => None,
+        _ => place,
+    }
+}
+
+/// The activity on which a timer stands behind effects, before which so many were made.
+fn timer_over(timer: Ref, before: u32, effects: &[Effect], first: Option<Ref>) -> Option<Ref>
+    requires { before + length effects.now < 2 ^ 32 }
+    ensures { result ≡ overlay_from timers_by (timer_after timer) before effects.now first }
+{
+    let mut made = before;
+    let mut current = first;
+    for effect in effects {
+        current = timer_after(timer, made, effect, current);
+        made += made_by(Thing::Timer, effect);
+    }
+    current
+}
+
+#[tactic(auto, using(crate::proofs::CountLemmas::laid_behind))]
+fn timer_laid(machine: &Machine, scene: &Scene, timer: Ref, first: Option<Ref>) -> Option<Ref>
+    ensures { result ≡ overlay timers_by (timer_after timer) (scene.now.effects.now ++ machine.now.effects) first }
+{
+    let first = timer_over(timer, 0, scene.effects, first);
+    let before = count_made(Thing::Timer, scene.effects);
+    timer_over(timer, before, machine.effects(), first)
+}
+
+fn timer_key(timer: Ref) -> Option<Key>
+    ensures { result ≡ key_of (λ n. k.Timer (record { 0 = n })) timer }
+{
+    match timer {
+        Ref::Known(number) => Some(Key::Timer(TimerId(number))),
+        Ref::Fresh(_) => None,
+    }
+}
+
+/// The activity on which a timer stands.
+pub fn timer(machine: &mut Machine, scene: &Scene, timer: Ref) -> Result<Option<Ref>, Stop>
+    ensures agrees { Agrees (read.timer (setting_of scene.now) timer) machine.old machine.new result }
+    ensures spent { machine.new.left ≤ machine.old.left }
+{
+    let seen = machine.look(scene, timer_key(timer))?;
+    Ok(timer_laid(machine, scene, timer, refers_in(seen)))
+}

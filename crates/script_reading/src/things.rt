@@ -1,8 +1,9 @@
 //! Counting what effects make.
-ghost use Rattle.std.specs.Prelude.{◌≡◌, ◌≤◌, ◌<◌, ◌^◌, length};
+ghost use Rattle.std.specs.Prelude.{◌≡◌, ◌≤◌, ◌<◌, ◌++◌, ◌^◌, length};
 ghost use Rattle.handler_meaning.specs.Overlay.{count_of};
 ghost use Rattle.script_reading.specs.Things.{made_by};
 
+use script_machine::{Machine, Scene};
 use slee_effect::Effect;
 
 /// A kind of things that effects make.
@@ -37,4 +38,12 @@ pub fn count_made(thing: Thing, effects: &[Effect]) -> u32
         count += made_by(thing, effect);
     }
     count
+}
+
+/// The number that the next new thing of the kind gets.
+#[tactic(auto, using(crate::proofs::CountLemmas::count_behind))]
+pub fn next_number(machine: &Machine, scene: &Scene, thing: Thing) -> u32
+    ensures { result ≡ count_of (made_by thing) (scene.now.effects.now ++ machine.now.effects) }
+{
+    count_made(thing, scene.effects) + count_made(thing, machine.effects())
 }

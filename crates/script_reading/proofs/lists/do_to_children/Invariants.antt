@@ -1,0 +1,7 @@
+use Rattle.std.proofs.Common.{◌≡◌, ◌+◌, ◌≤◌, drop}
+use Rattle.handler_meaning.specs.Overlay.{overlay_from, entities_by, children_after}
+use Rattle.script_reading.proofs.lists.do_to_children.Given as goal
+
+-- the effects so far are done
+abbrev pub invariant-loop-effect : goal.invariant-loop-effect
+invariant-loop-effect l = (overlay_from entities_by (children_after l.entity l.relation) l.made (drop l.effect-index l.effects) l.refs.items ≡ overlay_from entities_by (children_after l.entity l.relation) l.before l.effects l.initial.refs.items) × (l.made ≤ l.before + l.effect-index)

@@ -1,0 +1,161 @@
+//! Lists that are read, with effects done to them: the children of a relation, and an entity's activities.
+ghost use Rattle.std.specs.Prelude.{◌≡◌, ◌≤◌, ◌<◌, ◌+◌, ◌++◌, ◌^◌, length, map, IfOk, OnOk};
+ghost use Rattle.std.specs.Option.{option_copied};
+ghost use Rattle.slee_effect.specs.declared.reference.Ref.TheVariants as ref;
+ghost use Rattle.handler_meaning.specs.Answers.{ids_in};
+ghost use Rattle.handler_meaning.specs.Overlay.{overlay, overlay_from, entities_by, activities_by, children_after, activities_after};
+ghost use Rattle.handler_meaning.specs.Observing as read;
+ghost use Rattle.handler_meaning.specs.Observing.{key_of};
+ghost use Rattle.handler_meaning.specs.declared.key.Key.TheVariants as k;
+ghost use Rattle.script_machine.specs.Agreeing.{AgreesAs};
+ghost use Rattle.script_machine.specs.Settings.{setting_of};
+ghost use Rattle.script_reading.specs.Done.{done};
+
+use crate::answers::known_in;
+use crate::refs::{cut, put};
+use crate::things::{Thing, count_made, made_by};
+use handler_meaning::{Key, Seen};
+use script_machine::{Machine, Scene, Stop, is_same_ref};
+use slee_effect::{Effect, Ref};
+use slee_value::{EntityId, Name, NoMemory};
+use std::alloc::Global;
+
+/// Does an effect, before which so many entities were made, to the children of a relation.
+fn change_children(
+    entity: Ref,
+    relation: &Name,
+    made: u32,
+    effect: &Effect,
+    refs: &mut Vec<Ref>,
+) -> Result<(), NoMemory>
+    ensures { OnOk result (refs.new.items ≡ children_after entity relation.now made effect.now refs.old.items) }
+{
+    match effect {
+        Effect::Create {
+            parent,
+            relation: other,
+            priority: _,
+        } => {
+            if is_same_ref(*parent, entity) && other.as_bytes() == relation.as_bytes() {
+                refs.push(Ref::Fresh(made))?;
+            }
+        }
+        Effect::Remove { entity: gone } => cut(refs, *gone),
+        _ => {}
+    }
+    Ok(())
+}
+
+/// Does effects, before which so many entities were made, to the children of a relation.
+fn do_to_children(
+    entity: Ref,
+    relation: &Name,
+    before: u32,
+    effects: &[Effect],
+    refs: &mut Vec<Ref>,
+) -> Result<(), NoMemory>
+    requires { before + length effects.now < 2 ^ 32 }
+    ensures { OnOk result (refs.new.items ≡ overlay_from entities_by (children_after entity relation.now) before effects.now refs.old.items) }
+{
+    let mut made = before;
+    for effect in effects {
+        change_children(entity, relation, made, effect, refs)?;
+        made += made_by(Thing::Entity, effect);
+    }
+    Ok(())
+}
+
+#[tactic(auto, using(crate::proofs::CountLemmas::laid_behind))]
+fn children_laid(
+    machine: &Machine,
+    scene: &Scene,
+    relation: &Name,
+    seen: Option<&Seen>,
+) -> Result<Vec<Ref>, NoMemory>
+    ensures { IfOk result (λ refs. refs.items ≡ overlay entities_by (children_after scene.now.me relation.now) (scene.now.effects.now ++ machine.now.effects) (map ref.Known (ids_in (option_copied seen.entry)))) }
+{
+    let mut refs = known_in(scene.alloc, seen)?;
+    do_to_children(scene.me, relation, 0, scene.effects, &mut refs)?;
+    let before = count_made(Thing::Entity, scene.effects);
+    do_to_children(scene.me, relation, before, machine.effects(), &mut refs)?;
+    Ok(refs)
+}
+
+fn children_key(alloc: Global, entity: Ref, relation: &Name) -> Result<Option<Key>, NoMemory>
+    ensures { IfOk result (λ key. key ≡ key_of (λ n. k.Children (record { 0 = n }) relation.now) entity) }
+{
+    match entity {
+        Ref::Known(number) => Ok(Some(Key::Children(EntityId(number), relation.copy(alloc)?))),
+        Ref::Fresh(_) => Ok(None),
+    }
+}
+
+/// The children of a relation, new ones last.
+pub fn children(machine: &mut Machine, scene: &Scene, relation: &Name) -> Result<Vec<Ref>, Stop>
+    ensures agrees { AgreesAs (λ refs. refs.items) (read.children (setting_of scene.now) relation.now) machine.old machine.new result }
+    ensures spent { machine.new.left ≤ machine.old.left }
+{
+    let key = children_key(scene.alloc, scene.me, relation)?;
+    let seen = machine.look(scene, key)?;
+    Ok(children_laid(machine, scene, relation, seen)?)
+}
+
+/// Does an effect to the activities of an entity.
+fn change_activities(entity: Ref, effect: &Effect, refs: &mut Vec<Ref>) -> Result<(), NoMemory>
+    ensures { OnOk result (refs.new.items ≡ activities_after entity 0 effect.now refs.old.items) }
+{
+    match effect {
+        Effect::Attach {
+            entity: who,
+            activity,
+        } if is_same_ref(*who, entity) => put(refs, *activity)?,
+        Effect::Detach {
+            entity: who,
+            activity,
+        } if is_same_ref(*who, entity) => cut(refs, *activity),
+        _ => {}
+    }
+    Ok(())
+}
+
+/// Does effects to the activities of an entity.
+fn do_to_activities(entity: Ref, effects: &[Effect], refs: &mut Vec<Ref>) -> Result<(), NoMemory>
+    ensures { OnOk result (refs.new.items ≡ done (activities_after entity 0) effects.now refs.old.items) }
+{
+    for effect in effects {
+        change_activities(entity, effect, refs)?;
+    }
+    Ok(())
+}
+
+#[tactic(auto, using(crate::proofs::OverlayLemmas::activities_laid))]
+fn activities_laid(
+    machine: &Machine,
+    scene: &Scene,
+    seen: Option<&Seen>,
+) -> Result<Vec<Ref>, NoMemory>
+    ensures { IfOk result (λ refs. refs.items ≡ overlay activities_by (activities_after scene.now.me) (scene.now.effects.now ++ machine.now.effects) (map ref.Known (ids_in (option_copied seen.entry)))) }
+{
+    let mut refs = known_in(scene.alloc, seen)?;
+    do_to_activities(scene.me, scene.effects, &mut refs)?;
+    do_to_activities(scene.me, machine.effects(), &mut refs)?;
+    Ok(refs)
+}
+
+fn activities_key(entity: Ref) -> Option<Key>
+    ensures { result ≡ key_of (λ n. k.Activities (record { 0 = n })) entity }
+{
+    match entity {
+        Ref::Known(number) => Some(Key::Activities(EntityId(number))),
+        Ref::Fresh(_) => None,
+    }
+}
+
+/// The activities to which the entity is attached, new ones last.
+pub fn attached_activities(machine: &mut Machine, scene: &Scene) -> Result<Vec<Ref>, Stop>
+    ensures agrees { AgreesAs (λ refs. refs.items) (read.activities (setting_of scene.now)) machine.old machine.new result }
+    ensures spent { machine.new.left ≤ machine.old.left }
+{
+    let seen = machine.look(scene, activities_key(scene.me))?;
+    Ok(activities_laid(machine, scene, seen)?)
+}
