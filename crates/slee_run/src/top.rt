@@ -8,6 +8,7 @@ ghost use Rattle.slee_run.specs.Headline.{IsLegalRun, IsComplete, IsShown, Plays
 ghost use Rattle.slee_run.specs.Opening.{IsBeforeOpening};
 ghost use Rattle.slee_run.specs.Answers.{IsFormOf};
 
+use crate::checking::check;
 use crate::finishing::refuse;
 use crate::running::play_source;
 use crate::showing::show;
@@ -58,6 +59,7 @@ pub fn run_one<S: Source, T: Source, K: Sink, D: Disk>(
         None => return (refuse(out, Status::BadWords), disk),
     };
     match form_of(command) {
+        Form::Check => (check(alloc, deploy, out), disk),
         Form::Play(steps) => play_source(alloc, signals, out, disk, steps),
         Form::Show => show(alloc, out, disk),
         Form::Later => (refuse(out, Status::NotBuilt), disk),
@@ -66,6 +68,7 @@ pub fn run_one<S: Source, T: Source, K: Sink, D: Disk>(
 
 /// What a command asks of this program.
 enum Form {
+    Check,
     /// One worker plays, in so many entries at most.
     Play(u64),
     Show,
@@ -77,6 +80,7 @@ fn form_of(command: Command) -> Form
     ensures { IsFormOf command result }
 {
     match command {
+        Command::Check => Form::Check,
         Command::Play { workers: 1, steps } => Form::Play(steps),
         Command::Show => Form::Show,
         _ => Form::Later,

@@ -1,0 +1,34 @@
+//! The words for what may be wrong with a deployment.
+ghost use Rattle.std.specs.Prelude.{◌≡◌};
+ghost use Rattle.deploy_check.specs.Words.{shape_word, syntax_word};
+
+use deployment_parts::DeployBad;
+use handler_lang::SyntaxBad;
+
+/// The word for a fault of the shape.
+pub fn shape_word(kind: DeployBad) -> &'static str
+    ensures { result.now ≡ shape_word kind }
+{
+    match kind {
+        DeployBad::WrongType => "type",
+        DeployBad::Missing => "missing",
+        DeployBad::UnknownMember => "unknown-member",
+        DeployBad::BadName => "bad-name",
+        DeployBad::Repeated => "repeated",
+        DeployBad::UnknownName => "unknown-name",
+        DeployBad::Range => "range",
+        DeployBad::Alias => "alias",
+    }
+}
+
+/// The word for a fault of a script's text.
+pub fn syntax_word(kind: SyntaxBad) -> &'static str
+    ensures { result.now ≡ syntax_word kind }
+{
+    match kind {
+        SyntaxBad::Token => "token",
+        SyntaxBad::Expected => "expected",
+        SyntaxBad::Deep => "deep",
+        SyntaxBad::End => "end",
+    }
+}
