@@ -1,51 +1,45 @@
--- What the reader of a deployment answers.
-use Rattle.std.specs.Prelude.{◌≡◌, Some, None, IsUtf8}
-use Rattle.serde_json.specs.Data.{Data}
-use Rattle.serde_json.specs.Read.{read}
+-- What bytes are read as: a deployment with the program of its scripts, or the first fault.
+use Rattle.std.specs.Prelude.{Result, Ok, Err}
 use Rattle.script_tree.specs.Tree.{Bytes}
-use Rattle.script_tree.specs.declared.fault.SyntaxFault.TheVariants as syntax
-use Rattle.deployment_parts.specs.declared.parts.Parts.{Parts}
-use Rattle.deploy_tables.specs.Tables.{shape_fault}
-use Rattle.deploy_parts.specs.Sources.{first_misread}
-use Rattle.deploy_parts.specs.Rows.{parts_row}
-use Rattle.deploy_parts.specs.Documents.{parts_in}
-use Rattle.deploy_json.specs.declared.fault.ReadFault.{ReadFault}
-use Rattle.deploy_json.specs.declared.fault.ReadFault.TheVariants as faults
+use Rattle.script_tree.specs.declared.scanning.Place.{Place}
+use Rattle.script_types.specs.declared.codes.CodePlace.{CodePlace}
+use Rattle.script_types.specs.declared.misuse.Misuse.{Misuse}
+use Rattle.script_types.specs.declared.misuse.CheckBad.{CheckBad}
+use Rattle.script_types.specs.Program.{Program}
+use Rattle.script_types.specs.ProgramOf.{kept_program}
+use Rattle.script_types.specs.Programs.{Built, program_of}
+use Rattle.script_types.specs.TypingPlaces.{place_of_misuse}
+use Rattle.slee_descriptor.specs.declared.deployment.Deployment.{Deployment}
+use Rattle.deploy_parts.specs.Rows.{PartsRow, parts_row}
+use Rattle.deploy_reading.specs.declared.fault.ReadFault.{ReadFault}
+use Rattle.deploy_reading.specs.declared.fault.ReadFault.TheVariants as faults
+use Rattle.deploy_reading.specs.Reading.{parts_of}
+use Rattle.deploy_json.specs.Scripts.{codes_in_rows, script_path, script_text}
 
--- The bytes are this JSON value.
-pub record Means (bytes : Bytes) (d : Data) : Type 0 where
-  pub utf8 : IsUtf8 bytes
-  pub value : read bytes ≡ Some d
+-- The parts of a deployment, and what its scripts are made into.
+pub record Reading : Type 0 where
+  pub parts : PartsRow
+  pub program : Program
 
--- A document without fault, all scripts of which can be read, and its parts.
-pub record HasParts (d : Data) (p : Parts) : Type 0 where
-  pub shape : shape_fault d ≡ None
-  pub scripts : first_misread d ≡ None
-  pub parts : parts_row p ≡ parts_in d
+abbrev pub check_at : Bytes → Place → CheckBad → ReadFault
+check_at pointer place kind = faults.Check pointer place.line place.column kind
 
--- The bytes are a document with these parts.
-pub record AreParts (bytes : Bytes) (p : Parts) : Type 0 where
-  pub document : Data
-  pub means : Means bytes document
-  pub parts : HasParts document p
+-- A fault of a script: its pointer, the line and column in its text, and the kind.
+abbrev pub check_read : PartsRow → CodePlace → Misuse → ReadFault
+check_read p place misuse = check_at (script_path p place) (place_of_misuse (script_text p place) misuse) misuse.kind
 
--- The first fault of a document: of its shape, else of its scripts. Want of memory may stand for any.
-abbrev pub IsFirst : Data → ReadFault → Type 0
-IsFirst d faults.Json = ⊥
-IsFirst d (faults.Shape pointer kind) = shape_fault d ≡ Some (record { path = pointer; kind = kind })
-IsFirst d (faults.Syntax pointer line column kind) =
-    (shape_fault d ≡ None) × (first_misread d ≡ Some (record { path = pointer; fault = syntax.At line column kind }))
-IsFirst d faults.NoMemory = Unit {0}
+abbrev pub programmed : PartsRow → Built Program → Result Reading ReadFault
+programmed p (Ok program) = Ok (record { parts = p; program = program })
+programmed p (Err fault) = Err (check_read p fault.0 fault.1)
 
--- The bytes are a document with this first fault.
-pub record HasFault (bytes : Bytes) (fault : ReadFault) : Type 0 where
-  pub document : Data
-  pub means : Means bytes document
-  pub first : IsFirst document fault
+abbrev pub checked_parts : Result PartsRow ReadFault → Result Reading ReadFault
+checked_parts (Ok p) = programmed p (program_of (codes_in_rows p))
+checked_parts (Err fault) = Err fault
 
--- Why bytes are no deployment.
-abbrev pub IsFaultOf : Bytes → ReadFault → Type 0
-IsFaultOf bytes faults.Json = (d : Data) → Means bytes d → ⊥
-IsFaultOf bytes (faults.Shape pointer kind) = HasFault bytes (faults.Shape pointer kind)
-IsFaultOf bytes (faults.Syntax pointer line column kind) = HasFault bytes (faults.Syntax pointer line column kind)
-IsFaultOf bytes faults.NoMemory = Unit {0}
+-- The deployment that bytes are, or the first fault: they are no JSON, else that of the shape, else of the scripts' texts, else of their check.
+abbrev pub reading_of : Bytes → Result Reading ReadFault
+reading_of bytes = checked_parts (parts_of bytes)
+
+-- A deployment as it is read, with the program that is kept beside its scripts.
+abbrev pub read_as : Deployment → Reading
+read_as d = record { parts = parts_row d.parts; program = kept_program d.codes }

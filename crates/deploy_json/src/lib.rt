@@ -1,8 +1,8 @@
-//! Deployments read from JSON: their parts, or the first thing that is wrong with the bytes.
+//! Deployments read from JSON, with their scripts checked, or the first thing that is wrong with the bytes.
 #![tactic(auto)]
 
-mod fault;
-mod reading;
+mod checking;
 
-pub use fault::ReadFault;
-pub use reading::read_parts;
+pub use checking::read_deployment;
+pub use deploy_reading::ReadFault;
+pub use handler_check::Checked;

@@ -1,7 +1,8 @@
 //! Reads deployments from standard input, one a line, and prints what each is: no JSON, its first fault, its first script
-//! that can't be read, or that it is fine. With a number behind its name it reads the whole input as one document so many times.
+//! that cannot be read, the first fault of its scripts, or `ok`. With a word and a number it reads the whole input so many times.
 #![tactic(auto)]
 
+mod print;
 mod rows;
 mod trouble;
 

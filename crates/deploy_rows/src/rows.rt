@@ -1,106 +1,72 @@
 //! The documents of the input.
 
+use crate::print::print_answer;
 use crate::trouble::Trouble;
-use deploy_json::{ReadFault, read_parts};
-use deploy_shape::printed;
-use deployment_parts::DeployBad;
-use handler_lang::SyntaxBad;
+use deploy_json::{ReadFault, read_deployment};
+use deploy_reading::read_parts;
 use std::{env, io};
+
+/// How much of a reading is done again and again.
+#[derive(Clone, Copy)]
+enum Extent {
+    Parts,
+    Deployment,
+}
 
 /// Reads each line, or the whole input so many times.
 pub(crate) fn play(rt: &HostRuntime) -> Result<(), Trouble> {
     let text = io::read_to_string(rt.alloc(), rt.reader())?;
-    match env::args(rt)?.nth(1) {
+    let mut words = env::args(rt)?;
+    match words.nth(1) {
         None => print_all(rt, &text),
-        Some(word) => match word.parse::<u32>() {
-            Ok(count) => repeat(rt, &text, count),
-            Err(_) => Err(Trouble::Words),
-        },
+        Some(extent) => {
+            let Some(count) = words.next() else {
+                return Err(Trouble::Words);
+            };
+            repeat(rt, &text, extent_of(&extent)?, count_of(&count)?)
+        }
+    }
+}
+
+fn extent_of(word: &str) -> Result<Extent, Trouble> {
+    match word {
+        "parts" => Ok(Extent::Parts),
+        "deployment" => Ok(Extent::Deployment),
+        _ => Err(Trouble::Words),
+    }
+}
+
+fn count_of(word: &str) -> Result<u32, Trouble> {
+    match word.parse::<u32>() {
+        Ok(count) => Ok(count),
+        Err(_) => Err(Trouble::Words),
     }
 }
 
 fn print_all(rt: &HostRuntime, text: &str) -> Result<(), Trouble> {
     for line in text.lines() {
-        print_row(rt, line)?;
+        print_answer(rt, read_deployment(rt.alloc(), line.as_bytes()))?;
     }
     Ok(())
-}
-
-fn print_row(rt: &HostRuntime, line: &str) -> Result<(), Trouble> {
-    match read_parts(rt.alloc(), line.as_bytes()) {
-        Ok(_parts) => println!(rt; "fine")?,
-        Err(fault) => print_fault(rt, fault)?,
-    }
-    Ok(())
-}
-
-fn print_fault(rt: &HostRuntime, fault: ReadFault) -> Result<(), Trouble> {
-    match fault {
-        ReadFault::NoMemory => Err(Trouble::Memory),
-        ReadFault::Json => {
-            println!(rt; "json")?;
-            Ok(())
-        }
-        ReadFault::Shape { pointer, kind } => print_shape(rt, pointer.as_str(), kind),
-        ReadFault::Syntax {
-            pointer,
-            line,
-            column,
-            kind,
-        } => {
-            let place = printed(pointer.as_str());
-            println!(rt; "syntax {place} {line}:{column} {}", syntax_word(kind))?;
-            Ok(())
-        }
-    }
-}
-
-fn print_shape(rt: &HostRuntime, pointer: &str, kind: DeployBad) -> Result<(), Trouble> {
-    println!(rt; "shape {} {}", printed(pointer), shape_word(kind))?;
-    Ok(())
-}
-
-fn shape_word(kind: DeployBad) -> &'static str {
-    match kind {
-        DeployBad::WrongType => "type",
-        DeployBad::Missing => "missing",
-        DeployBad::UnknownMember => "unknown-member",
-        DeployBad::BadName => "bad-name",
-        DeployBad::Repeated => "repeated",
-        DeployBad::UnknownName => "unknown-name",
-        DeployBad::Range => "range",
-        DeployBad::Alias => "alias",
-    }
-}
-
-fn syntax_word(kind: SyntaxBad) -> &'static str {
-    match kind {
-        SyntaxBad::Token => "token",
-        SyntaxBad::Expected => "expected",
-        SyntaxBad::Deep => "deep",
-        SyntaxBad::End => "end",
-    }
 }
 
 /// Reads a document so many times.
-fn repeat(rt: &HostRuntime, text: &str, count: u32) -> Result<(), Trouble> {
+fn repeat(rt: &HostRuntime, text: &str, extent: Extent, count: u32) -> Result<(), Trouble> {
     for _ in 0..count {
-        read_once(rt, text)?;
+        read_once(rt, text, extent)?;
     }
     println!(rt; "{count}")?;
     Ok(())
 }
 
-fn read_once(rt: &HostRuntime, text: &str) -> Result<(), Trouble> {
-    match read_parts(rt.alloc(), text.as_bytes()) {
-        Ok(_parts) => Ok(()),
-        Err(fault) => Err(trouble_of(fault)),
-    }
-}
-
-fn trouble_of(fault: ReadFault) -> Trouble {
+fn read_once(rt: &HostRuntime, text: &str, extent: Extent) -> Result<(), Trouble> {
+    let fault = match extent {
+        Extent::Parts => read_parts(rt.alloc(), text.as_bytes()).err(),
+        Extent::Deployment => read_deployment(rt.alloc(), text.as_bytes()).err(),
+    };
     match fault {
-        ReadFault::NoMemory => Trouble::Memory,
-        _other => Trouble::Words,
+        None => Ok(()),
+        Some(ReadFault::NoMemory) => Err(Trouble::Memory),
+        Some(_other) => Err(Trouble::Words),
     }
 }

@@ -82,10 +82,10 @@ impl Deployment {
         Ok(deployment_of(alloc, parts)?)
     }
 
-    /// The same deployment with its checked scripts.
+    /// The same deployment with these checked scripts. All else that scripts may name stays, and so do the scripts.
     pub fn with_programs(mut self, programs: CodeList<BlockSteps>) -> Self
         ensures same { result.parts ≡ self.parts }
-        ensures programs { result.codes.programs ≡ programs }
+        ensures codes { result.codes ≡ record self.codes { programs = programs } }
     {
         self.codes.programs = programs;
         self

@@ -1,5 +1,0 @@
-use Rattle.deploy_json.proofs.Lifting.{of_document}
-use Rattle.deploy_json.proofs.reading.read_parts.Goals as goal
-
-pub returns-in-Ok : goal.returns-in-Ok
-returns-in-Ok c = of_document c.args.bytes.now _ c.read_document.result c.in-Ok.ensures c.read_document.ensures

@@ -1,0 +1,78 @@
+//! The deployment of bytes: their parts, and then the check of all scripts.
+ghost use Rattle.std.specs.Prelude.{◌≡◌, [], IfOk, Option, MatchResult, Ok};
+ghost use Rattle.script_types.specs.ProgramOf.{IsChecked};
+ghost use Rattle.deployment_parts.specs.Tables.{parts_fault};
+ghost use Rattle.deploy_parts.specs.Rows.{parts_row};
+ghost use Rattle.deploy_reading.specs.Reading.{Tells};
+ghost use Rattle.deploy_json.specs.Reading.{checked_parts, reading_of, read_as};
+
+use deploy_reading::{ReadFault, read_parts};
+use deployment_parts::{DeployFault, Parts};
+use handler_check::{CheckFault, Checked, check};
+use slee_descriptor::Deployment;
+use slee_value::NoMemory;
+use std::alloc::Global;
+
+/// The deployment that parts without fault are.
+fn deployment_of(alloc: Global, parts: Parts) -> Result<Deployment, NoMemory>
+    requires { parts_fault parts ≡ Option.None }
+    ensures same { IfOk result (λ d. d.parts ≡ parts) }
+    ensures unchecked { IfOk result (λ d. d.codes.programs ≡ []) }
+{
+    match Deployment::build(alloc, parts) {
+        Ok(deployment) => Ok(deployment),
+        Err(DeployFault::NoMemory) => Err(NoMemory),
+        Err(DeployFault::At { path: _, kind: _ }) => unreachable!(),
+    }
+}
+
+/// The fault of a script.
+fn check_fault(fault: CheckFault) -> ReadFault {
+    match fault {
+        CheckFault::NoMemory => ReadFault::NoMemory,
+        CheckFault::At {
+            path,
+            line,
+            column,
+            kind,
+        } => ReadFault::Check {
+            pointer: path,
+            line,
+            column,
+            kind,
+        },
+    }
+}
+
+/// The deployment with its scripts checked.
+fn checked(alloc: Global, deployment: Deployment) -> Result<Checked, ReadFault>
+    requires { deployment.codes.programs ≡ [] }
+    ensures { MatchResult result (λ c. checked_parts (Ok (parts_row deployment.parts)) ≡ Ok (read_as c.deployment)) (Tells (checked_parts (Ok (parts_row deployment.parts)))) }
+{
+    match check(alloc, deployment) {
+        Ok(checked) => Ok(checked),
+        Err(fault) => Err(check_fault(fault)),
+    }
+}
+
+/// The checked deployment that parts without fault are, or the first fault of their scripts.
+fn check_parts(alloc: Global, parts: Parts) -> Result<Checked, ReadFault>
+    requires { parts_fault parts ≡ Option.None }
+    ensures { MatchResult result (λ c. checked_parts (Ok (parts_row parts)) ≡ Ok (read_as c.deployment)) (Tells (checked_parts (Ok (parts_row parts)))) }
+{
+    match deployment_of(alloc, parts) {
+        Ok(deployment) => checked(alloc, deployment),
+        Err(NoMemory) => Err(ReadFault::NoMemory),
+    }
+}
+
+/// The deployment that the bytes are, with its scripts checked, or the first thing that is wrong with them.
+pub fn read_deployment(alloc: Global, bytes: &[u8]) -> Result<Checked, ReadFault>
+    ensures read { MatchResult result (λ c. reading_of bytes.now ≡ Ok (read_as c.deployment)) (Tells (reading_of bytes.now)) }
+    ensures typed { IfOk result (λ c. IsChecked c.deployment.codes) }
+{
+    match read_parts(alloc, bytes) {
+        Ok(parts) => check_parts(alloc, parts),
+        Err(fault) => Err(fault),
+    }
+}
