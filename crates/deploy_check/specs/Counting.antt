@@ -1,11 +1,12 @@
--- How many parts of each kind a deployment has.
-use Rattle.std.specs.Prelude.{◌≡◌, length}
+-- How many parts of each kind bytes have as a deployment.
+use Rattle.std.specs.Prelude.{length, Result, Ok, Err}
 use Rattle.script_tree.specs.Tree.{Bytes}
-use Rattle.deployment_parts.specs.declared.parts.Parts.{Parts}
-use Rattle.deploy_json.specs.Reading.{AreParts}
-use Rattle.deploy_check.specs.declared.counts.Counts.{Counts}
+use Rattle.deploy_parts.specs.Rows.{PartsRow}
+use Rattle.deploy_reading.specs.declared.fault.ReadFault.{ReadFault}
+use Rattle.deploy_reading.specs.Reading.{parts_of}
+use Rattle.deploy_text.specs.declared.counts.Counts.{Counts}
 
-abbrev pub counts_of : Parts → Counts
+abbrev pub counts_of : PartsRow → Counts
 counts_of p = record {
   events = length p.events;
   profiles = length p.profiles;
@@ -14,8 +15,10 @@ counts_of p = record {
   services = length p.services;
 }
 
--- The bytes are a deployment with so many parts.
-pub record IsCounted (bytes : Bytes) (counts : Counts) : Type 0 where
-  pub parts : Parts
-  pub are : AreParts bytes parts
-  pub counted : counts ≡ counts_of parts
+abbrev pub counts_read : Result PartsRow ReadFault → Result Counts ReadFault
+counts_read (Ok p) = Ok (counts_of p)
+counts_read (Err fault) = Err fault
+
+-- The counts of the deployment that bytes are, or their first fault.
+unfoldable pub counts_in : Bytes → Result Counts ReadFault
+counts_in bytes = counts_read (parts_of bytes)

@@ -1,9 +1,10 @@
 //! The words for what may be wrong with a deployment.
 ghost use Rattle.std.specs.Prelude.{◌≡◌};
-ghost use Rattle.deploy_check.specs.Words.{shape_word, syntax_word};
+ghost use Rattle.deploy_text.specs.Words.{check_word, shape_word, syntax_word};
 
 use deployment_parts::DeployBad;
 use handler_lang::SyntaxBad;
+use script_types::CheckBad;
 
 /// The word for a fault of the shape.
 pub fn shape_word(kind: DeployBad) -> &'static str
@@ -30,5 +31,17 @@ pub fn syntax_word(kind: SyntaxBad) -> &'static str
         SyntaxBad::Expected => "expected",
         SyntaxBad::Deep => "deep",
         SyntaxBad::End => "end",
+    }
+}
+
+/// The word for a fault of a script that can be read.
+pub fn check_word(kind: CheckBad) -> &'static str
+    ensures { result.now ≡ check_word kind }
+{
+    match kind {
+        CheckBad::Name => "name",
+        CheckBad::Mismatch => "mismatch",
+        CheckBad::Count => "count",
+        CheckBad::Place => "place",
     }
 }

@@ -3,6 +3,8 @@ use Rattle.std.specs.Prelude.{codes}
 use Rattle.script_tree.specs.Tree.{Bytes}
 use Rattle.script_tree.specs.declared.fault.SyntaxBad.{SyntaxBad}
 use Rattle.script_tree.specs.declared.fault.SyntaxBad.TheVariants as misfits
+use Rattle.script_types.specs.declared.misuse.CheckBad.{CheckBad}
+use Rattle.script_types.specs.declared.misuse.CheckBad.TheVariants as misuses
 use Rattle.deployment_parts.specs.declared.fault.DeployBad.{DeployBad}
 use Rattle.deployment_parts.specs.declared.fault.DeployBad.TheVariants as shapes
 
@@ -21,3 +23,9 @@ syntax_word misfits.Token = codes "token"
 syntax_word misfits.Expected = codes "expected"
 syntax_word misfits.Deep = codes "deep"
 syntax_word misfits.End = codes "end"
+
+abbrev pub check_word : CheckBad → Bytes
+check_word misuses.Name = codes "name"
+check_word misuses.Mismatch = codes "mismatch"
+check_word misuses.Count = codes "count"
+check_word misuses.Place = codes "place"

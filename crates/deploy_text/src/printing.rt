@@ -1,15 +1,16 @@
 //! Writing what is said of a deployment.
 ghost use Rattle.std.specs.Prelude.{◌++◌, codes, decimal};
 ghost use Rattle.slee_disk.specs.Writes.{Writes};
-ghost use Rattle.deploy_check.specs.Words.{shape_word, syntax_word};
-ghost use Rattle.deploy_check.specs.Texts.{count_text, counts_text, pointer_word, place_text, script_text, fault_text};
+ghost use Rattle.deploy_text.specs.Words.{check_word, shape_word, syntax_word};
+ghost use Rattle.deploy_text.specs.Texts.{count_text, counts_text, pointer_word, place_text, script_text, fault_text};
 
 use crate::Counts;
-use crate::words::{shape_word, syntax_word};
-use deploy_json::ReadFault;
+use crate::words::{check_word, shape_word, syntax_word};
+use deploy_reading::ReadFault;
 use deploy_shape::printed;
 use deployment_parts::DeployBad;
 use handler_lang::SyntaxBad;
+use script_types::CheckBad;
 use sink_text::{write_number, write_word};
 use slee_disk::{Failed, Sink, write_whole};
 
@@ -17,17 +18,17 @@ use slee_disk::{Failed, Sink, write_whole};
 pub fn write_counts<K: Sink>(out: &mut K, counts: Counts) -> Result<(), Failed>
     ensures { Writes K.contents K.faults out.old out.new (counts_text counts) result }
 {
-    write_count(out, "events ", counts.events)?;
-    write_count(out, "profiles ", counts.profiles)?;
-    write_count(out, "tables ", counts.tables)?;
-    write_count(out, "blocks ", counts.blocks)?;
-    write_count(out, "services ", counts.services)
+    write_count(out, b"events ", counts.events)?;
+    write_count(out, b"profiles ", counts.profiles)?;
+    write_count(out, b"tables ", counts.tables)?;
+    write_count(out, b"blocks ", counts.blocks)?;
+    write_count(out, b"services ", counts.services)
 }
 
-fn write_count<K: Sink>(out: &mut K, label: &str, count: u64) -> Result<(), Failed>
+fn write_count<K: Sink>(out: &mut K, label: &[u8], count: u64) -> Result<(), Failed>
     ensures { Writes K.contents K.faults out.old out.new (count_text label.now count) result }
 {
-    write_whole(out, label.as_bytes())?;
+    write_whole(out, label)?;
     write_number(out, count)?;
     write_whole(out, b"\n")
 }
@@ -45,6 +46,12 @@ pub fn write_fault<K: Sink>(out: &mut K, fault: &ReadFault) -> Result<(), Failed
             column,
             kind,
         } => write_syntax(out, pointer.as_str(), *line, *column, *kind),
+        ReadFault::Check {
+            pointer,
+            line,
+            column,
+            kind,
+        } => write_check(out, pointer.as_str(), *line, *column, *kind),
         ReadFault::NoMemory => write_whole(out, b""),
     }
 }
@@ -55,7 +62,13 @@ fn write_shape<K: Sink>(out: &mut K, pointer: &str, kind: DeployBad) -> Result<(
     write_whole(out, b"shape ")?;
     write_pointer(out, pointer)?;
     write_whole(out, b" ")?;
-    write_whole(out, shape_word(kind).as_bytes())
+    write_shape_word(out, kind)
+}
+
+fn write_shape_word<K: Sink>(out: &mut K, kind: DeployBad) -> Result<(), Failed>
+    ensures { Writes K.contents K.faults out.old out.new (shape_word kind) result }
+{
+    write_str(out, shape_word(kind))
 }
 
 fn write_syntax<K: Sink>(
@@ -69,6 +82,19 @@ fn write_syntax<K: Sink>(
 {
     write_whole(out, b"syntax ")?;
     write_in_script(out, pointer, line, column, syntax_word(kind))
+}
+
+fn write_check<K: Sink>(
+    out: &mut K,
+    pointer: &str,
+    line: u64,
+    column: u64,
+    kind: CheckBad,
+) -> Result<(), Failed>
+    ensures { Writes K.contents K.faults out.old out.new (codes "check " ++ script_text pointer.now line column (check_word kind)) result }
+{
+    write_whole(out, b"check ")?;
+    write_in_script(out, pointer, line, column, check_word(kind))
 }
 
 /// Writes where a fault of a script stands, and the word for it.
@@ -85,7 +111,13 @@ fn write_in_script<K: Sink>(
     write_whole(out, b" ")?;
     write_place(out, line, column)?;
     write_whole(out, b" ")?;
-    write_whole(out, word.as_bytes())
+    write_str(out, word)
+}
+
+fn write_str<K: Sink>(out: &mut K, text: &str) -> Result<(), Failed>
+    ensures { Writes K.contents K.faults out.old out.new text.now result }
+{
+    write_whole(out, text.as_bytes())
 }
 
 fn write_pointer<K: Sink>(out: &mut K, pointer: &str) -> Result<(), Failed>

@@ -3,10 +3,10 @@ use Rattle.std.specs.Prelude.{ℕ, true, [], ◌++◌, codes, decimal}
 use Rattle.slee_value.specs.Escape.{escaped}
 use Rattle.script_tree.specs.Tree.{Bytes}
 use Rattle.deploy_shape.specs.Pointers.{printed}
-use Rattle.deploy_json.specs.declared.fault.ReadFault.{ReadFault}
-use Rattle.deploy_json.specs.declared.fault.ReadFault.TheVariants as faults
-use Rattle.deploy_check.specs.Words.{shape_word, syntax_word}
-use Rattle.deploy_check.specs.declared.counts.Counts.{Counts}
+use Rattle.deploy_reading.specs.declared.fault.ReadFault.{ReadFault}
+use Rattle.deploy_reading.specs.declared.fault.ReadFault.TheVariants as faults
+use Rattle.deploy_text.specs.Words.{check_word, shape_word, syntax_word}
+use Rattle.deploy_text.specs.declared.counts.Counts.{Counts}
 
 -- a kind of part, how many there are, and the end of the line
 abbrev pub count_text : Bytes → ℕ → Bytes
@@ -34,4 +34,5 @@ abbrev pub fault_text : ReadFault → Bytes
 fault_text faults.Json = codes "json"
 fault_text (faults.Shape pointer kind) = codes "shape " ++ (pointer_word pointer ++ (codes " " ++ shape_word kind))
 fault_text (faults.Syntax pointer line column kind) = codes "syntax " ++ script_text pointer line column (syntax_word kind)
+fault_text (faults.Check pointer line column kind) = codes "check " ++ script_text pointer line column (check_word kind)
 fault_text faults.NoMemory = []
