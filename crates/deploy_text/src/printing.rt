@@ -9,7 +9,7 @@ use crate::words::{check_word, shape_word, syntax_word};
 use deploy_reading::ReadFault;
 use deploy_shape::printed;
 use deployment_parts::DeployBad;
-use handler_lang::SyntaxBad;
+use script_tree::SyntaxBad;
 use script_types::CheckBad;
 use sink_text::{write_number, write_word};
 use slee_disk::{Failed, Sink, write_whole};

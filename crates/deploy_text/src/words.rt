@@ -3,7 +3,7 @@ ghost use Rattle.std.specs.Prelude.{◌≡◌};
 ghost use Rattle.deploy_text.specs.Words.{check_word, shape_word, syntax_word};
 
 use deployment_parts::DeployBad;
-use handler_lang::SyntaxBad;
+use script_tree::SyntaxBad;
 use script_types::CheckBad;
 
 /// The word for a fault of the shape.

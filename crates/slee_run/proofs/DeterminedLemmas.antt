@@ -274,14 +274,14 @@ same_line x y s t same is also = (same, is ∙ ap status_line same ∙ sym also)
 
 one_check : (bytes x y : List ℕ) (s t : Status) → Checked bytes x s → Checked bytes y t → (s ≡ t) × (x ≡ y)
 one_check bytes x y s t (Counted m is prints a) (Counted n also writes b) =
-    let both : Ok {E = ReadFault} m ≡ Ok n = sym a.counted ∙ b.counted in
+    let both : ◌≡◌ {A = Result Counts ReadFault} (Ok m) (Ok n) = sym a.counted ∙ b.counted in
     let same : m ≡ n = cc in
     (is ∙ sym also, prints ∙ ap checked_text same ∙ sym writes)
 one_check bytes x y s t (Counted m is prints a) (Faulty f also writes b) = absurd (let never : Ok m ≡ Err f = sym a.counted ∙ b.first in cc)
 one_check bytes x y s t (Counted m is prints a) (Large also writes more) = absurd (omega (arith, more, a.within))
 one_check bytes x y s t (Faulty e is prints a) (Counted n also writes b) = absurd (let never : Err e ≡ Ok n = sym a.first ∙ b.counted in cc)
 one_check bytes x y s t (Faulty e is prints a) (Faulty f also writes b) =
-    let both : Err {T = Counts} e ≡ Err f = sym a.first ∙ b.first in
+    let both : ◌≡◌ {A = Result Counts ReadFault} (Err e) (Err f) = sym a.first ∙ b.first in
     let same : e ≡ f = cc in
     same_line x y s t (is ∙ ap statuses.BadDeploy same ∙ sym also) prints writes
 one_check bytes x y s t (Faulty e is prints a) (Large also writes more) = absurd (omega (arith, more, a.within))
@@ -383,50 +383,50 @@ pub determined : (old one other : DiskState) (words : List (List ℕ)) (deploy b
 determined old one other words deploy bytes p q told first second fine good = by_command (command_of words) refl
   where
     -- what both have where the bytes of the disk stand for a state
-    base_is : (no : Checks words → ⊥) (s : Parts) → found old ≡ Ok s → p.base ≡ q.base
-    base_is no s is = ((first.journal no).opened told).from s is ∙ sym (((second.journal no).opened told).from s is)
+    base_is : (unchecked : Checks words → ⊥) (s : Parts) → found old ≡ Ok s → p.base ≡ q.base
+    base_is unchecked s is = ((first.journal unchecked).opened told).from s is ∙ sym (((second.journal unchecked).opened told).from s is)
 
-    on_state : (no : Checks words → ⊥) (steps : ℕ) (lines : List Signal) (s : Parts) → found old ≡ Ok s → EndsOn p.base steps lines p.history p.status → IsByOne p.base steps lines p.history p.status
+    on_state : (unchecked : Checks words → ⊥) (steps : ℕ) (lines : List Signal) (s : Parts) → found old ≡ Ok s → EndsOn p.base steps lines p.history p.status → IsByOne p.base steps lines p.history p.status
         → EndsOn q.base steps lines q.history q.status → IsByOne q.base steps lines q.history q.status → Same p.history q.history p.status q.status
-    on_state no steps lines s is a b c d =
-        let same : p.base ≡ s = ((first.journal no).opened told).from s is in
-        let also : q.base ≡ s = ((second.journal no).opened told).from s is in
+    on_state unchecked steps lines s is a b c d =
+        let same : p.base ≡ s = ((first.journal unchecked).opened told).from s is in
+        let also : q.base ≡ s = ((second.journal unchecked).opened told).from s is in
         let x = subst (λ (t : Parts). IsByOne t steps lines p.history p.status) same b in
         let y = subst (λ (t : Parts). IsByOne t steps lines q.history q.status) also d in
-        let m = subst (λ (t : Parts). IsSized t p.history old p.status) same ((first.journal no).sized told (is ∙ ap (λ (t : Parts). Ok t) (sym same))) in
-        let n = subst (λ (t : Parts). IsSized t q.history old q.status) also ((second.journal no).sized told (is ∙ ap (λ (t : Parts). Ok t) (sym also))) in
+        let m = subst (λ (t : Parts). IsSized t p.history old p.status) same ((first.journal unchecked).sized told (is ∙ ap (λ (t : Parts). Ok t) (sym same))) in
+        let n = subst (λ (t : Parts). IsSized t q.history old q.status) also ((second.journal unchecked).sized told (is ∙ ap (λ (t : Parts). Ok t) (sym also))) in
         on_lines old s steps lines p.history x.rest q.history y.rest p.status q.status (x.front ∙ sym y.front) m.room n.room
-        (led old s steps lines p.history p.status (found old) s (subst (λ (t : Parts). EndsOn t steps lines p.history p.status) same a) x m is ((first.journal no).opened told).answer fine)
-        (led old s steps lines q.history q.status (found old) s (subst (λ (t : Parts). EndsOn t steps lines q.history q.status) also c) y n is ((second.journal no).opened told).answer good)
+        (led old s steps lines p.history p.status (found old) s (subst (λ (t : Parts). EndsOn t steps lines p.history p.status) same a) x m is ((first.journal unchecked).opened told).answer fine)
+        (led old s steps lines q.history q.status (found old) s (subst (λ (t : Parts). EndsOn t steps lines q.history q.status) also c) y n is ((second.journal unchecked).opened told).answer good)
 
-    on_wrong : (no : Checks words → ⊥) (steps : ℕ) (lines : List Signal) (w : Wrong) → found old ≡ Err w → EndsOn p.base steps lines p.history p.status → EndsOn q.base steps lines q.history q.status
+    on_wrong : (unchecked : Checks words → ⊥) (steps : ℕ) (lines : List Signal) (w : Wrong) → found old ≡ Err w → EndsOn p.base steps lines p.history p.status → EndsOn q.base steps lines q.history q.status
         → Same p.history q.history p.status q.status
-    on_wrong no steps lines w is a c = (
-      told_wrong p.base steps lines p.history p.status w a (subst (λ r. IsAnswerTo r p.status) is ((first.journal no).opened told).answer) fine
-          ∙ sym (told_wrong q.base steps lines q.history q.status w c (subst (λ r. IsAnswerTo r q.status) is ((second.journal no).opened told).answer) good),
-      ((first.journal no).opened told).none w is ∙ sym (((second.journal no).opened told).none w is),
+    on_wrong unchecked steps lines w is a c = (
+      told_wrong p.base steps lines p.history p.status w a (subst (λ r. IsAnswerTo r p.status) is ((first.journal unchecked).opened told).answer) fine
+          ∙ sym (told_wrong q.base steps lines q.history q.status w c (subst (λ r. IsAnswerTo r q.status) is ((second.journal unchecked).opened told).answer) good),
+      ((first.journal unchecked).opened told).none w is ∙ sym (((second.journal unchecked).opened told).none w is),
     )
 
-    on_bytes : (no : Checks words → ⊥) (steps : ℕ) (lines : List Signal) (r : Result Parts Wrong) → found old ≡ r → EndsOn p.base steps lines p.history p.status → IsByOne p.base steps lines p.history p.status
+    on_bytes : (unchecked : Checks words → ⊥) (steps : ℕ) (lines : List Signal) (r : Result Parts Wrong) → found old ≡ r → EndsOn p.base steps lines p.history p.status → IsByOne p.base steps lines p.history p.status
         → EndsOn q.base steps lines q.history q.status → IsByOne q.base steps lines q.history q.status → Same p.history q.history p.status q.status
-    on_bytes no steps lines (Ok s) is a b c d = on_state no steps lines s is a b c d
-    on_bytes no steps lines (Err w) is a b c d = on_wrong no steps lines w is a c
+    on_bytes unchecked steps lines (Ok s) is a b c d = on_state unchecked steps lines s is a b c d
+    on_bytes unchecked steps lines (Err w) is a b c d = on_wrong unchecked steps lines w is a c
 
-    on_given : (no : Checks words → ⊥) (steps : ℕ) (given : Option (List Signal))
+    on_given : (unchecked : Checks words → ⊥) (steps : ℕ) (given : Option (List Signal))
         → MatchOption given ((p.history ≡ []) × IsRefused bytes p.status) (λ lines. EndsOn p.base steps lines p.history p.status) → IfSome given (λ lines. IsByOne p.base steps lines p.history p.status)
         → MatchOption given ((q.history ≡ []) × IsRefused bytes q.status) (λ lines. EndsOn q.base steps lines q.history q.status) → IfSome given (λ lines. IsByOne q.base steps lines q.history q.status)
         → Same p.history q.history p.status q.status
-    on_given no steps None a b c d = (one_refusal bytes p.status q.status (barred bytes p.status a.1 fine) (barred bytes q.status c.1 good), a.0 ∙ sym c.0)
-    on_given no steps (Some lines) a b c d = on_bytes no steps lines (found old) refl a b c d
+    on_given unchecked steps None a b c d = (one_refusal bytes p.status q.status (barred bytes p.status a.1 fine) (barred bytes q.status c.1 good), a.0 ∙ sym c.0)
+    on_given unchecked steps (Some lines) a b c d = on_bytes unchecked steps lines (found old) refl a b c d
 
-    show_on : (no : Checks words → ⊥) (r : Result Parts Wrong) → found old ≡ r → IsShownAt p.status → IsShownAt q.status → (p.status ≡ q.status) × (shown_text p.base p.status ≡ shown_text q.base q.status)
-    show_on no (Ok s) is a b =
-        let x : p.status ≡ statuses.Ok = shown_fine p.status s a (subst (λ r. IsAnswerTo r p.status) is ((first.journal no).opened told).answer) fine in
-        let y : q.status ≡ statuses.Ok = shown_fine q.status s b (subst (λ r. IsAnswerTo r q.status) is ((second.journal no).opened told).answer) good in
-        (x ∙ sym y, ap (shown_text p.base) (x ∙ sym y) ∙ ap (λ (t : Parts). shown_text t q.status) (base_is no s is))
-    show_on no (Err w) is a b =
-        let x : p.status ≡ said w = shown_wrong p.status w a (subst (λ r. IsAnswerTo r p.status) is ((first.journal no).opened told).answer) fine in
-        let y : q.status ≡ said w = shown_wrong q.status w b (subst (λ r. IsAnswerTo r q.status) is ((second.journal no).opened told).answer) good in
+    show_on : (unchecked : Checks words → ⊥) (r : Result Parts Wrong) → found old ≡ r → IsShownAt p.status → IsShownAt q.status → (p.status ≡ q.status) × (shown_text p.base p.status ≡ shown_text q.base q.status)
+    show_on unchecked (Ok s) is a b =
+        let x : p.status ≡ statuses.Ok = shown_fine p.status s a (subst (λ r. IsAnswerTo r p.status) is ((first.journal unchecked).opened told).answer) fine in
+        let y : q.status ≡ statuses.Ok = shown_fine q.status s b (subst (λ r. IsAnswerTo r q.status) is ((second.journal unchecked).opened told).answer) good in
+        (x ∙ sym y, ap (shown_text p.base) (x ∙ sym y) ∙ ap (λ (t : Parts). shown_text t q.status) (base_is unchecked s is))
+    show_on unchecked (Err w) is a b =
+        let x : p.status ≡ said w = shown_wrong p.status w a (subst (λ r. IsAnswerTo r p.status) is ((first.journal unchecked).opened told).answer) fine in
+        let y : q.status ≡ said w = shown_wrong q.status w b (subst (λ r. IsAnswerTo r q.status) is ((second.journal unchecked).opened told).answer) good in
         (x ∙ sym y, ap (shown_text p.base) x ∙ said_text p.base q.base w ∙ ap (shown_text q.base) (sym y))
 
     by_asked : (c : Command) → command_of words ≡ Some c → Asked c → Equal p.history q.history p.text q.text p.status q.status

@@ -5,6 +5,7 @@ use Rattle.slee_disk.specs.Disk.{DiskState}
 use Rattle.commit_journal.specs.Reading.{Wrong, Bad, Other}
 use Rattle.router_model.specs.State.{Parts}
 use Rattle.trace_history.specs.declared.entry.Entry.{Entry}
+use Rattle.deploy_reading.specs.declared.fault.ReadFault.{ReadFault}
 use Rattle.deploy_text.specs.declared.counts.Counts.{Counts}
 use Rattle.slee_run.specs.Words.{command_of}
 use Rattle.slee_run.specs.Status.{status_line}
@@ -56,8 +57,7 @@ run_of_bad words deploy told before after d status none out = record {
     alone = λ steps is. absurd (no_command (command_of words) (commands.Play 1 steps) none is);
     unwritten = λ is. cc;
   };
-  idle = λ is. refl;
-  journal = λ no. untouched d statuses.BadWords tt;
+  journal = λ unchecked. untouched d statuses.BadWords tt;
   output = out;
 }
 
@@ -80,8 +80,7 @@ run_of_later words deploy told before after d status c asks later out = record {
     alone = λ steps is. absurd (later.0 steps (one_command (command_of words) c (commands.Play 1 steps) asks is));
     unwritten = λ is. cc;
   };
-  idle = λ is. refl;
-  journal = λ no. untouched d statuses.NotBuilt tt;
+  journal = λ unchecked. untouched d statuses.NotBuilt tt;
   output = out;
 }
 
@@ -107,8 +106,7 @@ run_of_play words deploy told before after old new status c steps asks plays p =
     alone = λ n is. (from n is).alone;
     unwritten = p.unwritten;
   };
-  idle = λ is. absurd (plays_only words steps asked_play is);
-  journal = λ no. p.journal;
+  journal = λ unchecked. p.journal;
   output = p.output;
 }
   where
@@ -140,8 +138,7 @@ run_of_show words deploy told before after old new status c asks shows p = recor
     alone = λ n is. absurd (no_play n (one_command (command_of words) commands.Show (commands.Play 1 n) asked_show is));
     unwritten = λ is. subst IsShownAt is p.comes;
   };
-  idle = λ is. absurd (shows_only words asked_show is);
-  journal = λ no. p.journal;
+  journal = λ unchecked. p.journal;
   output = p.output;
 }
   where
@@ -170,8 +167,7 @@ run_of_check words deploy told before after d status c asks checks p = record {
     alone = λ n is. absurd (plays_only words n is asked_check);
     unwritten = λ is. subst IsCheckedAt is p.check.comes;
   };
-  idle = λ is. refl;
-  journal = λ no. absurd (no asked_check);
+  journal = λ unchecked. absurd (unchecked asked_check);
   output = p.output;
 }
   where
@@ -251,7 +247,7 @@ answer bytes text statuses.BadWords comes is reads = absurd comes
 answer bytes text statuses.ReadFault comes is reads = absurd (reads refl)
 answer bytes text (statuses.BadDeploy fault) comes is reads = record {
   good = λ counts counted. absurd (let never : Err fault ≡ Ok counts = sym is.1.first ∙ counted.counted in cc);
-  bad = λ other faulty. let one : Err {T = Counts} fault ≡ Err other = sym is.1.first ∙ faulty.first in let same : fault ≡ other = cc in inl (ap statuses.BadDeploy same);
+  bad = λ other faulty. let one : ◌≡◌ {A = Result Counts ReadFault} (Err fault) (Err other) = sym is.1.first ∙ faulty.first in let same : fault ≡ other = cc in inl (ap statuses.BadDeploy same);
   large = λ more. absurd (omega (arith, more, is.1.within));
 }
 answer bytes text (statuses.BadSignals line kind) comes is reads = absurd comes

@@ -209,8 +209,7 @@ pub record IsLegalRun (words : List (List ℕ)) (deploy told before after : Opti
   pub text : List ℕ
   pub stood : Status
   pub run : IsRun base words deploy told history acked text stood
-  -- a check leaves the disk as it is, whatever it has
-  pub idle : Checks words → new ≡ old
+  -- a check doesn't open the journal
   pub journal : (Checks words → ⊥) → KeepsJournal base history acked old new stood
   pub output : IsWritten before after text stood status
 
