@@ -6,15 +6,17 @@ pub const HELP: &str = "slee: a service container after JAIN SLEE 1.1 (JSR 240)
 
 usage: slee WORDS
 
+  check      reads the deployment, deploy.json, and prints how many events,
+             profiles, tables, blocks and services it has, and a status line
   play 1 S   plays the signal lines of standard input with one worker, in at most
              S entries (1 to 1000000), and prints the trace and a status line
   show       prints the state that the journal has, and a status line
   --help     prints this text
   --version  prints the version
 
-These forms are known and not built yet: check, compact, play W S and
-resume W S with W workers (1 to 64), gen SEED COUNT and trial SEED COUNT with a
-seed from 0 to 4294967295 and a count from 0 to 100000.
+These forms are known and not built yet: compact, play W S and resume W S with W
+workers (1 to 64), gen SEED COUNT and trial SEED COUNT with a seed from 0 to
+4294967295 and a count from 0 to 100000.
 
 Signal lines, each ended by a newline, at most 4096 bytes long, 16777216 in all:
   start NAME                    an external activity of this name starts
@@ -24,19 +26,30 @@ A name is a lower-case letter and up to 63 lower-case letters, digits and
 underscores. In a value a space, a percent sign and a control byte are written
 as a percent sign and two upper-case hexadecimal digits, and no other byte is.
 
-The deployment is built in: the service prepaid, whose root block call says the
-address of each invite, and that the call is over.
+A deployment is a JSON text of at most 1048576 bytes. It is checked, and not
+played yet: what is played is built in, the service prepaid, whose root block
+call says the address of each invite, and that the call is over.
 
 The journal is two files of the folder where it runs, journal.a and journal.b.
 They are made where they are missing. Each entry is kept there, and synced,
 before it counts; a later run goes on from the state that they have. No other
-file is read or written. Statuses 2, 3, 5, 13 and 14 leave them alone, and 8 and 9
-leave them as they are.
+file is written, and deploy.json alone is read, by check, which leaves the journal
+alone. So do statuses 2, 3, 4, 5, 13 and 14; 8 and 9 leave it as it is.
 
 Statuses, printed last but by --help and --version, and the exit status:
-  0 ok             all lines were taken, and no choice is left
+  0 ok             all lines were taken, and no choice is left; or the deployment
+                   has no fault
   2 bad-words      the words are of no form, or a number is out of range
-  3 read-fault     standard input failed
+  3 read-fault     deploy.json or standard input failed
+  4 bad-deploy ..  deploy.json is no deployment; this is its first fault:
+    json           it is no JSON
+    shape POINTER KIND
+                   the value at this JSON pointer: type, missing, unknown-member,
+                   bad-name, repeated, unknown-name, range, alias
+    syntax POINTER LINE:COLUMN KIND
+                   the script there can't be read: token, expected, deep, end
+    check POINTER LINE:COLUMN KIND
+                   it isn't well typed: name, mismatch, count, place
   5 bad-signals LINE KIND
                    this line, from 1, is the first that is of no form: long,
                    control, utf8, empty, verb, count, name, number, field, escape
@@ -53,8 +66,9 @@ Statuses, printed last but by --help and --version, and the exit status:
   11 steps-spent N N entries were made and more would be left, or the state
                    is used up
   12 no-memory     memory ran out
-  13 too-large signals
-                   standard input gave more than 16777216 bytes
+  13 too-large WHAT
+                   deploy.json has more than 1048576 bytes (deploy), or standard
+                   input gave more than 16777216 (signals)
   14 not-built     the words ask what isn't built yet, or a line does
 
 example:

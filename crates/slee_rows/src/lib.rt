@@ -8,4 +8,6 @@ mod calls;
 #[cfg(test)]
 mod command_words;
 #[cfg(test)]
+mod deployments;
+#[cfg(test)]
 mod faults;

@@ -20,8 +20,11 @@ use Rattle.router_rules.proofs.HistoryLemmas.{choices_of-append, payloads-append
 use Rattle.router_journal.specs.Recovery.{records}
 use Rattle.slee_run.specs.Words.{command_of}
 use Rattle.slee_run.specs.Status.{status_line}
-use Rattle.slee_run.specs.Text.{output_text, shown_text}
-use Rattle.slee_run.specs.Headline.{HasUntakenLine, signals_limit, lines_given, AsksLater, MayFollow, IsDoneOn, IsSpentOn, IsFullOn, EndsOn, IsRefused, IsShownAt, AddsFirst, IsByOne, IsHistory, IsRun, IsPlay, IsByFault}
+use Rattle.slee_run.specs.Text.{output_text, shown_text, checked_text}
+use Rattle.deploy_reading.specs.declared.fault.ReadFault.{ReadFault}
+use Rattle.deploy_text.specs.declared.counts.Counts.{Counts}
+use Rattle.slee_run.specs.Checking.{deploy_limit, IsCounted, IsFaulty, IsTextFor, IsCheckedAt}
+use Rattle.slee_run.specs.Headline.{Checks, HasUntakenLine, signals_limit, lines_given, AsksLater, MayFollow, IsDoneOn, IsSpentOn, IsFullOn, EndsOn, IsRefused, IsShownAt, AddsFirst, IsByOne, IsHistory, IsRun, IsPlay, IsByFault}
 use Rattle.slee_run.specs.Opening.{kept_deployment, journal_limit, found, IsAnswerTo}
 use Rattle.slee_run.specs.Stops.{records_behind, size_behind, IsSized}
 use Rattle.slee_run.specs.Determined.{Outcome, IsRunOver}
@@ -30,6 +33,7 @@ use Rattle.slee_run.specs.declared.command.Command.TheVariants as commands
 use Rattle.slee_run.specs.declared.status.Given.TheVariants as givens
 use Rattle.slee_run.specs.declared.status.Status.{Status}
 use Rattle.slee_run.specs.declared.status.Status.TheVariants as statuses
+use Rattle.slee_run.proofs.RunLemmas.{plays_only, shows_only}
 
 -- ---- two fronts of one list
 
@@ -139,6 +143,7 @@ led old base steps lines history (statuses.OtherDeployment kept_len place) bytes
 led old base steps lines history (statuses.Full size adding) bytes s ends one sized ok answer fine = Full size adding refl (sized.full size adding refl) (one.full size adding refl) ends.above
 led old base steps lines history (statuses.StepsSpent entries) bytes s ends one sized ok answer fine = Spent entries refl ends.0 (one.spent entries refl) ends.1
 led old base steps lines history statuses.NoMemory bytes s ends one sized ok answer fine = absurd (fine tt)
+led old base steps lines history (statuses.BadDeploy fault) bytes s ends one sized ok answer fine = absurd ends
 led old base steps lines history (statuses.BadSignals line kind) bytes s ends one sized ok answer fine = absurd ends
 led old base steps lines history (statuses.TooLarge what) bytes s ends one sized ok answer fine = absurd ends
 led old base steps lines history statuses.NotBuilt bytes s ends one sized ok answer fine = absurd ends
@@ -216,6 +221,7 @@ barred bytes (statuses.OtherDeployment kept_len place) refused fine = absurd ref
 barred bytes (statuses.Full size adding) refused fine = absurd refused
 barred bytes (statuses.StepsSpent entries) refused fine = absurd refused
 barred bytes statuses.NoMemory refused fine = absurd (fine tt)
+barred bytes (statuses.BadDeploy fault) refused fine = absurd refused
 barred bytes (statuses.BadSignals line kind) refused fine = Bad line kind refl refused.0 refused.1
 barred bytes (statuses.TooLarge what) refused fine = Long (ap statuses.TooLarge refused.0) refused.1
 barred bytes statuses.NotBuilt refused fine = Other refl refused.0 refused.1
@@ -236,6 +242,52 @@ one_refusal bytes s t (Other is few good) (Long also more) = absurd (omega (arit
 one_refusal bytes s t (Other is few good) (Bad line kind also less bad) =
     let never : Err (line_faults.At line kind) ≡ Ok good.lines = sym bad ∙ good.read in cc
 one_refusal bytes s t (Other is few good) (Other also less fine) = is ∙ sym also
+
+-- ---- deployments
+
+-- what a check tells of bytes
+data Checked (bytes text : List ℕ) (status : Status) : Type 0 where
+  Counted : (counts : Counts) → status ≡ statuses.Ok → text ≡ checked_text counts → IsCounted bytes counts → Checked bytes text status
+  Faulty : (fault : ReadFault) → status ≡ statuses.BadDeploy fault → text ≡ status_line status → IsFaulty bytes fault → Checked bytes text status
+  Large : status ≡ statuses.TooLarge givens.Deploy → text ≡ status_line status → deploy_limit < length bytes → Checked bytes text status
+
+checked_as : (bytes text : List ℕ) (status : Status) → IsCheckedAt status → IsTextFor (Some bytes) text status → (IsByFault status → ⊥) → Checked bytes text status
+checked_as bytes text statuses.Ok at is fine = Counted is.0 refl is.1 is.2
+checked_as bytes text statuses.BadWords at is fine = absurd at
+checked_as bytes text statuses.ReadFault at is fine = absurd (fine tt)
+checked_as bytes text (statuses.BadDeploy fault) at is fine = Faulty fault refl is.0 is.1
+checked_as bytes text (statuses.BadSignals line kind) at is fine = absurd at
+checked_as bytes text statuses.WriteFault at is fine = absurd at
+checked_as bytes text statuses.DiskFault at is fine = absurd at
+checked_as bytes text (statuses.BadJournal side place kind) at is fine = absurd at
+checked_as bytes text (statuses.OtherDeployment kept_len place) at is fine = absurd at
+checked_as bytes text (statuses.Full size adding) at is fine = absurd at
+checked_as bytes text (statuses.StepsSpent entries) at is fine = absurd at
+checked_as bytes text statuses.NoMemory at is fine = absurd (fine tt)
+checked_as bytes text (statuses.TooLarge givens.Deploy) at is fine = Large refl is.0 is.1
+checked_as bytes text (statuses.TooLarge givens.Signals) at is fine = absurd at
+checked_as bytes text statuses.NotBuilt at is fine = absurd at
+
+-- the status determines the text
+same_line : (x y : List ℕ) (s t : Status) → s ≡ t → x ≡ status_line s → y ≡ status_line t → (s ≡ t) × (x ≡ y)
+same_line x y s t same is also = (same, is ∙ ap status_line same ∙ sym also)
+
+one_check : (bytes x y : List ℕ) (s t : Status) → Checked bytes x s → Checked bytes y t → (s ≡ t) × (x ≡ y)
+one_check bytes x y s t (Counted m is prints a) (Counted n also writes b) =
+    let both : ◌≡◌ {A = Result Counts ReadFault} (Ok m) (Ok n) = sym a.counted ∙ b.counted in
+    let same : m ≡ n = cc in
+    (is ∙ sym also, prints ∙ ap checked_text same ∙ sym writes)
+one_check bytes x y s t (Counted m is prints a) (Faulty f also writes b) = absurd (let never : Ok m ≡ Err f = sym a.counted ∙ b.first in cc)
+one_check bytes x y s t (Counted m is prints a) (Large also writes more) = absurd (omega (arith, more, a.within))
+one_check bytes x y s t (Faulty e is prints a) (Counted n also writes b) = absurd (let never : Err e ≡ Ok n = sym a.first ∙ b.counted in cc)
+one_check bytes x y s t (Faulty e is prints a) (Faulty f also writes b) =
+    let both : ◌≡◌ {A = Result Counts ReadFault} (Err e) (Err f) = sym a.first ∙ b.first in
+    let same : e ≡ f = cc in
+    same_line x y s t (is ∙ ap statuses.BadDeploy same ∙ sym also) prints writes
+one_check bytes x y s t (Faulty e is prints a) (Large also writes more) = absurd (omega (arith, more, a.within))
+one_check bytes x y s t (Large is prints more) (Counted n also writes b) = absurd (omega (arith, more, b.within))
+one_check bytes x y s t (Large is prints more) (Faulty f also writes b) = absurd (omega (arith, more, b.within))
+one_check bytes x y s t (Large is prints more) (Large also writes much) = same_line x y s t (is ∙ sym also) prints writes
 
 -- ---- bytes that stand for no state
 
@@ -258,6 +310,7 @@ told_wrong base steps lines history (statuses.OtherDeployment kept_len place) w 
 told_wrong base steps lines history (statuses.Full size adding) w ends answer fine = absurd (cc)
 told_wrong base steps lines history (statuses.StepsSpent entries) w ends answer fine = absurd (cc)
 told_wrong base steps lines history statuses.NoMemory w ends answer fine = absurd (fine tt)
+told_wrong base steps lines history (statuses.BadDeploy fault) w ends answer fine = absurd ends
 told_wrong base steps lines history (statuses.BadSignals line kind) w ends answer fine = absurd ends
 told_wrong base steps lines history (statuses.TooLarge what) w ends answer fine = absurd ends
 told_wrong base steps lines history statuses.NotBuilt w ends answer fine = absurd ends
@@ -273,6 +326,7 @@ shown_wrong (statuses.OtherDeployment kept_len place) w at answer fine = sym (wr
 shown_wrong (statuses.Full size adding) w at answer fine = absurd at
 shown_wrong (statuses.StepsSpent entries) w at answer fine = absurd at
 shown_wrong statuses.NoMemory w at answer fine = absurd (fine tt)
+shown_wrong (statuses.BadDeploy fault) w at answer fine = absurd at
 shown_wrong (statuses.BadSignals line kind) w at answer fine = absurd at
 shown_wrong (statuses.TooLarge what) w at answer fine = absurd at
 shown_wrong statuses.NotBuilt w at answer fine = absurd at
@@ -288,6 +342,7 @@ shown_fine (statuses.OtherDeployment kept_len place) s at answer fine = absurd (
 shown_fine (statuses.Full size adding) s at answer fine = absurd at
 shown_fine (statuses.StepsSpent entries) s at answer fine = absurd at
 shown_fine statuses.NoMemory s at answer fine = absurd (fine tt)
+shown_fine (statuses.BadDeploy fault) s at answer fine = absurd at
 shown_fine (statuses.BadSignals line kind) s at answer fine = absurd at
 shown_fine (statuses.TooLarge what) s at answer fine = absurd at
 shown_fine statuses.NotBuilt s at answer fine = absurd at
@@ -300,18 +355,19 @@ said_text a b (OtherFrom kept_len place) = refl
 data Asked (c : Command) : Type 0 where
   Play : (steps : ℕ) → c ≡ commands.Play 1 steps → Asked c
   Show : c ≡ commands.Show → Asked c
-  Later : ((steps : ℕ) → c ≢ commands.Play 1 steps) → c ≢ commands.Show → Asked c
+  Check : c ≡ commands.Check → Asked c
+  Later : ((steps : ℕ) → c ≢ commands.Play 1 steps) → c ≢ commands.Show → c ≢ commands.Check → Asked c
 
 asked : (c : Command) → Asked c
-asked commands.Check = Later (λ steps is. cc) (λ is. cc)
+asked commands.Check = Check refl
 asked commands.Show = Show refl
-asked commands.Compact = Later (λ steps is. cc) (λ is. cc)
-asked (commands.Resume workers steps) = Later (λ others is. cc) (λ is. cc)
-asked (commands.Gen seed count) = Later (λ others is. cc) (λ is. cc)
-asked (commands.Trial seed count) = Later (λ others is. cc) (λ is. cc)
+asked commands.Compact = Later (λ steps is. cc) (λ is. cc) (λ is. cc)
+asked (commands.Resume workers steps) = Later (λ others is. cc) (λ is. cc) (λ is. cc)
+asked (commands.Gen seed count) = Later (λ others is. cc) (λ is. cc) (λ is. cc)
+asked (commands.Trial seed count) = Later (λ others is. cc) (λ is. cc) (λ is. cc)
 asked (commands.Play workers steps) = elim (cases_eq workers 1) [
   | inl one ↦ Play steps (ap (λ (n : ℕ). commands.Play n steps) one)
-  | inr more ↦ Later (λ others is. let one : workers ≡ 1 = cc in more one) (λ is. cc)
+  | inr more ↦ Later (λ others is. let one : workers ≡ 1 = cc in more one) (λ is. cc) (λ is. cc)
 ]
 
 -- ---- two runs
@@ -322,73 +378,80 @@ Equal h k x y s t = (s ≡ t) × (h ≡ k) × (x ≡ y)
 no_disk : (status : Status) → (IsByFault status → ⊥) → status ≢ statuses.DiskFault
 no_disk status fine is = fine (subst IsByFault (sym is) tt)
 
-pub determined : (old one other : DiskState) (words : List (List ℕ)) (bytes : List ℕ) (p q : Outcome) → IsTrue old.told → IsRunOver words bytes old one p → IsRunOver words bytes old other q
+pub determined : (old one other : DiskState) (words : List (List ℕ)) (deploy bytes : List ℕ) (p q : Outcome) → IsTrue old.told → IsRunOver words deploy bytes old one p → IsRunOver words deploy bytes old other q
     → (IsByFault p.status → ⊥) → (IsByFault q.status → ⊥) → (p.status ≡ q.status) × (p.history ≡ q.history) × (p.text ≡ q.text)
-determined old one other words bytes p q told first second fine good = by_command (command_of words) refl
+determined old one other words deploy bytes p q told first second fine good = by_command (command_of words) refl
   where
     -- what both have where the bytes of the disk stand for a state
-    base_is : (s : Parts) → found old ≡ Ok s → p.base ≡ q.base
-    base_is s is = (first.journal.opened told).from s is ∙ sym ((second.journal.opened told).from s is)
+    base_is : (unchecked : Checks words → ⊥) (s : Parts) → found old ≡ Ok s → p.base ≡ q.base
+    base_is unchecked s is = ((first.journal unchecked).opened told).from s is ∙ sym (((second.journal unchecked).opened told).from s is)
 
-    on_state : (steps : ℕ) (lines : List Signal) (s : Parts) → found old ≡ Ok s → EndsOn p.base steps lines p.history p.status → IsByOne p.base steps lines p.history p.status
+    on_state : (unchecked : Checks words → ⊥) (steps : ℕ) (lines : List Signal) (s : Parts) → found old ≡ Ok s → EndsOn p.base steps lines p.history p.status → IsByOne p.base steps lines p.history p.status
         → EndsOn q.base steps lines q.history q.status → IsByOne q.base steps lines q.history q.status → Same p.history q.history p.status q.status
-    on_state steps lines s is a b c d =
-        let same : p.base ≡ s = (first.journal.opened told).from s is in
-        let also : q.base ≡ s = (second.journal.opened told).from s is in
+    on_state unchecked steps lines s is a b c d =
+        let same : p.base ≡ s = ((first.journal unchecked).opened told).from s is in
+        let also : q.base ≡ s = ((second.journal unchecked).opened told).from s is in
         let x = subst (λ (t : Parts). IsByOne t steps lines p.history p.status) same b in
         let y = subst (λ (t : Parts). IsByOne t steps lines q.history q.status) also d in
-        let m = subst (λ (t : Parts). IsSized t p.history old p.status) same (first.journal.sized told (is ∙ ap (λ (t : Parts). Ok t) (sym same))) in
-        let n = subst (λ (t : Parts). IsSized t q.history old q.status) also (second.journal.sized told (is ∙ ap (λ (t : Parts). Ok t) (sym also))) in
+        let m = subst (λ (t : Parts). IsSized t p.history old p.status) same ((first.journal unchecked).sized told (is ∙ ap (λ (t : Parts). Ok t) (sym same))) in
+        let n = subst (λ (t : Parts). IsSized t q.history old q.status) also ((second.journal unchecked).sized told (is ∙ ap (λ (t : Parts). Ok t) (sym also))) in
         on_lines old s steps lines p.history x.rest q.history y.rest p.status q.status (x.front ∙ sym y.front) m.room n.room
-        (led old s steps lines p.history p.status (found old) s (subst (λ (t : Parts). EndsOn t steps lines p.history p.status) same a) x m is (first.journal.opened told).answer fine)
-        (led old s steps lines q.history q.status (found old) s (subst (λ (t : Parts). EndsOn t steps lines q.history q.status) also c) y n is (second.journal.opened told).answer good)
+        (led old s steps lines p.history p.status (found old) s (subst (λ (t : Parts). EndsOn t steps lines p.history p.status) same a) x m is ((first.journal unchecked).opened told).answer fine)
+        (led old s steps lines q.history q.status (found old) s (subst (λ (t : Parts). EndsOn t steps lines q.history q.status) also c) y n is ((second.journal unchecked).opened told).answer good)
 
-    on_wrong : (steps : ℕ) (lines : List Signal) (w : Wrong) → found old ≡ Err w → EndsOn p.base steps lines p.history p.status → EndsOn q.base steps lines q.history q.status
+    on_wrong : (unchecked : Checks words → ⊥) (steps : ℕ) (lines : List Signal) (w : Wrong) → found old ≡ Err w → EndsOn p.base steps lines p.history p.status → EndsOn q.base steps lines q.history q.status
         → Same p.history q.history p.status q.status
-    on_wrong steps lines w is a c = (
-      told_wrong p.base steps lines p.history p.status w a (subst (λ r. IsAnswerTo r p.status) is (first.journal.opened told).answer) fine
-          ∙ sym (told_wrong q.base steps lines q.history q.status w c (subst (λ r. IsAnswerTo r q.status) is (second.journal.opened told).answer) good),
-      (first.journal.opened told).none w is ∙ sym ((second.journal.opened told).none w is),
+    on_wrong unchecked steps lines w is a c = (
+      told_wrong p.base steps lines p.history p.status w a (subst (λ r. IsAnswerTo r p.status) is ((first.journal unchecked).opened told).answer) fine
+          ∙ sym (told_wrong q.base steps lines q.history q.status w c (subst (λ r. IsAnswerTo r q.status) is ((second.journal unchecked).opened told).answer) good),
+      ((first.journal unchecked).opened told).none w is ∙ sym (((second.journal unchecked).opened told).none w is),
     )
 
-    on_bytes : (steps : ℕ) (lines : List Signal) (r : Result Parts Wrong) → found old ≡ r → EndsOn p.base steps lines p.history p.status → IsByOne p.base steps lines p.history p.status
+    on_bytes : (unchecked : Checks words → ⊥) (steps : ℕ) (lines : List Signal) (r : Result Parts Wrong) → found old ≡ r → EndsOn p.base steps lines p.history p.status → IsByOne p.base steps lines p.history p.status
         → EndsOn q.base steps lines q.history q.status → IsByOne q.base steps lines q.history q.status → Same p.history q.history p.status q.status
-    on_bytes steps lines (Ok s) is a b c d = on_state steps lines s is a b c d
-    on_bytes steps lines (Err w) is a b c d = on_wrong steps lines w is a c
+    on_bytes unchecked steps lines (Ok s) is a b c d = on_state unchecked steps lines s is a b c d
+    on_bytes unchecked steps lines (Err w) is a b c d = on_wrong unchecked steps lines w is a c
 
-    on_given : (steps : ℕ) (given : Option (List Signal))
+    on_given : (unchecked : Checks words → ⊥) (steps : ℕ) (given : Option (List Signal))
         → MatchOption given ((p.history ≡ []) × IsRefused bytes p.status) (λ lines. EndsOn p.base steps lines p.history p.status) → IfSome given (λ lines. IsByOne p.base steps lines p.history p.status)
         → MatchOption given ((q.history ≡ []) × IsRefused bytes q.status) (λ lines. EndsOn q.base steps lines q.history q.status) → IfSome given (λ lines. IsByOne q.base steps lines q.history q.status)
         → Same p.history q.history p.status q.status
-    on_given steps None a b c d = (one_refusal bytes p.status q.status (barred bytes p.status a.1 fine) (barred bytes q.status c.1 good), a.0 ∙ sym c.0)
-    on_given steps (Some lines) a b c d = on_bytes steps lines (found old) refl a b c d
+    on_given unchecked steps None a b c d = (one_refusal bytes p.status q.status (barred bytes p.status a.1 fine) (barred bytes q.status c.1 good), a.0 ∙ sym c.0)
+    on_given unchecked steps (Some lines) a b c d = on_bytes unchecked steps lines (found old) refl a b c d
 
-    show_on : (r : Result Parts Wrong) → found old ≡ r → IsShownAt p.status → IsShownAt q.status → (p.status ≡ q.status) × (shown_text p.base p.status ≡ shown_text q.base q.status)
-    show_on (Ok s) is a b =
-        let x : p.status ≡ statuses.Ok = shown_fine p.status s a (subst (λ r. IsAnswerTo r p.status) is (first.journal.opened told).answer) fine in
-        let y : q.status ≡ statuses.Ok = shown_fine q.status s b (subst (λ r. IsAnswerTo r q.status) is (second.journal.opened told).answer) good in
-        (x ∙ sym y, ap (shown_text p.base) (x ∙ sym y) ∙ ap (λ (t : Parts). shown_text t q.status) (base_is s is))
-    show_on (Err w) is a b =
-        let x : p.status ≡ said w = shown_wrong p.status w a (subst (λ r. IsAnswerTo r p.status) is (first.journal.opened told).answer) fine in
-        let y : q.status ≡ said w = shown_wrong q.status w b (subst (λ r. IsAnswerTo r q.status) is (second.journal.opened told).answer) good in
+    show_on : (unchecked : Checks words → ⊥) (r : Result Parts Wrong) → found old ≡ r → IsShownAt p.status → IsShownAt q.status → (p.status ≡ q.status) × (shown_text p.base p.status ≡ shown_text q.base q.status)
+    show_on unchecked (Ok s) is a b =
+        let x : p.status ≡ statuses.Ok = shown_fine p.status s a (subst (λ r. IsAnswerTo r p.status) is ((first.journal unchecked).opened told).answer) fine in
+        let y : q.status ≡ statuses.Ok = shown_fine q.status s b (subst (λ r. IsAnswerTo r q.status) is ((second.journal unchecked).opened told).answer) good in
+        (x ∙ sym y, ap (shown_text p.base) (x ∙ sym y) ∙ ap (λ (t : Parts). shown_text t q.status) (base_is unchecked s is))
+    show_on unchecked (Err w) is a b =
+        let x : p.status ≡ said w = shown_wrong p.status w a (subst (λ r. IsAnswerTo r p.status) is ((first.journal unchecked).opened told).answer) fine in
+        let y : q.status ≡ said w = shown_wrong q.status w b (subst (λ r. IsAnswerTo r q.status) is ((second.journal unchecked).opened told).answer) good in
         (x ∙ sym y, ap (shown_text p.base) x ∙ said_text p.base q.base w ∙ ap (shown_text q.base) (sym y))
 
     by_asked : (c : Command) → command_of words ≡ Some c → Asked c → Equal p.history q.history p.text q.text p.status q.status
-    by_asked c is (Later play show) =
-        let asks : AsksLater words = record { command = c; asks = is; no_play = play; no_show = show } in
+    by_asked c is (Later play show check) =
+        let asks : AsksLater words = record { command = c; asks = is; no_play = play; no_show = show; no_check = check } in
         let x = first.run.later asks in
         let y = second.run.later asks in
         (x.same ∙ sym y.same, x.none ∙ sym y.none, x.alone ∙ sym y.alone)
+    by_asked c is (Check checks) =
+        let asks : command_of words ≡ Some commands.Check = is ∙ ap (λ (d : Command). Some d) checks in
+        let x = first.run.checks asks in
+        let y = second.run.checks asks in
+        let two = one_check deploy p.text q.text p.status q.status (checked_as deploy p.text p.status x.comes x.prints fine) (checked_as deploy q.text q.status y.comes y.prints good) in
+        (two.0, x.none ∙ sym y.none, two.1)
     by_asked c is (Show shows) =
-        let x = first.run.shows (is ∙ ap (λ (d : Command). Some d) shows) in
-        let y = second.run.shows (is ∙ ap (λ (d : Command). Some d) shows) in
-        let two = show_on (found old) refl x.comes y.comes in
+        let asks : command_of words ≡ Some commands.Show = is ∙ ap (λ (d : Command). Some d) shows in
+        let x = first.run.shows asks in
+        let y = second.run.shows asks in
+        let two = show_on (shows_only words asks) (found old) refl x.comes y.comes in
         (two.0, x.none ∙ sym y.none, x.prints ∙ two.1 ∙ sym y.prints)
     by_asked c is (Play steps plays) =
         let asks : command_of words ≡ Some (commands.Play 1 steps) = is ∙ ap (λ (d : Command). Some d) plays in
         let x = first.run.plays steps asks in
         let y = second.run.plays steps asks in
-        let same = on_given steps (lines_given bytes) x.comes (first.run.alone steps asks) y.comes (second.run.alone steps asks) in
+        let same = on_given (plays_only words steps asks) steps (lines_given bytes) x.comes (first.run.alone steps asks) y.comes (second.run.alone steps asks) in
         let acked : p.acked ≡ q.acked = first.run.legal.whole (no_disk p.status fine) ∙ same.1 ∙ sym (second.run.legal.whole (no_disk q.status good)) in
         (same.0, same.1, x.prints ∙ ap (λ (es : List Entry). output_text es p.status) acked ∙ ap (output_text q.acked) same.0 ∙ sym y.prints)
 

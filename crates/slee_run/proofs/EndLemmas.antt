@@ -35,6 +35,7 @@ use Rattle.slee_disk.specs.declared.reading.ReadFault.TheVariants as read_faults
 use Rattle.signal_script.specs.declared.fault.SignalFault.{SignalFault}
 use Rattle.signal_script.specs.Answers.{IsFaultOfText}
 use Rattle.slee_run.specs.Answers.{IsEarly, status_of_reading, status_of_lines}
+use Rattle.slee_run.specs.declared.status.Given.{Given}
 use Rattle.slee_run.specs.declared.status.Given.TheVariants as givens
 use Rattle.slee_run.specs.Headline.{IsRefused}
 use Rattle.slee_run.specs.declared.playing.End.{End}
@@ -270,31 +271,31 @@ too_many base steps bytes large = elim (cases_Bool (nat_le (length bytes) signal
 ]
 
 pub reading_refused : (told : Option (List ℕ)) (fault : ReadFault) → (fault ≡ read_faults.TooLarge → IfSome told (λ bytes. signals_limit < length bytes))
-    → IfSome told (λ bytes. (base : Parts) → (steps : ℕ) → ComesOn base steps bytes [] (status_of_reading fault))
+    → IfSome told (λ bytes. (base : Parts) → (steps : ℕ) → ComesOn base steps bytes [] (status_of_reading fault givens.Signals))
 reading_refused None fault large = tt
 reading_refused (Some bytes) read_faults.Failed large = λ base steps. no_source base steps bytes (lines_given bytes)
 reading_refused (Some bytes) read_faults.TooLarge large = λ base steps. too_many base steps bytes (large refl)
 reading_refused (Some bytes) read_faults.NoMemory large = λ base steps. no_memory base steps bytes (lines_given bytes)
 
-pub reading_early : (fault : ReadFault) → IsEarly (status_of_reading fault)
-reading_early read_faults.Failed = tt
-reading_early read_faults.TooLarge = tt
-reading_early read_faults.NoMemory = tt
+pub reading_early : (fault : ReadFault) (what : Given) → IsEarly (status_of_reading fault what)
+reading_early read_faults.Failed what = tt
+reading_early read_faults.TooLarge what = tt
+reading_early read_faults.NoMemory what = tt
 
-pub reading_words : (fault : ReadFault) → status_of_reading fault ≢ statuses.BadWords
-reading_words read_faults.Failed is = cc
-reading_words read_faults.TooLarge is = cc
-reading_words read_faults.NoMemory is = cc
+pub reading_words : (fault : ReadFault) (what : Given) → status_of_reading fault what ≢ statuses.BadWords
+reading_words read_faults.Failed what is = cc
+reading_words read_faults.TooLarge what is = cc
+reading_words read_faults.NoMemory what is = cc
 
-pub reading_failed : (fault : ReadFault) → status_of_reading fault ≡ statuses.ReadFault → fault ≡ read_faults.Failed
-reading_failed read_faults.Failed is = refl
-reading_failed read_faults.TooLarge is = absurd (cc)
-reading_failed read_faults.NoMemory is = absurd (cc)
+pub reading_failed : (fault : ReadFault) (what : Given) → status_of_reading fault what ≡ statuses.ReadFault → fault ≡ read_faults.Failed
+reading_failed read_faults.Failed what is = refl
+reading_failed read_faults.TooLarge what is = absurd (cc)
+reading_failed read_faults.NoMemory what is = absurd (cc)
 
-pub reading_large : (fault : ReadFault) → status_of_reading fault ≡ statuses.TooLarge givens.Signals → fault ≡ read_faults.TooLarge
-reading_large read_faults.Failed is = absurd (cc)
-reading_large read_faults.TooLarge is = refl
-reading_large read_faults.NoMemory is = absurd (cc)
+pub reading_large : (fault : ReadFault) (what : Given) → status_of_reading fault what ≡ statuses.TooLarge what → fault ≡ read_faults.TooLarge
+reading_large read_faults.Failed what is = absurd (cc)
+reading_large read_faults.TooLarge what is = refl
+reading_large read_faults.NoMemory what is = absurd (cc)
 
 pub lines_refused : (bytes : List ℕ) (fault : SignalFault) → length bytes ≤ signals_limit → IsFaultOfText bytes fault → (base : Parts) (steps : ℕ) → ComesOn base steps bytes [] (status_of_lines fault)
 lines_refused bytes (line_faults.At line kind) short bad base steps = bad_given base steps bytes line kind short bad

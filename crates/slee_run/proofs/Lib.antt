@@ -5,6 +5,7 @@ pub mod PlayLemmas
 pub mod JournalLemmas
 pub mod EndLemmas
 pub mod AnswerLemmas
+pub mod CheckLemmas
 pub mod RunLemmas
 pub mod DeterminedLemmas
 pub mod TwiceLemmas

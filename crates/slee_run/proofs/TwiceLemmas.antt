@@ -20,6 +20,7 @@ use Rattle.slee_run.specs.Stops.{IsSettled}
 use Rattle.slee_run.specs.Twice.{IsUnbroken, IsOneHistory}
 use Rattle.slee_run.specs.declared.status.Status.{Status}
 use Rattle.slee_run.specs.declared.status.Status.TheVariants as statuses
+use Rattle.slee_run.proofs.RunLemmas.{plays_only}
 
 -- blank sides stand for the initial state, and have no records
 abbrev blank : Sides
@@ -54,9 +55,9 @@ pub record IsRunOn (steps : ℕ) (base : Parts) (lines before after : List ℕ) 
   pub again : found new ≡ Ok (replay base history)
   pub records : records kept_deployment new.seen ≡ records kept_deployment old.seen ++ payloads base (choices_of history)
 
-run_on : (words : List (List ℕ)) (steps : ℕ) (base : Parts) (lines before after : List ℕ) (old new : DiskState) (status : Status) → IsTrue (is_clean old) → found old ≡ Ok base → Plays words steps → IsUnbroken status
-    → IsLegalRun words (Some lines) (Some before) (Some after) old new status → IsRunOn steps base lines before after old new status
-run_on words steps base lines before after old new status clean is plays unbroken r = record {
+run_on : (words : List (List ℕ)) (deploy : Option (List ℕ)) (steps : ℕ) (base : Parts) (lines before after : List ℕ) (old new : DiskState) (status : Status) → IsTrue (is_clean old) → found old ≡ Ok base → Plays words steps → IsUnbroken status
+    → IsLegalRun words deploy (Some lines) (Some before) (Some after) old new status → IsRunOn steps base lines before after old new status
+run_on words deploy steps base lines before after old new status clean is plays unbroken r = record {
   history = r.history;
   legal = subst (λ (s : Parts). Legal s r.history) from r.run.legal.legal;
   comes = subst (λ (t : Status). ComesOn base steps lines r.history t) whole.0 (subst (λ (s : Parts). ComesOn s steps lines r.history r.stood) from play.comes);
@@ -68,7 +69,7 @@ run_on words steps base lines before after old new status clean is plays unbroke
 }
   where
     from : r.base ≡ base
-    from = (r.journal.opened (clean_told old clean)).from base is
+    from = ((r.journal (plays_only words steps plays)).opened (clean_told old clean)).from base is
 
     whole : (r.stood ≡ status) × (after ≡ before ++ r.text)
     whole = r.output.whole unbroken.0
@@ -83,12 +84,12 @@ run_on words steps base lines before after old new status clean is plays unbroke
     acked = r.run.legal.whole up
 
     settled : IsSettled r.base r.acked old new
-    settled = (r.journal.safe clean (is ∙ ap (λ (s : Parts). Ok s) (sym from))).kept up
+    settled = ((r.journal (plays_only words steps plays)).safe clean (is ∙ ap (λ (s : Parts). Ok s) (sym from))).kept up
 
-pub one_history : (words : List (List ℕ)) (steps : ℕ) (lines more before mid after : List ℕ) (old between new : DiskState) (first second : Status) → IsAtRest blank old → Plays words steps → IsUnbroken first → IsUnbroken second
-    → IsLegalRun words (Some lines) (Some before) (Some mid) old between first → IsLegalRun words (Some more) (Some mid) (Some after) between new second
+pub one_history : (words : List (List ℕ)) (deploy : Option (List ℕ)) (steps : ℕ) (lines more before mid after : List ℕ) (old between new : DiskState) (first second : Status) → IsAtRest blank old → Plays words steps → IsUnbroken first → IsUnbroken second
+    → IsLegalRun words deploy (Some lines) (Some before) (Some mid) old between first → IsLegalRun words deploy (Some more) (Some mid) (Some after) between new second
     → IsOneHistory steps lines more before after new first second
-one_history words steps lines more before mid after old between new first second rest plays fine good r q = record {
+one_history words deploy steps lines more before mid after old between new first second rest plays fine good r q = record {
   one = x.history;
   other = y.history;
   legal = Legal-append initial x.history y.history x.legal y.legal;
@@ -105,7 +106,7 @@ one_history words steps lines more before mid after old between new first second
     b = blank_is old rest
 
     x : IsRunOn steps initial lines before mid old between first
-    x = run_on words steps initial lines before mid old between first b.clean b.is plays fine r
+    x = run_on words deploy steps initial lines before mid old between first b.clean b.is plays fine r
 
     y : IsRunOn steps (replay initial x.history) more mid after between new second
-    y = run_on words steps (replay initial x.history) more mid after between new second x.clean x.again plays good q
+    y = run_on words deploy steps (replay initial x.history) more mid after between new second x.clean x.again plays good q

@@ -10,11 +10,14 @@ use Rattle.trace_history.specs.declared.entry.Entry.{Entry}
 use Rattle.router_model.specs.State.{Parts}
 use Rattle.router_journal.specs.declared.fault.OpenFault.{OpenFault}
 use Rattle.router_journal.specs.declared.fault.OpenFault.TheVariants as faults
+use Rattle.deploy_reading.specs.declared.fault.ReadFault.{ReadFault as DeployFault}
+use Rattle.deploy_reading.specs.declared.fault.ReadFault.TheVariants as deploy_faults
 use Rattle.slee_run.specs.Text.{output_text, shown_text}
+use Rattle.slee_run.specs.Checking.{IsCheck}
 use Rattle.slee_run.specs.Headline.{IsHistory, EndsOn, ComesOn, IsByOne, IsByOneFrom, IsShownAt, IsWritten}
 use Rattle.slee_run.specs.Stops.{KeepsJournal}
 use Rattle.slee_run.specs.Status.{row_of, Time, Early, Refusing, Ending, DiskFailed, WantOfMemory, WritingFailed}
-use Rattle.slee_run.specs.declared.status.Given.TheVariants as givens
+use Rattle.slee_run.specs.declared.status.Given.{Given}
 use Rattle.slee_run.specs.declared.command.Command.{Command}
 use Rattle.slee_run.specs.declared.command.Command.TheVariants as commands
 use Rattle.slee_run.specs.declared.top.Form.{Form}
@@ -55,6 +58,13 @@ pub record IsShownBy (before after : Option (List ℕ)) (old new : DiskState) (s
   pub journal : KeepsJournal base [] [] old new stood
   pub output : IsWritten before after (shown_text base stood) stood status
 
+-- a deployment that was checked
+pub record IsCheckedBy (told before after : Option (List ℕ)) (status : Status) : Type 0 where
+  pub text : List ℕ
+  pub stood : Status
+  pub check : IsCheck told [] text stood
+  pub output : IsWritten before after text stood status
+
 -- the status of a fault of opening
 abbrev pub status_of : OpenFault → Status
 status_of faults.DiskFault = statuses.DiskFault
@@ -63,11 +73,16 @@ status_of (faults.OtherDeployment kept_len place) = statuses.OtherDeployment kep
 status_of (faults.Full size adding) = statuses.Full size adding
 status_of faults.NoMemory = statuses.NoMemory
 
--- the status of signals that couldn't be read whole
-abbrev pub status_of_reading : ReadFault → Status
-status_of_reading read_faults.Failed = statuses.ReadFault
-status_of_reading read_faults.TooLarge = statuses.TooLarge givens.Signals
-status_of_reading read_faults.NoMemory = statuses.NoMemory
+-- the status of a source that couldn't be read whole
+abbrev pub status_of_reading : ReadFault → Given → Status
+status_of_reading read_faults.Failed what = statuses.ReadFault
+status_of_reading read_faults.TooLarge what = statuses.TooLarge what
+status_of_reading read_faults.NoMemory what = statuses.NoMemory
+
+-- the status of bytes that are no deployment
+abbrev pub status_of_fault : DeployFault → Status
+status_of_fault deploy_faults.NoMemory = statuses.NoMemory
+status_of_fault fault = statuses.BadDeploy fault
 
 -- the status of bytes that aren't lines
 abbrev pub status_of_lines : SignalFault → Status
@@ -94,6 +109,7 @@ pub record IsShownAs (state : Parts) (before after : Option (List ℕ)) (status 
 
 -- what a command asks of this program
 abbrev pub IsFormOf : Command → Form → Type 0
+IsFormOf command forms.Check = command ≡ commands.Check
 IsFormOf command (forms.Play steps) = command ≡ commands.Play 1 steps
 IsFormOf command forms.Show = command ≡ commands.Show
-IsFormOf command forms.Later = ((steps : ℕ) → command ≢ commands.Play 1 steps) × (command ≢ commands.Show)
+IsFormOf command forms.Later = ((steps : ℕ) → command ≢ commands.Play 1 steps) × (command ≢ commands.Show) × (command ≢ commands.Check)

@@ -21,8 +21,9 @@ use Rattle.router_rules.specs.History.{Legal, replay, solo}
 use Rattle.router_rules.specs.Payload.{payload}
 use Rattle.router_rules.specs.Taking.{is_routed}
 use Rattle.slee_run.specs.Words.{command_of}
-use Rattle.slee_run.specs.Status.{row_of, status_line}
+use Rattle.slee_run.specs.Status.{row_of, status_line, Holds}
 use Rattle.slee_run.specs.Text.{output_text, shown_text}
+use Rattle.slee_run.specs.Checking.{IsCheck, IsAnswerFor}
 use Rattle.slee_run.specs.Opening.{journal_limit, found, IsGood}
 use Rattle.slee_run.specs.Stops.{KeepsJournal}
 use Rattle.slee_run.specs.declared.command.Command.{Command}
@@ -43,12 +44,17 @@ Plays words steps = command_of words ≡ Some (commands.Play 1 steps)
 abbrev pub Shows : List (List ℕ) → Type 0
 Shows words = command_of words ≡ Some commands.Show
 
+-- the words ask to check the deployment
+abbrev pub Checks : List (List ℕ) → Type 0
+Checks words = command_of words ≡ Some commands.Check
+
 -- the words ask what isn't built yet
 pub record AsksLater (words : List (List ℕ)) : Type 0 where
   pub command : Command
   pub asks : command_of words ≡ Some command
   pub no_play : (steps : ℕ) → command ≢ commands.Play 1 steps
   pub no_show : command ≢ commands.Show
+  pub no_check : command ≢ commands.Check
 
 -- the signals of lines, if the router takes each
 abbrev pub inputs_of_lines : Result (List Signal) SignalFault → Option (List Signal)
@@ -96,6 +102,7 @@ EndsOn base steps lines history (statuses.OtherDeployment kept_len place) = hist
 EndsOn base steps lines history (statuses.Full size adding) = IsFullOn journal_limit base steps lines history size adding
 EndsOn base steps lines history (statuses.StepsSpent entries) = (entries ≡ length history) × IsSpentOn base steps lines history
 EndsOn base steps lines history statuses.NoMemory = IsPrefix (inputs_of history) lines
+EndsOn base steps lines history (statuses.BadDeploy fault) = ⊥
 EndsOn base steps lines history (statuses.BadSignals line kind) = ⊥
 EndsOn base steps lines history (statuses.TooLarge what) = ⊥
 EndsOn base steps lines history statuses.NotBuilt = ⊥
@@ -118,6 +125,7 @@ IsRefused bytes (statuses.OtherDeployment kept_len place) = ⊥
 IsRefused bytes (statuses.Full size adding) = ⊥
 IsRefused bytes (statuses.StepsSpent entries) = ⊥
 IsRefused bytes statuses.NoMemory = Unit {0}
+IsRefused bytes (statuses.BadDeploy fault) = ⊥
 IsRefused bytes (statuses.BadSignals line kind) = (length bytes ≤ signals_limit) × (signals_of bytes ≡ Err (line_faults.At line kind))
 IsRefused bytes (statuses.TooLarge what) = (what ≡ givens.Signals) × (signals_limit < length bytes)
 IsRefused bytes statuses.NotBuilt = (length bytes ≤ signals_limit) × HasUntakenLine bytes
@@ -126,11 +134,6 @@ IsRefused bytes statuses.NotBuilt = (length bytes ≤ signals_limit) × HasUntak
 abbrev pub ComesOn : Parts → ℕ → List ℕ → List Entry → Status → Type 0
 ComesOn base steps bytes history status =
     MatchOption (lines_given bytes) ((history ≡ []) × IsRefused bytes status) (λ lines. EndsOn base steps lines history status)
-
--- a mark of the table
-abbrev pub Holds : Bool → Type 0
-Holds true = Unit {0}
-Holds false = ⊥
 
 -- when showing comes to a status
 abbrev pub IsShownAt : Status → Type 0
@@ -179,13 +182,15 @@ pub record IsShow (base : Parts) (history : List Entry) (text : List ℕ) (statu
   pub none : history ≡ []
   pub prints : text ≡ shown_text base status
 
--- What is said of a run with these words, where the source of signals told that these bytes were left, before its text is written.
-pub record IsRun (base : Parts) (words : List (List ℕ)) (told : Option (List ℕ)) (history acked : List Entry) (text : List ℕ) (status : Status) : Type 0 where
+-- What is said of a run with these words, where the sources of the deployment and of the signals told that these bytes were left,
+-- before its text is written.
+pub record IsRun (base : Parts) (words : List (List ℕ)) (deploy told : Option (List ℕ)) (history acked : List Entry) (text : List ℕ) (status : Status) : Type 0 where
   pub legal : IsHistory base history acked status
   pub bad : command_of words ≡ None → IsRefusal history text statuses.BadWords status
   pub later : AsksLater words → IsRefusal history text statuses.NotBuilt status
   pub plays : (steps : ℕ) → Plays words steps → IsPlay base steps told history acked text status
   pub shows : Shows words → IsShow base history text status
+  pub checks : Checks words → IsCheck deploy history text status
   -- of one worker besides
   pub alone : (steps : ℕ) → Plays words steps → IsByOneFrom base steps told history status
   pub unwritten : status ≢ statuses.WriteFault
@@ -197,14 +202,15 @@ pub record IsWritten (before after : Option (List ℕ)) (text : List ℕ) (stood
 
 -- One history is legal, follows the signals that were read, and its acknowledged part is what was written and what the
 -- journal has; the status has its cause. `stood` is the status before writing failed, if it did.
-pub record IsLegalRun (words : List (List ℕ)) (told before after : Option (List ℕ)) (old new : DiskState) (status : Status) : Type 0 where
+pub record IsLegalRun (words : List (List ℕ)) (deploy told before after : Option (List ℕ)) (old new : DiskState) (status : Status) : Type 0 where
   pub base : Parts
   pub history : List Entry
   pub acked : List Entry
   pub text : List ℕ
   pub stood : Status
-  pub run : IsRun base words told history acked text stood
-  pub journal : KeepsJournal base history acked old new stood
+  pub run : IsRun base words deploy told history acked text stood
+  -- a check doesn't open the journal
+  pub journal : (Checks words → ⊥) → KeepsJournal base history acked old new stood
   pub output : IsWritten before after text stood status
 
 -- With words that play, lines of the grammar within the limit, and bytes on the disk that stand for a state, a run without
@@ -218,6 +224,10 @@ IsComplete words told disk Faulted status =
 abbrev pub IsShown : List (List ℕ) → DiskState → Type 0 → Status → Type 0
 IsShown words disk Faulted status =
     Shows words → IsTrue disk.told → IsOk (found disk) → (Faulted → ⊥) → (status ≡ statuses.Ok) ⊎ (status ≡ statuses.NoMemory)
+
+-- With words that check, a check without a fault gives the one answer to the bytes, or memory ran out.
+abbrev pub IsWholeCheck : List (List ℕ) → Option (List ℕ) → Type 0 → Status → Type 0
+IsWholeCheck words deploy Faulted status = Checks words → IfSome deploy (λ bytes. (Faulted → ⊥) → IsAnswerFor bytes status)
 
 -- a status that doesn't follow from the words, the lines and the journal
 abbrev pub IsByFault : Status → Type 0

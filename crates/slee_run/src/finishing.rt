@@ -19,7 +19,8 @@ pub fn refuse<K: Sink>(out: &mut K, stood: Status) -> Status
     ensures output { IsWritten (K.contents out.old) (K.contents out.new) (status_line stood) stood result }
     ensures write { stood ≢ Status.WriteFault → result ≡ Status.WriteFault → Rose (K.faults out.old) (K.faults out.new) }
 {
-    status_written(write_status(out, stood), stood)
+    let written = write_status(out, &stood);
+    status_written(written, stood)
 }
 
 /// Writes the acknowledged entries of a container and the status.
@@ -35,11 +36,12 @@ pub fn finish<'d, K: Sink, D: Disk>(
 {
     let acked = container.acked() as usize;
     let entries = container.history().as_slice();
-    status_written(write_text(alloc, out, &entries[..acked], stood), stood)
+    let written = write_text(alloc, out, &entries[..acked], &stood);
+    status_written(written, stood)
 }
 
 /// The status that stood, unless writing it failed.
-fn status_written(written: Result<(), Failed>, stood: Status) -> Status
+pub fn status_written(written: Result<(), Failed>, stood: Status) -> Status
     ensures ok { OnOk written (result ≡ stood) }
     ensures err { OnErr written (result ≡ Status.WriteFault) }
 {

@@ -20,10 +20,10 @@ pub fn spelled_is_command()
     ensures { (command : Command) → is_in_range command ≡ true → command_of (spelled command) ≡ Some command }
 {}
 
-/// The words, the bytes of the source and the journal determine the status, the history and the text, but for faults of the
+/// The words, the bytes of the sources and the journal determine the status, the history and the text, but for faults of the
 /// outside and want of memory. Two runs found the one disk, and left the others.
 pub fn run_is_determined<D: Disk>(found: &D, one: &D, other: &D)
-    ensures { (words : List (List ℕ)) (bytes : List ℕ) (p q : Outcome) → IsTrue (D.disk found.now).told
-        → IsRunOver words bytes (D.disk found.now) (D.disk one.now) p → IsRunOver words bytes (D.disk found.now) (D.disk other.now) q
+    ensures { (words : List (List ℕ)) (deploy bytes : List ℕ) (p q : Outcome) → IsTrue (D.disk found.now).told
+        → IsRunOver words deploy bytes (D.disk found.now) (D.disk one.now) p → IsRunOver words deploy bytes (D.disk found.now) (D.disk other.now) q
         → (IsByFault p.status → ⊥) → (IsByFault q.status → ⊥) → (p.status ≡ q.status) × (p.history ≡ q.history) × (p.text ≡ q.text) }
 {}

@@ -1,6 +1,7 @@
 //! The top call: it reads what the words ask for, plays it over the journal, and writes the trace and the status.
 #![tactic(auto)]
 
+mod checking;
 mod command;
 mod finishing;
 mod laws;

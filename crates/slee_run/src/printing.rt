@@ -6,12 +6,16 @@ ghost use Rattle.slee_disk.specs.Sides.{side_word};
 ghost use Rattle.commit_journal.specs.Words.{kind_word};
 ghost use Rattle.signal_script.specs.Words.{bad_word};
 ghost use Rattle.slee_run.specs.Status.{status_line, given_word, pair_text, place_text};
+ghost use Rattle.deploy_text.specs.Texts.{counts_text};
 ghost use Rattle.slee_run.specs.Text.{output_text};
 
 use crate::{Given, Status};
 use commit_journal::JournalBad;
+use deploy_reading::ReadFault;
+use deploy_text::{Counts, write_counts, write_fault};
 use itoa::Buffer;
 use signal_script::SignalBad;
+use sink_text::write_number;
 use slee_disk::{Failed, Side, Sink, write_whole};
 use slee_value::{NoMemory, Text};
 use std::alloc::Global;
@@ -25,12 +29,20 @@ pub fn write_text<K: Sink>(
     alloc: Global,
     out: &mut K,
     history: &[Entry],
-    status: Status,
+    status: &Status,
 ) -> Result<(), Failed>
-    ensures { Writes K.contents K.faults out.old out.new (output_text history.now status) result }
+    ensures { Writes K.contents K.faults out.old out.new (output_text history.now status.now) result }
 {
     write_trace(alloc, out, history)?;
     write_status(out, status)
+}
+
+/// Writes the counts of a deployment and that all is done.
+pub fn write_checked<K: Sink>(out: &mut K, counts: Counts) -> Result<(), Failed>
+    ensures { Writes K.contents K.faults out.old out.new (counts_text counts ++ status_line Status.Ok) result }
+{
+    write_counts(out, counts)?;
+    write_status(out, &Status::Ok)
 }
 
 /// Writes the entries, many at a time where memory is found for their text.
@@ -96,13 +108,6 @@ fn write_entry<K: Sink>(out: &mut K, number: u64, lines: &[Text]) -> Result<(), 
     write_lines(out, lines)
 }
 
-fn write_number<K: Sink>(out: &mut K, number: u64) -> Result<(), Failed>
-    ensures { Writes K.contents K.faults out.old out.new (decimal number) result }
-{
-    let mut buffer = Buffer::new();
-    write_whole(out, buffer.format(number).as_bytes())
-}
-
 fn write_lines<K: Sink>(out: &mut K, lines: &[Text]) -> Result<(), Failed>
     ensures { Writes K.contents K.faults out.old out.new (line_texts lines.now) result }
 {
@@ -120,23 +125,24 @@ fn write_line<K: Sink>(out: &mut K, line: &Text) -> Result<(), Failed>
 }
 
 /// Writes the last line.
-pub fn write_status<K: Sink>(out: &mut K, status: Status) -> Result<(), Failed>
-    ensures { Writes K.contents K.faults out.old out.new (status_line status) result }
+pub fn write_status<K: Sink>(out: &mut K, status: &Status) -> Result<(), Failed>
+    ensures { Writes K.contents K.faults out.old out.new (status_line status.now) result }
 {
     match status {
         Status::Ok => write_whole(out, b"status 0 ok\n"),
         Status::BadWords => write_whole(out, b"status 2 bad-words\n"),
         Status::ReadFault => write_whole(out, b"status 3 read-fault\n"),
-        Status::BadSignals { line, kind } => write_bad_signals(out, line, kind),
+        Status::BadDeploy(fault) => write_bad_deploy(out, fault),
+        Status::BadSignals { line, kind } => write_bad_signals(out, *line, *kind),
         Status::WriteFault => write_whole(out, b""),
         Status::DiskFault => write_whole(out, b"status 7 disk-fault\n"),
-        Status::BadJournal { side, at, kind } => write_bad_journal(out, side, at, kind),
+        Status::BadJournal { side, at, kind } => write_bad_journal(out, *side, *at, *kind),
         Status::OtherDeployment {
             kept_len,
             first_difference,
-        } => write_other_deployment(out, kept_len, first_difference),
-        Status::Full { length, adding } => write_full(out, length, adding),
-        Status::StepsSpent { entries } => write_steps_spent(out, entries),
+        } => write_other_deployment(out, *kept_len, *first_difference),
+        Status::Full { length, adding } => write_full(out, *length, *adding),
+        Status::StepsSpent { entries } => write_steps_spent(out, *entries),
         Status::NoMemory => write_whole(out, b"status 12 no-memory\n"),
         Status::TooLarge {
             what: Given::Deploy,
@@ -146,6 +152,14 @@ pub fn write_status<K: Sink>(out: &mut K, status: Status) -> Result<(), Failed>
         } => { write_whole(out, b"status 13 too-large signals\n") }
         Status::NotBuilt => write_whole(out, b"status 14 not-built\n"),
     }
+}
+
+fn write_bad_deploy<K: Sink>(out: &mut K, fault: &ReadFault) -> Result<(), Failed>
+    ensures { Writes K.contents K.faults out.old out.new (status_line (Status.BadDeploy fault.now)) result }
+{
+    write_whole(out, b"status 4 bad-deploy ")?;
+    write_fault(out, fault)?;
+    write_whole(out, b"\n")
 }
 
 fn write_bad_signals<K: Sink>(out: &mut K, line: u64, kind: SignalBad) -> Result<(), Failed>

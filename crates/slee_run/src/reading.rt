@@ -32,19 +32,17 @@ pub fn read_lines<T: Source>(alloc: Global, signals: &mut T) -> Result<Inputs, S
 {
     match read_whole(alloc, signals, SIGNALS_LIMIT) {
         Ok(bytes) => lines_of(alloc, bytes.as_slice()),
-        Err(fault) => Err(status_of_reading(fault)),
+        Err(fault) => Err(status_of_reading(fault, Given::Signals)),
     }
 }
 
-/// The status of signals that couldn't be read whole.
-fn status_of_reading(fault: ReadFault) -> Status
-    ensures { result ≡ status_of_reading fault }
+/// The status of a source that couldn't be read whole.
+pub fn status_of_reading(fault: ReadFault, what: Given) -> Status
+    ensures { result ≡ status_of_reading fault what }
 {
     match fault {
         ReadFault::Failed => Status::ReadFault,
-        ReadFault::TooLarge => Status::TooLarge {
-            what: Given::Signals,
-        },
+        ReadFault::TooLarge => Status::TooLarge { what },
         ReadFault::NoMemory => Status::NoMemory,
     }
 }

@@ -1,4 +1,6 @@
+//! What a run came to, and the number that the process ends with.
 use commit_journal::JournalBad;
+use deploy_reading::ReadFault;
 use signal_script::SignalBad;
 use slee_disk::Side;
 
@@ -10,14 +12,16 @@ pub enum Given {
 }
 
 /// What a run came to.
-#[derive(Clone, Copy, Debug, PartialEq, Eq)]
+#[derive(Debug, Drop)]
 pub enum Status {
     /// All is done.
     Ok,
     /// The words are of no form, or a number is out of range.
     BadWords,
-    /// The signals couldn't be read (later the deployment too).
+    /// The deployment or the signals couldn't be read.
     ReadFault,
+    /// The bytes of the deployment are none; this is the first thing that is wrong with them, and never want of memory.
+    BadDeploy(ReadFault),
     /// This signal line, lines being counted from 1, is the first that is none of the grammar.
     BadSignals {
         line: u64,
@@ -62,13 +66,14 @@ impl Status {
     ghost use Rattle.slee_run.specs.Status.{code_of};
 
     /// The number that the process ends with.
-    pub fn code(self) -> u8
-        ensures { result ≡ code_of self }
+    pub fn code(&self) -> u8
+        ensures { result ≡ code_of self.now }
     {
         match self {
             Status::Ok => 0,
             Status::BadWords => 2,
             Status::ReadFault => 3,
+            Status::BadDeploy(_) => 4,
             Status::BadSignals { .. } => 5,
             Status::WriteFault => 6,
             Status::DiskFault => 7,

@@ -1,5 +1,5 @@
 //! Two runs over one disk, one after the other: what the promises of the top call say of both.
-ghost use Rattle.std.specs.Prelude.{ℕ, Some, IfOk};
+ghost use Rattle.std.specs.Prelude.{ℕ, [], Some, IfOk};
 ghost use Rattle.slee_disk.specs.MemoryDisk.{state_of};
 ghost use Rattle.slee_run.specs.Headline.{IsLegalRun, Plays};
 ghost use Rattle.slee_run.specs.Words.{texts};
@@ -50,7 +50,7 @@ fn play(
     out: &mut MemorySink,
     disk: MemoryDisk,
 ) -> (Status, MemoryDisk)
-    ensures { IsLegalRun (texts words.now) (Some lines) (Some out.old.held) (Some out.new.held) (state_of disk) (state_of result.1) result.0 }
+    ensures { IsLegalRun (texts words.now) (Some []) (Some lines) (Some out.old.held) (Some out.new.held) (state_of disk) (state_of result.1) result.0 }
 {
     let mut deploy = MemorySource::new(Blob::new(alloc), PIECE, Blob::new(alloc));
     let mut signals = MemorySource::new(lines, PIECE, Blob::new(alloc));

@@ -44,7 +44,20 @@ pub fn run(
     out: MemorySink,
     disk: MemoryDisk,
 ) -> Ran {
-    let mut deploy = MemorySource::new(Blob::new(alloc), 1, Blob::new(alloc));
+    let deploy = MemorySource::new(Blob::new(alloc), 1, Blob::new(alloc));
+    run_on(alloc, words, deploy, signals, out, disk)
+}
+
+/// Runs words on a deployment.
+pub fn run_on(
+    alloc: Global,
+    words: &[&str],
+    deploy: MemorySource,
+    signals: MemorySource,
+    out: MemorySink,
+    disk: MemoryDisk,
+) -> Ran {
+    let mut deploy = deploy;
     let mut signals = signals;
     let mut out = out;
     let (status, disk) = run_one(alloc, words, &mut deploy, &mut signals, &mut out, disk);

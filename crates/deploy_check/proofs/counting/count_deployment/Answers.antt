@@ -1,0 +1,15 @@
+use Rattle.std.proofs.Common.{◌≡◌, ◌∙◌, Result, Ok, sym, ap}
+use Rattle.deploy_reading.specs.declared.fault.ReadFault.{ReadFault}
+use Rattle.deploy_reading.specs.Reading.{parts_of}
+use Rattle.deploy_text.specs.declared.counts.Counts.{Counts}
+use Rattle.deploy_check.specs.Counting.{counts_in, counts_read}
+use Rattle.deploy_check.proofs.Telling.{tells_counts}
+use Rattle.deploy_check.proofs.counting.count_deployment.Goals as goal
+
+pub returns-in-Ok : goal.returns-in-Ok
+unfolding counts_in
+returns-in-Ok c = ap counts_read c.in-Ok.ensures ∙ ap (λ (counts : Counts). let r : Result Counts ReadFault = Ok counts in r) (sym c.counts_of.ensures)
+
+pub returns-in-Err : goal.returns-in-Err
+unfolding counts_in
+returns-in-Err c = tells_counts (parts_of c.args.bytes.now) c.in-Err.fault c.in-Err.ensures

@@ -1,0 +1,6 @@
+//! Bytes understood as a deployment, of which its counts are told.
+#![tactic(auto)]
+
+mod counting;
+
+pub use counting::count_deployment;
