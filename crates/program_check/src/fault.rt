@@ -3,7 +3,6 @@ ghost use Rattle.std.specs.Prelude.{◌≡◌};
 
 use script_types::{CodePlace, Misuse};
 use slee_value::NoMemory;
-use std::alloc::{AllocError, AllocFailed};
 
 /// The first fault of all scripts, with the script in which it stands, or want of memory.
 #[derive(Debug, Drop)]
@@ -18,26 +17,6 @@ impl From<NoMemory> for CodeFault {
     ghost from_gives = { λ _ e. e ≡ answers.NoMemory };
 
     fn from(_: NoMemory) -> Self {
-        CodeFault::NoMemory
-    }
-}
-
-impl From<AllocError> for CodeFault {
-    ghost use Rattle.program_check.specs.declared.fault.CodeFault.TheVariants as answers;
-
-    ghost from_gives = { λ _ e. e ≡ answers.NoMemory };
-
-    fn from(_: AllocError) -> Self {
-        CodeFault::NoMemory
-    }
-}
-
-impl<T: Drop> From<AllocFailed<T>> for CodeFault {
-    ghost use Rattle.program_check.specs.declared.fault.CodeFault.TheVariants as answers;
-
-    ghost from_gives = { λ _ e. e ≡ answers.NoMemory };
-
-    fn from(_: AllocFailed<T>) -> Self {
         CodeFault::NoMemory
     }
 }
