@@ -1,4 +1,4 @@
-// Sides before they are written.
+//! Sides before they are written: blank ones, and ones whose first gate is shut.
 ghost use Rattle.std.specs.Prelude.{◌≡◌, ◌<◌, ◌≤◌, ◌+◌, ◌^◌, [], IsTrue, OnOk, IsErr};
 ghost use Rattle.slee_disk.specs.Causes.{Rose};
 ghost use Rattle.slee_disk.specs.Sides.{on, other};

@@ -1,3 +1,4 @@
+//! Why a journal isn't opened, begun or written.
 ghost use Rattle.std.specs.Prelude.{◌≡◌};
 ghost use Rattle.commit_journal.specs.Words.{kind_word};
 

@@ -1,4 +1,4 @@
-// A gate: what stands behind it counts only while it is open.
+//! Gates: what stands behind one counts only while it is open.
 ghost use Rattle.std.specs.Prelude.{◌≡◌, ◌<◌, ◌≤◌, ◌+◌, ◌^◌, length, take, IsTrue, OnOk, IsErr};
 ghost use Rattle.slee_disk.specs.Causes.{Rose};
 ghost use Rattle.slee_disk.specs.Sides.{on, other};

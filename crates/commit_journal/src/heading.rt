@@ -1,4 +1,4 @@
-// The header of a side that is written anew.
+//! The header of a side that is written anew.
 ghost use Rattle.std.specs.Prelude.{◌≡◌, ◌<◌, ◌≤◌, ◌+◌, ◌^◌, [], ◌∷◌, ◌++◌, length, IfOk, IfErr, OnOk, IsErrOf};
 ghost use Rattle.commit_journal.specs.Spelling.{FitsText, header, size};
 ghost use Rattle.commit_journal.specs.Journal.{IsTooLarge};

@@ -1,3 +1,4 @@
+//! The journal. Contracts see its stage, what it keeps, its batch and its disk.
 ghost use Rattle.std.specs.Prelude.{◌≡◌, ◌≢◌, ◌⊎◌, ◌<◌, ◌≤◌, ◌+◌, ◌^◌, [], ◌∷◌, ◌++◌, length, take, IsTrue, OnOk, OnErr, IfOk, IfErr, IsErr, IsErrOf, IsOk};
 
 use crate::batch::Batch;

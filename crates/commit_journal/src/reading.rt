@@ -1,4 +1,4 @@
-// What the bytes of a side stand for.
+//! What the bytes of a side stand for.
 ghost use Rattle.std.specs.Prelude.{◌≡◌, ◌≤◌, ◌<◌, ◌+◌, ◌-◌, ◌^◌, length, map, Some, Ok, IfSome, IfOk, IfErr, IsErrOf};
 ghost use Rattle.slee_disk.specs.Sides.{other};
 ghost use Rattle.commit_journal.specs.Reading.{magic_at, header_at, payload_at, payloads_of, front, next, by_generations, first_difference};

@@ -1,3 +1,5 @@
+//! Records that were found on a side.
+
 use crate::Stage;
 use slee_disk::Side;
 use slee_value::Blob;

@@ -1,4 +1,4 @@
-// What two sides stand for.
+//! What the two sides stand for together.
 ghost use Rattle.std.specs.Prelude.{◌≡◌, ◌<◌, ◌+◌, ◌^◌, [], length, map, Some, Ok, IfOk, IfErr, IsErrOf, List, ℕ};
 ghost use Rattle.commit_journal.specs.Spelling.{FitsText, records_size};
 ghost use Rattle.commit_journal.specs.Reading.{payloads_of, with_records, first_gate, recovered};

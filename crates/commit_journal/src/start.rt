@@ -1,4 +1,4 @@
-// Reading the sides of a disk.
+//! The sides of a disk read at the start.
 ghost use Rattle.std.specs.Prelude.{◌≡◌, ◌<◌, ◌+◌, ◌^◌, [], length, map, IsTrue, IfOk, IfErr, IsErrOf, List, ℕ};
 ghost use Rattle.slee_disk.specs.Sides.{on};
 ghost use Rattle.slee_disk.specs.Disk.{Looks};

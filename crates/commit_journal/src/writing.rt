@@ -1,4 +1,4 @@
-// A batch on its way to the disk.
+//! A batch on its way to the disk.
 ghost use Rattle.std.specs.Prelude.{◌≡◌, ◌≢◌, ◌<◌, ◌≤◌, ◌+◌, ◌^◌, [], take, IsTrue, OnOk, IsErr};
 ghost use Rattle.slee_disk.specs.Causes.{Rose};
 ghost use Rattle.slee_disk.specs.Sides.{on, other, AtSide};

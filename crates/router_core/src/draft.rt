@@ -1,3 +1,4 @@
+//! A step while it is planned. Contracts see its changes and its lines.
 ghost use Rattle.std.specs.Prelude.{◌≡◌, ◌++◌, ◌∷◌, [], OnOk, IfOk};
 
 use router_model::Change;

@@ -1,3 +1,4 @@
+//! A step that is planned. Contracts see its choice, changes, lines and payload.
 ghost use Rattle.std.specs.Prelude.{◌≡◌, ◌<◌, ◌^◌, length};
 
 use router_model::Change;

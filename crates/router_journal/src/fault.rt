@@ -1,3 +1,5 @@
+//! Why no step is made, why the router stops, and why it isn't opened.
+
 use commit_journal::JournalBad;
 use slee_disk::Side;
 

@@ -1,3 +1,5 @@
+//! The kinds of choices.
+
 /// Which choice is next on an activity.
 #[derive(Debug, Clone, Copy, PartialEq, Eq)]
 pub enum Kindred {

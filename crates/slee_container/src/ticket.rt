@@ -1,3 +1,5 @@
+//! Claims on deliveries.
+
 use router_model::Event;
 use slee_value::{ActivityId, EntityId};
 

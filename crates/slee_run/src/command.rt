@@ -1,3 +1,5 @@
+//! The commands of the program.
+
 /// What the words of the command line ask.
 #[derive(Clone, Copy, Debug, PartialEq, Eq)]
 pub enum Command {
