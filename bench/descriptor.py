@@ -3,9 +3,9 @@
 
     python3 bench/descriptor.py
 
-The time of 10,000 blocks is to be at most 2.3 times that of 5,000. The seconds are those of building alone: each is the median
-of five runs, less the median of five that read the same parts and build nothing. Build the program first:
-cd crates/descriptor_rows && rt run < stdin
+The time of 10,000 blocks is to be at most 2.3 times that of 5,000. The seconds are those of building alone: the median of fifteen
+runs that build the same row ten times, each less the run behind it that reads the row ten times and builds nothing. Build the
+program first: cd crates/descriptor_rows && rt run < stdin
 """
 import json
 import os
@@ -18,7 +18,7 @@ from deployment_rows import CRATE, deployment, item, on
 
 PROGRAM = os.path.join(CRATE, "out", "descriptor_rows")
 SMALL, LARGE, AT_MOST = 5_000, 10_000, 2.3
-RUNS = 5
+TIMES, RUNS = 10, 15
 
 
 def blocks(n):
@@ -38,15 +38,11 @@ def seconds(row, wanted, *words):
     return ended.ru_utime + ended.ru_stime - begun.ru_utime - begun.ru_stime
 
 
-def median(row, wanted, *words):
-    return statistics.median(seconds(row, wanted, *words) for _ in range(RUNS))
-
-
 def measured(n):
     """The seconds to read the parts of n blocks, and those to build them."""
-    row = blocks(n)
-    read = median(row, "", "read")
-    return read, median(row, f"ok 1 0 0 {n} {n}\n") - read
+    rows, wanted = (blocks(n) + "\n") * TIMES, f"ok 1 0 0 {n} {n}\n" * TIMES
+    both = [(seconds(rows, wanted), seconds(rows, "", "read")) for _ in range(RUNS)]
+    return statistics.median(read for _, read in both) / TIMES, statistics.median(whole - read for whole, read in both) / TIMES
 
 
 def main():

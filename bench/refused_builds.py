@@ -4,8 +4,9 @@
     python3 bench/refused_builds.py
 
 The program descriptor_rows reads some rows, builds them and asks the deployments. With one allocation refused it has to end with
-status 12 behind a front of the lines that it prints with ample memory, or with status 0 and all of them. At its end no more
-memory may be held than with ample memory. Build the program first: cd crates/descriptor_rows && rt run < stdin
+status 12 behind a front of the lines that it prints with ample memory, with status 0 and all of them, or, where no memory was found
+to read the input, with status 1 and no line. At its end no more memory may be held than with ample memory. Build the program first:
+cd crates/descriptor_rows && rt run < stdin
 A C compiler is wanted for the small library that refuses (see bench/fail_alloc.py).
 """
 import os
@@ -18,7 +19,7 @@ import deployment_rows as rows
 from fail_alloc import library
 
 PROGRAM = os.path.join(rows.CRATE, "out", "descriptor_rows")
-NO_MEMORY = 12
+UNREAD, NO_MEMORY = 1, 12
 
 
 def given():
@@ -44,6 +45,8 @@ def run(text, refuses, folder, at=0):
 def fault_of(status, text, whole):
     if status == 0:
         return "ok" if text == whole else "status 0 and another text"
+    if status == UNREAD:
+        return "ok" if text == "" else "the input is read and told as unread"
     if status != NO_MEMORY:
         return "another status"
     return "ok" if whole.startswith(text) else "the text is no front"
