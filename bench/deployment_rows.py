@@ -1,10 +1,24 @@
 #!/usr/bin/env python3
-"""Deployments and the first fault of each, worked out by hand from docs/FORMATS.md, and a check that the definitions of
-deployment_parts say the same. Without the tool that evaluates definitions (deployments.py says where it is looked for) nothing
-is run, and it says so. With no fault the answer is None."""
+"""Deployments and the first fault of each, worked out by hand from docs/FORMATS.md. With no fault the answer is None.
+
+    python3 bench/deployment_rows.py             do the definitions of deployment_parts say the same? Without the tool that
+                                                 evaluates definitions (deployments.py says where it is looked for) nothing is run
+    python3 bench/deployment_rows.py --program   does the built program descriptor_rows? (cd crates/descriptor_rows && rt run < stdin)
+    python3 bench/deployment_rows.py --write     writes what the gate runs that program on, and what it has to print
+
+The rows are: deployments one by one; one good deployment with each fault that parts can have, in the order of the walk, alone and
+together with the next one behind it (with every later one where the gate doesn't run); lists of thousands of items; and questions
+by key. The gate runs all but the pairs that don't stand side by side and most of the long lists.
+"""
+import copy
+import json
+import os
+import subprocess
 import sys
 
 import deployments
+
+CRATE = os.path.join(os.path.dirname(os.path.abspath(__file__)), "..", "crates", "descriptor_rows")
 
 
 def item(key, **members):
@@ -149,6 +163,160 @@ ROWS = [
      "/blocks/1/name range"),
 ]
 
+# A deployment without fault, in which each of the following faults can be made, whatever other ones are there.
+GOOD = deployment(
+    events=[item("ring", fields={"addr": "text", "n": "int"}), item("answer")],
+    profiles=[item("person", attributes={"a": "int", "z": "text"}, unique=["a"]), item("line")],
+    tables={"lines": "line", "people": "person"},
+    blocks=[item("b", attributes={"p": "int", "q": "text"}, aliases={"p": "x"},
+                 relations={"leg": {"block": "c"}, "note": {"block": "b", "priority": -128}},
+                 events=[on("ring", initial=["activity", "custom"], custom={"rule": "whole", "field": "addr"}), on("timer"), on("answer")],
+                 methods={"m": {"params": [{"name": "x", "type": "int"}, {"name": "y", "type": "text"}], "do": ""}}),
+            item("c", attributes={"p": "int"}, aliases={"p": "x"}, events=[on("activity-end")]),
+            item("d", attributes={"a": "int"}, aliases={"a": "x"})],
+    services=[item("s", root="b", priority=-128), item("t", root="c", priority=127)])
+
+
+def put(*path, to):
+    """Puts a value to a place of a deployment."""
+    def edit(d):
+        *way, last = path
+        for step in way:
+            d = d[step]
+        d[last] = to
+    return edit
+
+
+def add(*path, to, at=None):
+    """Adds an item to a list of a deployment, behind all others where no place is told."""
+    def edit(d):
+        for step in path:
+            d = d[step]
+        d.insert(len(d) if at is None else at, to)
+    return edit
+
+
+def same(kind, *names, of=0, at=1):
+    """Gives an item of a list what an earlier one has."""
+    def edit(d):
+        for name in names:
+            d[kind][at][name] = d[kind][of][name]
+    return edit
+
+
+ID = ("name", "vendor", "version")
+HANDLERS = ("blocks", 0, "events")
+
+# Each fault that parts can have, in the order of the walk, and where it stands.
+WALK = [
+    (put("events", 0, "key", to="timer"), "/events/0/key repeated"),
+    (put("events", 0, "name", to=""), "/events/0/name range"),
+    (put("events", 0, "vendor", to="v" * 257), "/events/0/vendor range"),
+    (put("events", 0, "version", to=""), "/events/0/version range"),
+    (same("events", "key"), "/events/1/key repeated"),
+    (same("events", *ID), "/events/1/version repeated"),
+    (put("profiles", 0, "vendor", to=""), "/profiles/0/vendor range"),
+    (put("profiles", 0, "attributes", "z", to="timer"), "/profiles/0/attributes/z range"),
+    (add("profiles", 0, "unique", to="b"), "/profiles/0/unique/1 unknown-name"),
+    (same("profiles", "key"), "/profiles/1/key repeated"),
+    (same("profiles", *ID), "/profiles/1/version repeated"),
+    (put("tables", "lines", to="ring"), "/tables/lines unknown-name"),
+    (put("tables", "people", to="none"), "/tables/people unknown-name"),
+    (put("blocks", 0, "name", to="n" * 257), "/blocks/0/name range"),
+    (put("blocks", 0, "aliases", "o", to="y"), "/blocks/0/aliases/o unknown-name"),
+    (put("blocks", 0, "aliases", "q", to="x"), "/blocks/0/aliases/q alias"),
+    (put("blocks", 0, "relations", "leg", "block", to="ring"), "/blocks/0/relations/leg/block unknown-name"),
+    (put("blocks", 0, "relations", "note", "block", to="e"), "/blocks/0/relations/note/block unknown-name"),
+    (add(*HANDLERS, 0, "initial", to="name", at=1), "/blocks/0/events/0/initial/1 range"),
+    (add(*HANDLERS, 0, "initial", to="activity"), "/blocks/0/events/0/initial/2 repeated"),
+    (put(*HANDLERS, 0, "custom", "rule", to="half"), "/blocks/0/events/0/custom/rule range"),
+    (put(*HANDLERS, 0, "custom", "field", to="n"), "/blocks/0/events/0/custom/field range"),
+    (put(*HANDLERS, 1, to=on("timer", initial=["custom"], custom={"rule": "scheme", "field": "row"})),
+     "/blocks/0/events/1/custom/field unknown-name"),
+    (put(*HANDLERS, 2, "custom", to={"rule": "whole", "field": "addr"}), "/blocks/0/events/2/custom range"),
+    (add(*HANDLERS, to=on("none")), "/blocks/0/events/3/event unknown-name"),
+    (add(*HANDLERS, to=on("ring")), "/blocks/0/events/3/event repeated"),
+    (add(*HANDLERS, to=on("activity-end", initial=[])), "/blocks/0/events/3/initial range"),
+    (add(*HANDLERS, to=on("profile-added", initial=["custom"])), "/blocks/0/events/3/custom missing"),
+    (put("blocks", 0, "methods", "m", "params", 1, "name", to="x"), "/blocks/0/methods/m/params/1/name repeated"),
+    (put("blocks", 1, "vendor", to=""), "/blocks/1/vendor range"),
+    (put("blocks", 1, "attributes", "p", to="bool"), "/blocks/1/aliases/p alias"),
+    (same("blocks", "key", at=2), "/blocks/2/key repeated"),
+    (same("blocks", *ID, of=1, at=2), "/blocks/2/version repeated"),
+    (put("blocks", 2, "attributes", "a", to="text"), "/blocks/2/aliases/a alias"),
+    (put("services", 0, "version", to=""), "/services/0/version range"),
+    (put("services", 0, "root", to="ring"), "/services/0/root unknown-name"),
+    (same("services", "key"), "/services/1/key repeated"),
+    (same("services", *ID), "/services/1/version repeated"),
+    (put("services", 1, "root", to="s"), "/services/1/root unknown-name"),
+]
+
+
+def with_faults(*places):
+    """The good deployment with these faults of the walk. The first of them is the answer."""
+    made = copy.deepcopy(GOOD)
+    for at in places:
+        WALK[at][0](made)
+    return "faults " + " ".join(map(str, places)), made, WALK[places[0]][1]
+
+
+def alone_and_in_pairs():
+    yield "no fault of the walk", GOOD, None
+    for at in range(len(WALK)):
+        yield with_faults(at)
+    for at in range(len(WALK) - 1):
+        yield with_faults(at, at + 1)
+
+
+def other_pairs():
+    for at in range(len(WALK)):
+        for later in range(at + 2, len(WALK)):
+            yield with_faults(at, later)
+
+
+def many(count):
+    """Lists of many items, with a fault at their ends."""
+    short = [dict(item(f"k{n}"), name="n", version=str(n)) for n in range(count)]
+    last, keys = count - 1, [x["key"] for x in short]
+    block = item("b", relations={key: {"block": "b"} for key in keys})
+    lost = dict(short[last], relations={"r": {"block": keys[0]}, "s": {"block": "k"}})
+    yield "as many tables", deployment(profiles=short, tables={key: keys[-1 - n] for n, key in enumerate(keys)}), None
+    yield "as many relations", deployment(blocks=[block]), None
+    yield "as many handlers", deployment(events=short, blocks=[item("b", events=[on(key) for key in keys])]), None
+    yield "a key at both ends of blocks", deployment(blocks=[*short[:-1], dict(short[last], key=keys[0])]), f"/blocks/{last}/key repeated"
+    yield "a component at both ends of events", deployment(events=[*short[:-1], dict(short[last], version="0")]), f"/events/{last}/version repeated"
+    yield "the last relation of the last block", deployment(blocks=[*short[:-1], lost]), f"/blocks/{last}/relations/s/block unknown-name"
+    yield "roots from the last block to the first", deployment(
+        blocks=short, services=[dict(x, root=keys[-1 - n]) for n, x in enumerate(short)]), None
+    yield "the last root", deployment(blocks=[item("b")], services=[dict(x, root="b" if n < last else "c") for n, x in enumerate(short)]), (
+        f"/services/{last}/root unknown-name")
+
+
+def long_lists(counts):
+    return [row for count in counts for row in many(count)]
+
+
+# Questions to deployments: which blocks handle an event, and which item of a list has a key.
+ASKED = [
+    ("nothing is named in nothing", deployment(), [
+        ("handlers timer", "[]"), ("events ping", "None"), ("profiles p", "None"), ("tables t", "None"), ("blocks b", "None"),
+        ("services s", "None")]),
+    ("three blocks", deployment(
+        events=[item("ping"), item("pong"), item("rest")], profiles=[item("p"), item("q")], tables={"s": "q", "t": "p"},
+        blocks=[item("c", events=[on("ping"), on("timer")]), item("b", events=[on("pong")]),
+                item("a", events=[on("timer"), on("pong"), on("ping")])],
+        services=[item("y", root="b"), item("x", root="a")]), [
+        ("handlers ping", "[0, 2]"), ("handlers pong", "[1, 2]"), ("handlers timer", "[0, 2]"), ("handlers rest", "[]"), ("handlers none", "[]"),
+        ("events ping", "Some(0)"), ("events rest", "Some(2)"), ("events timer", "None"), ("profiles q", "Some(1)"), ("profiles t", "None"),
+        ("tables s", "Some(0)"), ("tables t", "Some(1)"), ("tables p", "None"), ("blocks c", "Some(0)"), ("blocks a", "Some(2)"),
+        ("blocks x", "None"), ("services y", "Some(0)"), ("services x", "Some(1)"), ("services b", "None")]),
+    ("one handler of many blocks", deployment(blocks=[item(f"b{n}", events=[on("timer")] if n % 3 == 1 else []) for n in range(12)]), [
+        ("handlers timer", "[1, 4, 7, 10]"), ("blocks b11", "Some(11)"), ("blocks b12", "None")]),
+]
+
+# How long the lists are that the gate builds, and those that it doesn't.
+LONG_LIST, LONGER_LISTS = 1_000, (1_000, 5_000)
+
 KIND = {"int": "Int", "text": "Text", "bool": "Bool", "activity": "Activity", "timer": "Timer"}
 BAD = {"Missing": "missing", "Repeated": "repeated", "UnknownName": "unknown-name", "Range": "range", "Alias": "alias"}
 
@@ -229,24 +397,79 @@ def answer(fault):
     return bytes(found.path).decode() + " " + BAD[found.kind.con.name]
 
 
-def main():
+def counts(d):
+    return "ok " + " ".join(str(len(d[k])) for k in ("events", "profiles", "tables", "blocks", "services"))
+
+
+def told(wanted):
+    """A fault as the program tells it."""
+    path, kind = wanted.split()
+    return path + " " + next(name for name, word in BAD.items() if word == kind)
+
+
+def row_and_answer(d, wanted, asked=()):
+    """A line of the program's input, and the lines that it has to print."""
+    words = [dict(zip(("list", "key"), question.split())) for question, _ in asked]
+    line = json.dumps({**d, "ask": words} if words else d, separators=(",", ":"))
+    return line, [told(wanted) if wanted else counts(d), *(f"  {question}: {reply}" for question, reply in asked)]
+
+
+def of_the_gate():
+    rows = [row_and_answer(d, wanted) for _, d, wanted in [*ROWS, *alone_and_in_pairs()]]
+    asked = [row_and_answer(d, None, questions) for _, d, questions in ASKED]
+    long = [row_and_answer(d, wanted) for name, d, wanted in many(LONG_LIST) if name in ("as many tables", "a key at both ends of blocks")]
+    return [*rows, *asked, *long]
+
+
+def write():
+    for name, text in zip(("stdin", "stdout"), texts(of_the_gate())):
+        with open(os.path.join(CRATE, name), "w", encoding="utf-8") as f:
+            f.write(text)
+
+
+def texts(rows):
+    lines, answers = [line for line, _ in rows], [line for _, lines in rows for line in lines]
+    return "".join(line + "\n" for line in lines), "".join(line + "\n" for line in answers)
+
+
+def run_program():
+    rows = [*of_the_gate(), *(row_and_answer(d, wanted) for _, d, wanted in [*other_pairs(), *long_lists(LONGER_LISTS)])]
+    given, wanted = texts(rows)
+    done = subprocess.run([os.path.join(CRATE, "out", "descriptor_rows")], input=given, capture_output=True, text=True, check=False)
+    differ = 0
+    for found, line in zip([*done.stdout.split("\n"), *[""] * len(wanted)], wanted.split("\n")):
+        if found != line:
+            differ += 1
+            print(f"{found}, and by hand {line}")
+    print(f"{len(rows)} rows, {differ} lines differ, status {done.returncode}")
+    return 1 if differ or done.returncode else 0
+
+
+def run_definitions():
     world = deployments.world()
     if world is None:
         print("deployment_rows: skipped, the tool that evaluates definitions isn't here (deployments.py)")
-        return
+        return 0
     import rundefs
 
     builder = Builder(rundefs, world)
     fault_of = builder.world.eval("deployment_parts.specs.Tables.parts_fault")
+    rows = [*ROWS, *alone_and_in_pairs(), *other_pairs()]
     wrong = 0
-    for name, row, wanted in ROWS:
+    for name, row, wanted in rows:
         found = rundefs.deep(lambda row=row: answer(fault_of(builder.parts(row))))
         if found != wanted:
             wrong += 1
             print(f"{name}: {found}, and by hand {wanted}")
-    print(f"{len(ROWS)} rows, {wrong} differ")
-    sys.exit(1 if wrong else 0)
+    print(f"{len(rows)} rows, {wrong} differ")
+    return 1 if wrong else 0
+
+
+def main():
+    if sys.argv[1:] == ["--write"]:
+        return write()
+    return run_program() if sys.argv[1:] == ["--program"] else run_definitions()
 
 
 if __name__ == "__main__":
-    main()
+    sys.exit(main())

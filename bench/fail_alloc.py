@@ -23,21 +23,26 @@ REFUSES = r"""
 #include <errno.h>
 #include <stdio.h>
 #include <stdlib.h>
-static long at, first, onward;
+static long at, first, onward, held;
 __attribute__((constructor)) static void begin(void) {
     const char *n = getenv("REFUSED_ALLOCATION");
     first = n ? atol(n) : 0;
     onward = getenv("REFUSED_ONWARD") != NULL;
     at = 0;
+    held = 0;
 }
-__attribute__((destructor)) static void end(void) {
-    const char *name = getenv("COUNTED_ALLOCATIONS");
-    long count = at;
+static void write_to(const char *name, long count) {
     FILE *f = name ? fopen(name, "w") : NULL;
     if (f) {
         fprintf(f, "%ld", count);
         fclose(f);
     }
+}
+__attribute__((destructor)) static void end(void) {
+    long count = at, left = held;
+    first = 0;
+    write_to(getenv("COUNTED_ALLOCATIONS"), count);
+    write_to(getenv("HELD_ALLOCATIONS"), left);
 }
 static int refused(void) {
     at += 1;
@@ -47,25 +52,39 @@ static int refused(void) {
     }
     return 0;
 }
+static void *kept(void *made) {
+    if (made) held += 1;
+    return made;
+}
 void *malloc(size_t size) {
     static void *(*real)(size_t);
     if (!real) real = (void *(*)(size_t))dlsym(RTLD_NEXT, "malloc");
-    return refused() ? NULL : real(size);
+    return refused() ? NULL : kept(real(size));
 }
 void *realloc(void *old, size_t size) {
     static void *(*real)(void *, size_t);
     if (!real) real = (void *(*)(void *, size_t))dlsym(RTLD_NEXT, "realloc");
-    return refused() ? NULL : real(old, size);
+    if (refused()) return NULL;
+    return old ? real(old, size) : kept(real(old, size));
 }
 void *aligned_alloc(size_t align, size_t size) {
     static void *(*real)(size_t, size_t);
     if (!real) real = (void *(*)(size_t, size_t))dlsym(RTLD_NEXT, "aligned_alloc");
-    return refused() ? NULL : real(align, size);
+    return refused() ? NULL : kept(real(align, size));
 }
 int posix_memalign(void **to, size_t align, size_t size) {
     static int (*real)(void **, size_t, size_t);
     if (!real) real = (int (*)(void **, size_t, size_t))dlsym(RTLD_NEXT, "posix_memalign");
-    return refused() ? ENOMEM : real(to, align, size);
+    if (refused()) return ENOMEM;
+    int status = real(to, align, size);
+    if (status == 0) kept(*to);
+    return status;
+}
+void free(void *old) {
+    static void (*real)(void *);
+    if (!real) real = (void (*)(void *))dlsym(RTLD_NEXT, "free");
+    if (old) held -= 1;
+    real(old);
 }
 """
 
