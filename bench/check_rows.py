@@ -3,6 +3,8 @@
 say the same. Outside the gate.
 
     python3 bench/check_rows.py [WORD]      all rows, or those that have WORD
+    python3 bench/check_rows.py --documents the deployments, one a line, as they stand at the end of crates/deploy_rows/stdin
+    python3 bench/check_rows.py --answers   their answers by hand, as they stand at the end of crates/deploy_rows/stdout
 
 A row is a script in one of the roles below, in which @KIND stands right before the place of its first fault, with a blank behind
 it that isn't part of the script; without that mark the script has no fault. Behind them stand whole deployments with their answers.
@@ -16,6 +18,7 @@ import sys
 import deployments
 
 MARK = re.compile(r"@(name|mismatch|count|place) ")
+WORDS = re.compile(r"[a-z_][a-z0-9_]*")
 
 
 def item(key, **members):
@@ -62,9 +65,36 @@ PATHS = {
 }
 
 
+def named(members, words):
+    """The members of an object whose names are among the words."""
+    return {name: member for name, member in members.items() if name in words}
+
+
+def block_for(block, words):
+    """The block with what these words may name. What is left out is no word of the script, so it can't be what a name stands for."""
+    kinds = ("fields", "attributes", "aliases", "relations", "methods")
+    return {**block, **{kind: named(block[kind], words) for kind in kinds if kind in block}}
+
+
+def world_for(script):
+    """The deployment above, as far as the words of the script may name it."""
+    words = set(WORDS.findall(script))
+    for block in WORLD["blocks"]:
+        words.update(*(WORDS.findall(method["do"]) for method in named(block["methods"], words).values()))
+    blocks = [block_for(block, words) for block in WORLD["blocks"]]
+    tables = named(WORLD["tables"], words)
+    return copy.deepcopy({
+        "events": [event for event in WORLD["events"] if event["key"] in words or event["key"] == "ping"],
+        "profiles": WORLD["profiles"] if tables else [],
+        "tables": tables,
+        "blocks": blocks,
+        "services": [service for service in WORLD["services"] if service["key"] in words],
+    })
+
+
 def placed(role, script):
     """The deployment above with this script of block b."""
-    whole = copy.deepcopy(WORLD)
+    whole = world_for(script)
     block = whole["blocks"][0]
     if role in EVENTS:
         block["events"] = [{"event": EVENTS[role], "on": script}]
@@ -185,6 +215,9 @@ ROWS = {
         'let x = 1;\n\temit\n  @mismatch x;', '# one\nlet x = 1; # two\r\n\r\nemit text(@name y);', 'emit "é" ++ @mismatch 1;',
         'emit "\\"\\n" ++ @mismatch 1;', '   \n@name x=1;', 'let xx=1;xx=@mismatch "a"++"b";',
         'emit ' + '(' * 60 + '@name x' + ')' * 60 + ';', 'if true { ' * 60 + 'emit @mismatch 1; ' + '} ' * 60,
+        # 64 levels
+        'emit ' + '(' * 64 + '@name x' + ')' * 64 + ';', 'if true { ' * 64 + 'emit @mismatch 1; ' + '} ' * 64,
+        'if true { ' * 32 + 'emit @mismatch ' + '(' * 32 + '1' + ')' * 32 + '; ' + '} ' * 32, 'emit ' + '(' * 64 + '"a"' + ')' * 64 + ';',
         'let x = ' + '1 + ' * 300 + '@mismatch "a" + y;',
     ],
     "timer": ['cancel event.which;', 'cancel event.@name when;', 'end @mismatch event.which;', 'let x = event.which == none;'],
@@ -328,7 +361,21 @@ def answer(world, deployment):
         return f"{path} {found.line}:{found.column} {misuse.kind.con.name.lower()}"
 
 
+def print_documents():
+    for _, deployment, _ in rows():
+        print(json.dumps(deployment, separators=(",", ":"), ensure_ascii=False))
+
+
+def print_answers():
+    for _, _, fault in rows():
+        print(f"check {fault}" if fault else "ok")
+
+
 def main():
+    if sys.argv[1:] == ["--documents"]:
+        return print_documents()
+    if sys.argv[1:] == ["--answers"]:
+        return print_answers()
     world = deployments.world()
     if world is None:
         print("check_rows: skipped, the tool that evaluates definitions isn't here (deployments.py)")

@@ -3,7 +3,7 @@ use Rattle.std.specs.Prelude.{length, Result, Ok, Err}
 use Rattle.script_tree.specs.Tree.{Bytes}
 use Rattle.deploy_parts.specs.Rows.{PartsRow}
 use Rattle.deploy_reading.specs.declared.fault.ReadFault.{ReadFault}
-use Rattle.deploy_reading.specs.Reading.{parts_of}
+use Rattle.deploy_json.specs.Reading.{Reading, reading_of}
 use Rattle.deploy_text.specs.declared.counts.Counts.{Counts}
 
 abbrev pub counts_of : PartsRow → Counts
@@ -15,10 +15,10 @@ counts_of p = record {
   services = length p.services;
 }
 
-abbrev pub counts_read : Result PartsRow ReadFault → Result Counts ReadFault
-counts_read (Ok p) = Ok (counts_of p)
+abbrev pub counts_read : Result Reading ReadFault → Result Counts ReadFault
+counts_read (Ok reading) = Ok (counts_of reading.parts)
 counts_read (Err fault) = Err fault
 
 -- The counts of the deployment that bytes are, or their first fault.
 unfoldable pub counts_in : Bytes → Result Counts ReadFault
-counts_in bytes = counts_read (parts_of bytes)
+counts_in bytes = counts_read (reading_of bytes)

@@ -4,29 +4,29 @@ ghost use Rattle.deploy_parts.specs.Rows.{parts_row};
 ghost use Rattle.deploy_reading.specs.Reading.{Tells};
 ghost use Rattle.deploy_check.specs.Counting.{counts_in, counts_of};
 
-use deploy_reading::{ReadFault, read_parts};
+use deploy_json::{ReadFault, read_deployment};
 use deploy_text::Counts;
-use deployment_parts::Parts;
+use slee_descriptor::Deployment;
 use std::alloc::Global;
 
 /// How many parts of each kind the deployment has that the bytes are, or the first thing that is wrong with them.
 pub fn count_deployment(alloc: Global, bytes: &[u8]) -> Result<Counts, ReadFault>
     ensures { MatchResult result (λ counts. counts_in bytes.now ≡ Ok counts) (Tells (counts_in bytes.now)) }
 {
-    match read_parts(alloc, bytes) {
-        Ok(parts) => Ok(counts_of(&parts)),
+    match read_deployment(alloc, bytes) {
+        Ok(checked) => Ok(counts_of(checked.deployment())),
         Err(fault) => Err(fault),
     }
 }
 
-fn counts_of(parts: &Parts) -> Counts
-    ensures { result ≡ counts_of (parts_row parts.now) }
+fn counts_of(deployment: &Deployment) -> Counts
+    ensures { result ≡ counts_of (parts_row deployment.now.parts) }
 {
     Counts {
-        events: parts.events.as_slice().len() as u64,
-        profiles: parts.profiles.as_slice().len() as u64,
-        tables: parts.tables.as_slice().len() as u64,
-        blocks: parts.blocks.as_slice().len() as u64,
-        services: parts.services.as_slice().len() as u64,
+        events: deployment.events().len() as u64,
+        profiles: deployment.profiles().len() as u64,
+        tables: deployment.tables().len() as u64,
+        blocks: deployment.blocks().len() as u64,
+        services: deployment.services().len() as u64,
     }
 }

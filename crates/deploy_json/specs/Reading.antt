@@ -26,7 +26,7 @@ check_at pointer place kind = faults.Check pointer place.line place.column kind
 
 -- A fault of a script: its pointer, the line and column in its text, and the kind.
 abbrev pub check_read : PartsRow → CodePlace → Misuse → ReadFault
-check_read p place misuse = check_at (script_path p place) (place_of_misuse (script_text p place) misuse) misuse.kind
+check_read p place misuse = check_at (script_path p.blocks place) (place_of_misuse (script_text p.blocks place) misuse) misuse.kind
 
 abbrev pub programmed : PartsRow → Built Program → Result Reading ReadFault
 programmed p (Ok program) = Ok (record { parts = p; program = program })

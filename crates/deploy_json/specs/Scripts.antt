@@ -64,17 +64,21 @@ block_in blocks b = record (block_of_code (block_code blocks (bare_block b))) {
 abbrev pub codes_in_rows : PartsRow → Codes
 codes_in_rows p = record (codes_of (codes_in (bare_parts p) [])) { blocks = map (block_in (key_number (λ b. b.key) p.blocks)) p.blocks }
 
--- The name of a method of a block by its number, empty where there is none.
-abbrev pub method_name : ℕ → BlockRow → Bytes
-method_name n b = option_map_or (λ m. m.name) (slice_get b.methods n) []
+-- The name of a method by the numbers of its block and of itself.
+abbrev pub method_name : List BlockRow → ℕ → ℕ → Bytes
+method_name blocks block n = option_map_or (λ m. m.name) (option_and_then (λ b. slice_get b.methods n) (slice_get blocks block)) []
 
 -- The JSON pointer from a block to one of its scripts.
-abbrev pub path_in : CodePart → BlockRow → Bytes
-path_in (part.Handler n) b = codes "/events/" ++ decimal n ++ codes "/on"
-path_in (part.Method n) b = codes "/methods/" ++ method_name n b ++ codes "/do"
-path_in part.Exception b = codes "/exception"
-path_in part.RolledBack b = codes "/rolled_back"
-path_in part.Remove b = codes "/remove"
+abbrev pub path_in : List BlockRow → ℕ → CodePart → Bytes
+path_in blocks block (part.Handler n) = codes "/events/" ++ decimal n ++ codes "/on"
+path_in blocks block (part.Method n) = codes "/methods/" ++ method_name blocks block n ++ codes "/do"
+path_in blocks block part.Exception = codes "/exception"
+path_in blocks block part.RolledBack = codes "/rolled_back"
+path_in blocks block part.Remove = codes "/remove"
+
+-- The JSON pointer of a script.
+abbrev pub script_path : List BlockRow → CodePlace → Bytes
+script_path blocks place = codes "/blocks/" ++ decimal place.block ++ path_in blocks place.block place.part
 
 -- The text of one of a block's scripts.
 abbrev pub text_in : CodePart → BlockRow → Option Bytes
@@ -84,10 +88,6 @@ text_in part.Exception b = b.exception
 text_in part.RolledBack b = b.rolled_back
 text_in part.Remove b = b.remove
 
--- The JSON pointer of a script.
-abbrev pub script_path : PartsRow → CodePlace → Bytes
-script_path p place = codes "/blocks/" ++ decimal place.block ++ option_map_or (path_in place.part) (slice_get p.blocks place.block) []
-
 -- The text of a script, empty where there is none.
-abbrev pub script_text : PartsRow → CodePlace → Bytes
-script_text p place = unwrap_or (option_and_then (text_in place.part) (slice_get p.blocks place.block)) []
+abbrev pub script_text : List BlockRow → CodePlace → Bytes
+script_text blocks place = unwrap_or (option_and_then (text_in place.part) (slice_get blocks place.block)) []

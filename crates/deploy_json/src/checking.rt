@@ -1,7 +1,11 @@
 //! The deployment of bytes: their parts, and then the check of all scripts.
 ghost use Rattle.std.specs.Prelude.{◌≡◌, [], IfOk, Option, MatchResult, Ok};
+ghost use Rattle.script_types.specs.declared.codes.Codes.{Codes as CodesInMemory};
 ghost use Rattle.script_types.specs.ProgramOf.{IsChecked};
+ghost use Rattle.deployment_parts.specs.declared.parts.Parts.{Parts as PartsInMemory};
 ghost use Rattle.deployment_parts.specs.Tables.{parts_fault};
+ghost use Rattle.slee_descriptor.specs.CodesOfParts.{codes_in};
+ghost use Rattle.handler_check.specs.Told.{Tells as CheckTells, checked};
 ghost use Rattle.deploy_parts.specs.Rows.{parts_row};
 ghost use Rattle.deploy_reading.specs.Reading.{Tells};
 ghost use Rattle.deploy_json.specs.Reading.{checked_parts, reading_of, read_as};
@@ -13,11 +17,11 @@ use slee_descriptor::Deployment;
 use slee_value::NoMemory;
 use std::alloc::Global;
 
-/// The deployment that parts without fault are.
+/// The deployment that parts without fault are, its scripts not checked.
 fn deployment_of(alloc: Global, parts: Parts) -> Result<Deployment, NoMemory>
     requires { parts_fault parts ≡ Option.None }
     ensures same { IfOk result (λ d. d.parts ≡ parts) }
-    ensures unchecked { IfOk result (λ d. d.codes.programs ≡ []) }
+    ensures codes { IfOk result (λ d. d.codes ≡ codes_in d.parts []) }
 {
     match Deployment::build(alloc, parts) {
         Ok(deployment) => Ok(deployment),
@@ -27,7 +31,9 @@ fn deployment_of(alloc: Global, parts: Parts) -> Result<Deployment, NoMemory>
 }
 
 /// The fault of a script.
-fn check_fault(fault: CheckFault) -> ReadFault {
+fn check_fault(fault: CheckFault) -> ReadFault
+    ensures { (p : PartsInMemory) (all : CodesInMemory) → all ≡ codes_in p [] → CheckTells (checked all) fault → Tells (checked_parts (Ok (parts_row p))) result }
+{
     match fault {
         CheckFault::NoMemory => ReadFault::NoMemory,
         CheckFault::At {
@@ -45,8 +51,8 @@ fn check_fault(fault: CheckFault) -> ReadFault {
 }
 
 /// The deployment with its scripts checked.
-fn checked(alloc: Global, deployment: Deployment) -> Result<Checked, ReadFault>
-    requires { deployment.codes.programs ≡ [] }
+fn check_scripts(alloc: Global, deployment: Deployment) -> Result<Checked, ReadFault>
+    requires { deployment.codes ≡ codes_in deployment.parts [] }
     ensures { MatchResult result (λ c. checked_parts (Ok (parts_row deployment.parts)) ≡ Ok (read_as c.deployment)) (Tells (checked_parts (Ok (parts_row deployment.parts)))) }
 {
     match check(alloc, deployment) {
@@ -61,7 +67,7 @@ fn check_parts(alloc: Global, parts: Parts) -> Result<Checked, ReadFault>
     ensures { MatchResult result (λ c. checked_parts (Ok (parts_row parts)) ≡ Ok (read_as c.deployment)) (Tells (checked_parts (Ok (parts_row parts)))) }
 {
     match deployment_of(alloc, parts) {
-        Ok(deployment) => checked(alloc, deployment),
+        Ok(deployment) => check_scripts(alloc, deployment),
         Err(NoMemory) => Err(ReadFault::NoMemory),
     }
 }

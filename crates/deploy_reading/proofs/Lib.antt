@@ -1,1 +1,4 @@
-pub mod Lifting
+pub mod Walks
+pub mod LookUps
+pub mod NoFault
+pub mod Answering

@@ -1,6 +1,6 @@
 -- What bytes are read as: the parts of a deployment, or the first fault.
-use Rattle.std.specs.Prelude.{◌≡◌, Bool, if◌then◌else◌, Option, Some, None, option_map, Result, Ok, Err}
-use Rattle.core.specs.Str.{is_utf8}
+use Rattle.std.specs.Prelude.{◌≡◌, if◌then◌else◌, Option, Some, None, option_map, Result, Ok, Err}
+use Rattle.std.specs.Str.{is_utf8}
 use Rattle.serde_json.specs.Data.{Data}
 use Rattle.serde_json.specs.Read.{read}
 use Rattle.script_tree.specs.Tree.{Bytes}

@@ -1,8 +1,9 @@
 //! The parts of bytes: no JSON comes first, then the first fault of the JSON value, then the first script that can't be read.
-ghost use Rattle.std.specs.Prelude.{◌≡◌, Option, MatchResult, Ok};
+ghost use Rattle.std.specs.Prelude.{◌≡◌, Option, IfOk, MatchResult, Ok};
 ghost use Rattle.serde_json.specs.Data.{Data};
 ghost use Rattle.serde_json.specs.View.{view};
 ghost use Rattle.deployment_parts.specs.Faults.{Tells as ShapeTells};
+ghost use Rattle.deployment_parts.specs.Tables.{parts_fault};
 ghost use Rattle.deploy_tables.specs.Tables.{shape_fault};
 ghost use Rattle.deploy_parts.specs.Sources.{first_misread, Tells as ScriptTells};
 ghost use Rattle.deploy_parts.specs.Rows.{parts_row};
@@ -59,7 +60,8 @@ fn script_fault(fault: PartsFault) -> ReadFault
 /// The parts that a document without shape fault is.
 fn read_scripts(alloc: Global, document: &Value) -> Result<Parts, ReadFault>
     requires { shape_fault (view document.now) ≡ Option.None }
-    ensures { MatchResult result (λ p. document_parts (view document.now) ≡ Ok (parts_row p)) (Tells (document_parts (view document.now))) }
+    ensures sound { IfOk result (λ p. parts_fault p ≡ Option.None) }
+    ensures read { MatchResult result (λ p. document_parts (view document.now) ≡ Ok (parts_row p)) (Tells (document_parts (view document.now))) }
 {
     match build_parts(alloc, document) {
         Ok(parts) => Ok(parts),
@@ -82,7 +84,8 @@ fn shape_of(fault: DeployFault) -> ReadFault
 
 /// The parts that a document is.
 fn read_document(alloc: Global, document: &Value) -> Result<Parts, ReadFault>
-    ensures { MatchResult result (λ p. document_parts (view document.now) ≡ Ok (parts_row p)) (Tells (document_parts (view document.now))) }
+    ensures sound { IfOk result (λ p. parts_fault p ≡ Option.None) }
+    ensures read { MatchResult result (λ p. document_parts (view document.now) ≡ Ok (parts_row p)) (Tells (document_parts (view document.now))) }
 {
     match check_document(alloc, document) {
         Ok(()) => read_scripts(alloc, document),
@@ -92,6 +95,7 @@ fn read_document(alloc: Global, document: &Value) -> Result<Parts, ReadFault>
 
 /// The parts that the bytes are, or the first thing that is wrong with them. The parts have no fault, and no script is checked.
 pub fn read_parts(alloc: Global, bytes: &[u8]) -> Result<Parts, ReadFault>
+    ensures sound { IfOk result (λ p. parts_fault p ≡ Option.None) }
     ensures read { MatchResult result (λ p. parts_of bytes.now ≡ Ok (parts_row p)) (Tells (parts_of bytes.now)) }
 {
     match read_value(alloc, bytes) {

@@ -1,5 +1,5 @@
 -- Lists of programs, item by item.
-use Rattle.std.proofs.Common.{◌≡◌, ◌+◌, ◌<◌, ◌++◌, ℕ, List, [], ◌∷◌, length, drop, map, get_or, Result, Ok, Err, refl, sym, subst, ap, ◌∙◌, drop-cons, add-one, append_assoc}
+use Rattle.std.proofs.Common.{◌≡◌, ◌+◌, ◌++◌, ℕ, List, [], ◌∷◌, map, Ok, Err, refl, sym, ap, ◌∙◌}
 use Rattle.script_types.specs.declared.codes.CodePart.TheVariants as part
 use Rattle.script_types.specs.declared.codes.HandlerCode.{HandlerCode}
 use Rattle.script_types.specs.declared.codes.MethodCode.{MethodCode}
@@ -9,54 +9,28 @@ use Rattle.script_types.specs.CodesOf.{handler_of_code, method_of_code, block_of
 use Rattle.script_types.specs.Typing.{handler_task, method_task}
 use Rattle.script_types.specs.Program.{Steps, HandlerProgram, MethodProgram, BlockProgram}
 use Rattle.script_types.specs.Programs.{Built, ◌>>=◌, steps_of, place_of, handlers_of, methods_of, block_of, blocks_of}
-use Rattle.program_check.specs.declared.fault.CodeFault.{CodeFault}
-use Rattle.program_check.specs.declared.fault.CodeFault.TheVariants as answers
-use Rattle.program_check.specs.Building.{Refuses, each}
+use Rattle.program_check.specs.Building.{each}
 use Rattle.program_check.specs.Items.{handler_built, method_built}
 
 -- an item in front of others
-abbrev put : {B : Type 0} → B → List B → Built (List B)
+abbrev pub put : {B : Type 0} → B → List B → Built (List B)
 put one others = Ok (one ∷ others)
 
 -- others with those that are made already in front of them
 abbrev pub behind : {B : Type 0} → List B → List B → Built (List B)
 behind made others = Ok (made ++ others)
 
+-- the same goes on behind a check
 then_same : {A B : Type 0} (m : Built A) (f g : A → Built B) → ((x : A) → f x ≡ g x) → (m >>= f) ≡ (m >>= g)
 then_same (Ok x) f g h = h x
 then_same (Err fault) f g h = refl
 
+-- two steps in one
 then_then : {A B C : Type 0} (m : Built A) (f : A → B) (g : B → Built C) → ((m >>= λ x. (let z : Built B = Ok (f x) in z)) >>= g) ≡ (m >>= λ x. g (f x))
 then_then (Ok x) f g = refl
 then_then (Err fault) f g = refl
 
-pub refuses_then : {A B : Type 0} (m : Built A) (g : A → Built B) (e : CodeFault) → Refuses m e → Refuses (m >>= g) e
-refuses_then m g answers.NoMemory h = tt
-refuses_then m g (answers.At place misuse) h = ap (λ x. x >>= g) h
-
-pub none_made : {B : Type 0} (m : Built (List B)) → (m >>= behind []) ≡ m
-none_made (Ok xs) = refl
-none_made (Err fault) = refl
-
-made_one : {B : Type 0} (made : List B) (y : B) (rest : Built (List B)) → (rest >>= behind (made ++ y ∷ [])) ≡ ((rest >>= put y) >>= behind made)
-made_one made y (Ok others) = ap (λ xs. let z : Built (List _) = Ok xs in z) (append_assoc made (y ∷ []) others)
-made_one made y (Err fault) = refl
-
--- what is made of the items from this one on is made of it first
-from : {A B : Type 0} (make : ℕ → A → Built B) (xs : List A) (i : ℕ) (x : A) → i < length xs → x ≡ get_or xs i x → each make i (drop i xs) ≡ (make i x >>= λ one. each make (i + 1) (drop (i + 1) xs) >>= put one)
-from make xs i x lt is = rw (drop-cons xs i x, add-one, ← is) refl
-
-pub each_step : {A B : Type 0} (make : ℕ → A → Built B) (xs : List A) (i : ℕ) (x : A) (y : B) (made now : List B) (total : Built (List B)) → i < length xs → x ≡ get_or xs i x → (each make i (drop i xs) >>= behind made) ≡ total → make i x ≡ Ok y → now ≡ made ++ y ∷ [] → (each make (i + 1) (drop (i + 1) xs) >>= behind now) ≡ total
-each_step make xs i x y made now total lt is so_far h grown =
-    let rest : Built (List _) = each make (i + 1) (drop (i + 1) xs) in
-    ap (λ ys. rest >>= behind ys) grown ∙ made_one made y rest
-    ∙ sym (ap (λ (r : Built _). (r >>= λ one. rest >>= put one) >>= behind made) h)
-    ∙ sym (ap (λ (r : Built (List _)). r >>= behind made) (from make xs i x lt is)) ∙ so_far
-
-pub each_refuses : {A B : Type 0} (make : ℕ → A → Built B) (xs : List A) (i : ℕ) (x : A) (made : List B) (total : Built (List B)) (e : CodeFault) → i < length xs → x ≡ get_or xs i x → (each make i (drop i xs) >>= behind made) ≡ total → Refuses (make i x) e → Refuses total e
-each_refuses make xs i x made total e lt is so_far h =
-    subst (λ r. Refuses r e) (ap (λ (r : Built (List _)). r >>= behind made) (sym (from make xs i x lt is)) ∙ so_far) (refuses_then _ _ e (refuses_then _ _ e h))
-
+-- the handlers, methods and blocks of codes, each by its number
 pub handlers_are : (all : Codes) (block : Block) (number n : ℕ) (xs : List HandlerCode) → handlers_of all block number n (map handler_of_code xs) ≡ each (λ n h. handler_built all block number n (handler_of_code h)) n xs
 handlers_are all block number n [] = refl
 handlers_are all block number n (h ∷ hs) =
