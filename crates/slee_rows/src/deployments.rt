@@ -17,7 +17,12 @@ fn failing_disk(alloc: Global) -> Result<MemoryDisk, NoMemory> {
 }
 
 // Checks a deployment that comes in pieces of so many bytes, with these reads of it and these writes failing.
-fn check(alloc: Global, deployment: &[u8], piece: u64, failing: Failing<'_>) -> Result<Ran, NoMemory> {
+fn check(
+    alloc: Global,
+    deployment: &[u8],
+    piece: u64,
+    failing: Failing<'_>,
+) -> Result<Ran, NoMemory> {
     let deploy = Blob::from_slice(alloc, deployment)?;
     let deploy = MemorySource::new(deploy, piece, Blob::from_slice(alloc, failing.reads)?);
     let signals = MemorySource::new(Blob::new(alloc), 1, Blob::from_slice(alloc, FIRST_FAILS)?);
@@ -31,7 +36,8 @@ fn expect(rt: &impl Abort, ran: &Ran, wanted: Wanted) {
 }
 
 // The deployment of prepaid calls but for the first line of its first script.
-const BEFORE: &str = r#"{"events":[{"key":"invite","name":"Invite","vendor":"demo","version":"1.0","fields":{"addr":"text"}}],
+const BEFORE: &str =
+    r#"{"events":[{"key":"invite","name":"Invite","vendor":"demo","version":"1.0","fields":{"addr":"text"}}],
 "profiles":[{"key":"account","name":"Account","vendor":"demo","version":"1.0","attributes":{"seconds":"int"}}],
 "tables":{"accounts":"account"},
 "blocks":[{"key":"call","name":"Call","vendor":"demo","version":"1.0","fields":{"who":"text"},"events":[

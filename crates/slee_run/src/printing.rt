@@ -11,8 +11,8 @@ ghost use Rattle.slee_run.specs.Text.{output_text};
 
 use crate::{Given, Status};
 use commit_journal::JournalBad;
-use deploy_text::{Counts, write_counts, write_fault};
 use deploy_reading::ReadFault;
+use deploy_text::{Counts, write_counts, write_fault};
 use itoa::Buffer;
 use signal_script::SignalBad;
 use sink_text::write_number;
