@@ -1,13 +1,10 @@
 -- What scripts may name is the same by parts and by their rows: each script is the one that its text is.
-use Rattle.std.proofs.Common.{◌≡◌, ℕ, ◌+◌, List, [], ◌∷◌, Option, Some, None, refl, sym, ap, ◌∙◌, cond, map}
+use Rattle.std.proofs.Common.{◌≡◌, ℕ, List, [], ◌∷◌, Option, Some, None, refl, sym, ap, ◌∙◌, map}
 use Rattle.std.specs.Prelude.{bytes_eq, option_map}
-use Rattle.std.specs.List.{position_from}
 use Rattle.script_tree.specs.declared.script.Script.{Script}
 use Rattle.script_tree.specs.Script.{tree_of_script}
 use Rattle.script_tree.specs.Tree.{Bytes, Statements}
 use Rattle.script_print.proofs.Texts.{text_again}
-use Rattle.script_types.specs.declared.codes.EventCode.{EventCode}
-use Rattle.script_types.specs.declared.codes.TableCode.{TableCode}
 use Rattle.script_types.specs.declared.codes.RelationCode.{RelationCode}
 use Rattle.script_types.specs.Codes.{Handler, Method, Block, Codes}
 use Rattle.script_types.specs.CodesOf.{handler_of_code, method_of_code, block_of_code, codes_of}

@@ -1,10 +1,9 @@
 -- What the check of a deployment answers is what is read of its parts.
-use Rattle.std.proofs.Common.{◌≡◌, ℕ, List, [], ◌++◌, Option, Some, None, Result, Ok, Err, refl, sym, ap, ◌∙◌, subst, map}
+use Rattle.std.proofs.Common.{◌≡◌, ℕ, List, [], ◌++◌, Option, Some, None, Result, Ok, Err, refl, sym, ap, ◌∙◌, map}
 use Rattle.std.proofs.lemmas.Option.{slice_get-map}
 use Rattle.std.specs.Prelude.{codes, decimal, option_map, option_and_then, slice_get}
 use Rattle.std.specs.Option.{option_map_or, unwrap_or}
 use Rattle.script_tree.specs.declared.script.Script.{Script}
-use Rattle.script_tree.specs.declared.scanning.Place.{Place}
 use Rattle.script_tree.specs.Tree.{Bytes}
 use Rattle.script_types.specs.declared.codes.BlockCode.{BlockCode}
 use Rattle.script_types.specs.declared.codes.HandlerCode.{HandlerCode}
@@ -30,13 +29,11 @@ use Rattle.handler_check.specs.Told.{Fault, told, checked}
 use Rattle.deploy_parts.specs.Rows.{HandlerRow, MethodRow, BlockRow, PartsRow, handler_row, method_row, block_row, parts_row}
 use Rattle.deploy_reading.specs.declared.fault.ReadFault.{ReadFault}
 use Rattle.deploy_reading.specs.declared.fault.ReadFault.TheVariants as faults
-use Rattle.deploy_json.specs.Scripts.{method_name, path_in, script_path, text_in, script_text, codes_in_rows}
-use Rattle.deploy_json.specs.Reading.{Reading, check_at, check_read, programmed, checked_parts}
+use Rattle.deploy_json.specs.Scripts.{method_name, path_in, script_path, text_in, script_text}
+use Rattle.deploy_json.specs.Reading.{Reading, check_at, programmed, checked_parts}
 use Rattle.deploy_json.proofs.Codes.{codes_same}
-use Rattle.script_types.specs.ProgramOf.{kept_program}
+use Rattle.script_types.specs.ProgramOf.{kept_program, IsChecked}
 use Rattle.slee_descriptor.specs.declared.deployment.Deployment.{Deployment}
-use Rattle.handler_check.specs.declared.fault.CheckFault.TheVariants as answers
-use Rattle.handler_check.specs.Told.{Tells as CheckTells}
 use Rattle.deploy_reading.specs.Reading.{Tells, parts_of}
 use Rattle.deploy_json.specs.Reading.{read_as, reading_of}
 
@@ -139,15 +136,18 @@ reading_done d c e same h =
     let with : Parts → Result Reading ReadFault = λ p. Ok (record { parts = parts_row p; program = kept_program c.codes }) in
     reading_same d.parts d.codes e ∙ ap (answered (parts_row d.parts)) h ∙ ap with (sym same)
 
--- what is answered where the parts are these, is answered of the bytes
-pub of_bytes : {A : Type 0} (P : A → Result Reading ReadFault → Type 0) (bytes : Bytes) (p : Parts) (x : A) → parts_of bytes ≡ Ok (parts_row p) → P x (checked_parts (Ok (parts_row p))) → P x (reading_of bytes)
-of_bytes P bytes p x e h =
-    let Q : Result PartsRow ReadFault → Type 0 = λ r. P x (checked_parts r) in
-    subst Q (sym e) h
-
+-- a fault of the parts is one of the bytes
 pub told_of_bytes : (bytes : Bytes) (f : ReadFault) → Tells (parts_of bytes) f → Tells (reading_of bytes) f
 told_of_bytes bytes faults.NoMemory h = tt
 told_of_bytes bytes faults.Json h = ap checked_parts h
 told_of_bytes bytes (faults.Shape pointer kind) h = ap checked_parts h
 told_of_bytes bytes (faults.Syntax pointer line column kind) h = ap checked_parts h
 told_of_bytes bytes (faults.Check pointer line column kind) h = ap checked_parts h
+
+-- what the check gives is the program of the scripts
+told_done : (all : Codes) (b : Built Program) (x : Program) → told all b ≡ Ok x → b ≡ Ok x
+told_done all (Ok y) x h = cc
+told_done all (Err fault) x h = cc
+
+pub typed : (d c : Codes) → c ≡ record d { programs = c.programs } → checked d ≡ Ok (kept_program c) → IsChecked c
+typed d c e h = ap (λ (a : Codes). program_of (codes_of a)) e ∙ told_done d (program_of (codes_of d)) (kept_program c) h

@@ -1,5 +1,5 @@
 -- The scripts of parts that are seen as rows: what they may name, and where each of them stands.
-use Rattle.std.specs.Prelude.{ℕ, List, [], ◌++◌, map, Option, Some, None, option_map, option_and_then, Result, Ok, Err, codes, decimal, slice_get}
+use Rattle.std.specs.Prelude.{ℕ, List, [], ◌++◌, map, Option, None, option_map, option_and_then, Result, Ok, Err, codes, decimal, slice_get}
 use Rattle.std.specs.Option.{option_map_or, unwrap_or}
 use Rattle.script_tree.specs.Tree.{Bytes, Statements, Nothing}
 use Rattle.script_tree.specs.Reading.{script_read}

@@ -53,7 +53,8 @@ fn check_fault(fault: CheckFault) -> ReadFault
 /// The deployment with its scripts checked.
 fn check_scripts(alloc: Global, deployment: Deployment) -> Result<Checked, ReadFault>
     requires { deployment.codes ≡ codes_in deployment.parts [] }
-    ensures { MatchResult result (λ c. checked_parts (Ok (parts_row deployment.parts)) ≡ Ok (read_as c.deployment)) (Tells (checked_parts (Ok (parts_row deployment.parts)))) }
+    ensures typed { IfOk result (λ c. IsChecked c.codes) }
+    ensures read { MatchResult result (λ c. checked_parts (Ok (parts_row deployment.parts)) ≡ Ok (read_as c)) (Tells (checked_parts (Ok (parts_row deployment.parts)))) }
 {
     match check(alloc, deployment) {
         Ok(checked) => Ok(checked),
@@ -64,7 +65,8 @@ fn check_scripts(alloc: Global, deployment: Deployment) -> Result<Checked, ReadF
 /// The checked deployment that parts without fault are, or the first fault of their scripts.
 fn check_parts(alloc: Global, parts: Parts) -> Result<Checked, ReadFault>
     requires { parts_fault parts ≡ Option.None }
-    ensures { MatchResult result (λ c. checked_parts (Ok (parts_row parts)) ≡ Ok (read_as c.deployment)) (Tells (checked_parts (Ok (parts_row parts)))) }
+    ensures typed { IfOk result (λ c. IsChecked c.codes) }
+    ensures read { MatchResult result (λ c. checked_parts (Ok (parts_row parts)) ≡ Ok (read_as c)) (Tells (checked_parts (Ok (parts_row parts)))) }
 {
     match deployment_of(alloc, parts) {
         Ok(deployment) => check_scripts(alloc, deployment),
@@ -74,8 +76,8 @@ fn check_parts(alloc: Global, parts: Parts) -> Result<Checked, ReadFault>
 
 /// The deployment that the bytes are, with its scripts checked, or the first thing that is wrong with them.
 pub fn read_deployment(alloc: Global, bytes: &[u8]) -> Result<Checked, ReadFault>
-    ensures read { MatchResult result (λ c. reading_of bytes.now ≡ Ok (read_as c.deployment)) (Tells (reading_of bytes.now)) }
-    ensures typed { IfOk result (λ c. IsChecked c.deployment.codes) }
+    ensures typed { IfOk result (λ c. IsChecked c.codes) }
+    ensures read { MatchResult result (λ c. reading_of bytes.now ≡ Ok (read_as c)) (Tells (reading_of bytes.now)) }
 {
     match read_parts(alloc, bytes) {
         Ok(parts) => check_parts(alloc, parts),

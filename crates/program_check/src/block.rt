@@ -49,20 +49,22 @@ impl<'a> Making<HandlerCode, HandlerSteps> for HandlerMaking<'a> {
 
 /// The methods of a block.
 #[derive(Drop)]
-struct MethodMaking<'a>(&'a Home<'a>);
+struct MethodMaking<'a> {
+    home: &'a Home<'a>,
+}
 
 impl<'a> Making<MethodCode, MethodSteps> for MethodMaking<'a> {
     ghost Value = { MethodProgram };
 
     ghost value_of = { method_program_of };
 
-    ghost built = { λ s n m. method_built (codes_of s.0.now.codes.now) (block_of_code s.0.now.block.now) s.0.now.number n (method_of_code m) };
+    ghost built = { λ s n m. method_built (codes_of s.home.now.codes.now) (block_of_code s.home.now.block.now) s.home.now.number n (method_of_code m) };
 
     fn make(&self, number: usize, item: &MethodCode) -> Result<MethodSteps, CodeFault> {
         let part = CodePart::Method(item_number(number)?);
-        let scope = parameters_in_scope(self.0.alloc, item.parameters.as_slice())?;
+        let scope = parameters_in_scope(self.home.alloc, item.parameters.as_slice())?;
         let role = Role::InMethod(item.result);
-        let steps = check_part(self.0, part, role, scope, &item.script)?;
+        let steps = check_part(self.home, part, role, scope, &item.script)?;
         Ok(MethodSteps {
             result: item.result,
             steps,
@@ -102,7 +104,7 @@ fn check_methods(home: &Home) -> Result<CodeList<MethodSteps>, CodeFault>
 {
     make_each(
         home.alloc,
-        &MethodMaking(home),
+        &MethodMaking { home: &*home },
         home.block.methods.as_slice(),
     )
 }

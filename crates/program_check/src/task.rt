@@ -47,7 +47,7 @@ pub(crate) fn check_part<'a>(
     scope: Vec<Local<'a>>,
     script: &'a Script,
 ) -> Result<CodeList<Step>, CodeFault>
-    ensures { Builds steps_of result (steps_built (codes_of home.now.codes.now) (block_of_code home.now.block.now) (place_of home.now.number part) (record { role = role_of role; scope = scope.entry.items; script = tree_of_script script.now })) }
+    ensures { Builds steps_of result (steps_built (codes_of home.now.codes.now) (block_of_code home.now.block.now) (place_of home.now.number part) (record { role = role_of role.entry; scope = scope.entry.items; script = tree_of_script script.now })) }
 {
     let setting = Setting {
         alloc: home.alloc,
@@ -75,7 +75,7 @@ pub(crate) fn check_callback<'a>(
     role: Role<'a>,
     script: &'a Option<Script>,
 ) -> Result<Option<CodeList<Step>>, CodeFault>
-    ensures { Builds (option_map steps_of) result (callback_of (codes_of home.now.codes.now) (block_of_code home.now.block.now) (place_of home.now.number part) (role_of role) (option_map tree_of_script script.now)) }
+    ensures { Builds (option_map steps_of) result (callback_of (codes_of home.now.codes.now) (block_of_code home.now.block.now) (place_of home.now.number part) (role_of role.entry) (option_map tree_of_script script.now)) }
 {
     match script {
         None => Ok(None),

@@ -1,0 +1,11 @@
+use Rattle.std.proofs.Common.{◌≡◌, Ok, subst, MatchResult}
+use Rattle.deployment_parts.specs.declared.parts.Parts.{Parts}
+use Rattle.deploy_parts.specs.Rows.{parts_row}
+use Rattle.deploy_reading.specs.Reading.{Tells}
+use Rattle.deploy_json.specs.Reading.{checked_parts, read_as}
+use Rattle.deploy_json.proofs.checking.check_parts.Goals as goal
+
+pub returns-in-Ok : goal.returns-in-Ok
+returns-in-Ok c =
+    let P : Parts → Type 0 = λ p. MatchResult c.check_scripts.result (λ d. checked_parts (Ok (parts_row p)) ≡ Ok (read_as d)) (Tells (checked_parts (Ok (parts_row p)))) in
+    record { typed = c.check_scripts.ensures.typed; read = subst P c.in-Ok.ensures.same c.check_scripts.ensures.read }
