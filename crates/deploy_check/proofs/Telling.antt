@@ -1,12 +1,12 @@
 -- Faults of what was read are faults of its counts.
 use Rattle.std.proofs.Common.{◌≡◌, ap, Result}
-use Rattle.deploy_parts.specs.Rows.{PartsRow}
+use Rattle.deploy_json.specs.Reading.{Reading}
 use Rattle.deploy_reading.specs.declared.fault.ReadFault.{ReadFault}
 use Rattle.deploy_reading.specs.declared.fault.ReadFault.TheVariants as faults
 use Rattle.deploy_reading.specs.Reading.{Tells}
 use Rattle.deploy_check.specs.Counting.{counts_read}
 
-pub tells_counts : (read : Result PartsRow ReadFault) (fault : ReadFault) → Tells read fault → Tells (counts_read read) fault
+pub tells_counts : (read : Result Reading ReadFault) (fault : ReadFault) → Tells read fault → Tells (counts_read read) fault
 tells_counts read faults.Json is = ap counts_read is
 tells_counts read (faults.Shape pointer kind) is = ap counts_read is
 tells_counts read (faults.Syntax pointer line column kind) is = ap counts_read is

@@ -1,5 +1,5 @@
 -- What a check of a deployment comes to.
-use Rattle.std.proofs.Common.{◌≡◌, ◌≢◌, ℕ, ◌<◌, ◌≤◌, List, [], length, refl, sym, ◌∙◌, ap, subst, Option, Some, None, Result, Ok, Err, IfSome}
+use Rattle.std.proofs.Common.{◌≡◌, ◌≢◌, ℕ, ◌<◌, ◌≤◌, List, length, refl, Option, Some, None, IfSome}
 use Rattle.slee_disk.specs.declared.reading.ReadFault.{ReadFault}
 use Rattle.slee_disk.specs.declared.reading.ReadFault.TheVariants as read_faults
 use Rattle.deploy_reading.specs.Reading.{Tells}
@@ -9,7 +9,7 @@ use Rattle.deploy_text.specs.declared.counts.Counts.{Counts}
 use Rattle.deploy_check.specs.Counting.{counts_in}
 use Rattle.slee_run.specs.Status.{status_line}
 use Rattle.slee_run.specs.Text.{checked_text}
-use Rattle.slee_run.specs.Checking.{deploy_limit, IsCounted, IsFaulty, IsBarred, IsTextFor, IsCheckedAt, IsCheck}
+use Rattle.slee_run.specs.Checking.{deploy_limit, IsCounted, IsBarred, IsTextFor, IsCheckedAt}
 use Rattle.slee_run.specs.Headline.{IsWritten}
 use Rattle.slee_run.specs.Answers.{IsCheckedBy, IsEarly, status_of_reading, status_of_fault}
 use Rattle.slee_run.specs.declared.status.Given.TheVariants as givens

@@ -1,5 +1,5 @@
 -- Words, bytes and a journal determine a run.
-use Rattle.std.proofs.Common.{◌≡◌, ◌≢◌, ◌⊎◌, inl, inr, ⊎_elim, ℕ, ◌+◌, ◌<◌, ◌≤◌, ◌==◌, nat_le, Bool, true, false, List, [], ◌∷◌, ◌++◌, length, length-append, refl, sym, ◌∙◌, ap, subst, arith, append-nil, append_assoc, Option, Some, None, Result, Ok, Err, MatchOption, IfSome, IsTrue}
+use Rattle.std.proofs.Common.{◌≡◌, ◌≢◌, ◌⊎◌, inl, inr, ⊎_elim, ℕ, ◌+◌, ◌<◌, ◌≤◌, nat_le, true, false, List, [], ◌∷◌, ◌++◌, length, length-append, refl, sym, ◌∙◌, ap, subst, arith, append-nil, Option, Some, None, Result, Ok, Err, MatchOption, IfSome, IsTrue}
 use Rattle.std.proofs.lemmas.Bool.{cases_Bool, cases_eq, leb-true, leb-false}
 use Rattle.signal_script.specs.Signals.{signals_of}
 use Rattle.signal_script.specs.declared.fault.SignalBad.{SignalBad}
@@ -24,9 +24,9 @@ use Rattle.slee_run.specs.Text.{output_text, shown_text, checked_text}
 use Rattle.deploy_reading.specs.declared.fault.ReadFault.{ReadFault}
 use Rattle.deploy_text.specs.declared.counts.Counts.{Counts}
 use Rattle.slee_run.specs.Checking.{deploy_limit, IsCounted, IsFaulty, IsTextFor, IsCheckedAt}
-use Rattle.slee_run.specs.Headline.{Checks, HasUntakenLine, signals_limit, lines_given, AsksLater, MayFollow, IsDoneOn, IsSpentOn, IsFullOn, EndsOn, IsRefused, IsShownAt, AddsFirst, IsByOne, IsHistory, IsRun, IsPlay, IsByFault}
+use Rattle.slee_run.specs.Headline.{Checks, HasUntakenLine, signals_limit, lines_given, AsksLater, MayFollow, IsDoneOn, IsSpentOn, EndsOn, IsRefused, IsShownAt, AddsFirst, IsByOne, IsByFault}
 use Rattle.slee_run.specs.Opening.{kept_deployment, journal_limit, found, IsAnswerTo}
-use Rattle.slee_run.specs.Stops.{records_behind, size_behind, IsSized}
+use Rattle.slee_run.specs.Stops.{size_behind, IsSized}
 use Rattle.slee_run.specs.Determined.{Outcome, IsRunOver}
 use Rattle.slee_run.specs.declared.command.Command.{Command}
 use Rattle.slee_run.specs.declared.command.Command.TheVariants as commands

@@ -1,16 +1,15 @@
 -- How playing ends, as a status of a run.
-use Rattle.std.proofs.Common.{◌≡◌, ◌≢◌, ◌⊎◌, inl, inr, ℕ, zero, suc, ◌+◌, ◌-◌, ◌<◌, ◌≤◌, nat_le, Bool, true, false, if◌then◌else◌, List, [], ◌∷◌, ◌++◌, length, refl, sym, ◌∙◌, ap, subst, append-nil, Option, Some, None, Result, Ok, Err, IsErr, IfSome, MatchOption, is_some, option_map, not, OnOk, OnErr, arith}
+use Rattle.std.proofs.Common.{◌≡◌, ◌≢◌, ◌⊎◌, inl, inr, ℕ, zero, suc, ◌+◌, ◌-◌, ◌<◌, ◌≤◌, nat_le, true, false, List, [], ◌∷◌, ◌++◌, length, refl, sym, ◌∙◌, ap, subst, append-nil, Option, Some, None, Result, Ok, Err, IfSome, MatchOption, is_some, option_map, not, OnOk, OnErr, arith}
 use Rattle.std.proofs.lemmas.Bool.{cases_Bool, le-leb, leb-true}
 use Rattle.std.proofs.lemmas.Bool.{and_parts}
 use Rattle.std.specs.Option.{option_map_or}
-use Rattle.std.specs.Io.KnownBytes.{Appends}
 use Rattle.signal_script.specs.Signals.{signals_of}
 use Rattle.signal_script.specs.declared.fault.SignalBad.{SignalBad}
 use Rattle.signal_script.specs.declared.fault.SignalFault.TheVariants as line_faults
 use Rattle.router_rules.specs.Taking.{is_routed}
 use Rattle.std.specs.List.{list_all}
 use Rattle.signal_script.specs.declared.signal.Signal.{Signal}
-use Rattle.slee_disk.specs.Writes.{AppendsFront, Writes}
+use Rattle.slee_disk.specs.Writes.{Writes}
 use mathlib.Core.List.{IsPrefix}
 use Rattle.trace_history.specs.Histories.{inputs_of, input_of}
 use Rattle.trace_history.specs.declared.choice.Choice.{Choice}
@@ -28,7 +27,7 @@ use Rattle.router_rules.specs.declared.kindred.Kindred.TheVariants as kindreds
 use Rattle.router_rules.proofs.HistoryLemmas.{solo-none, IsOffered, least_offered, offered_enabled}
 use Rattle.slee_run.specs.Headline.{signals_limit, lines_given, MayFollow, EndsOn, ComesOn, IsByOne, AddsFirst, IsWritten}
 use Rattle.slee_run.specs.Opening.{journal_limit}
-use Rattle.slee_run.specs.Playing.{IsSpent, EndsAs, IsPlayed, status_after}
+use Rattle.slee_run.specs.Playing.{IsSpent, IsPlayed, status_after}
 use Rattle.slee_run.proofs.AdvanceLemmas.{some_least}
 use Rattle.slee_disk.specs.declared.reading.ReadFault.{ReadFault}
 use Rattle.slee_disk.specs.declared.reading.ReadFault.TheVariants as read_faults

@@ -1,5 +1,5 @@
 -- What a run leaves on its disk, by what its container keeps.
-use Rattle.std.proofs.Common.{◌≡◌, ◌≢◌, ◌⊎◌, inl, inr, ℕ, ◌+◌, ◌<◌, ◌≤◌, List, [], ◌∷◌, ◌++◌, length, length-append, take, drop, Bool, true, false, refl, sym, ◌∙◌, ap, subst, append-nil, Option, Some, None, Result, Ok, Err, IsOk, IsTrue, arith}
+use Rattle.std.proofs.Common.{◌≡◌, ◌≢◌, ◌⊎◌, inl, inr, ℕ, ◌≤◌, List, [], ◌∷◌, ◌++◌, length, length-append, take, drop, true, false, refl, sym, ◌∙◌, ap, subst, append-nil, Option, Some, Result, Ok, Err, IsOk, IsTrue, arith}
 use Rattle.std.proofs.lemmas.Bool.{cases_Bool}
 use Rattle.std.proofs.lemmas.List.{take_all, take-append-drop, length-take-le}
 use mathlib.Core.List.{IsPrefix}
@@ -7,19 +7,17 @@ use Rattle.slee_disk.specs.Sides.{Sides}
 use Rattle.slee_disk.specs.Disk.{DiskState, LeavesOnly, is_clean}
 use Rattle.slee_disk.proofs.Moments.{leaves_start, now_since, tells, clean_of, clean_told, clean_settled, clean_only}
 use Rattle.commit_journal.specs.Journal.{payloads_on}
-use Rattle.commit_journal.specs.Reading.{Wrong, Bad, Other}
+use Rattle.commit_journal.specs.Reading.{Wrong}
 use Rattle.commit_journal.specs.Spelling.{records_size}
 use Rattle.commit_journal.proofs.Sizes.{records_size-more}
 use Rattle.router_model.specs.State.{Parts, initial}
-use Rattle.router_rules.specs.History.{Legal, replay}
-use Rattle.router_rules.specs.Payload.{payloads}
-use Rattle.trace_history.specs.Histories.{choices_of}
+use Rattle.router_rules.specs.History.{replay}
 use Rattle.trace_history.specs.declared.entry.Entry.{Entry}
 use Rattle.router_journal.specs.declared.fault.Stop.{Stop}
 use Rattle.router_journal.specs.declared.fault.Stop.TheVariants as stops
 use Rattle.router_journal.specs.declared.fault.OpenFault.{OpenFault}
 use Rattle.router_journal.specs.declared.fault.OpenFault.TheVariants as faults
-use Rattle.router_journal.specs.Recovery.{restart, records, state_of, past}
+use Rattle.router_journal.specs.Recovery.{restart, records, state_of}
 use Rattle.router_journal.specs.Opening.{IsOpenCause, IsSmall, IsUntouched, IsUntouchedFor, IsLeftAlone, StandsFor}
 use Rattle.router_journal.specs.Core.{is_down, IsStopOf, IsHeld}
 use Rattle.router_journal.specs.Facts.{Origin, base_of, records_since, size_after, RestartsIn, HasRecords, HasRecordsOrMore}

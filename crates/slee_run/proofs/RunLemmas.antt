@@ -1,5 +1,5 @@
 -- What a run is, by what its words ask.
-use Rattle.std.proofs.Common.{◌≡◌, ◌≢◌, ◌⊎◌, inl, inr, ℕ, List, [], length, true, false, refl, sym, ◌∙◌, ap, subst, Option, Some, None, Result, Ok, Err, IsOk, IsTrue, IfSome, MatchOption, is_some, arith}
+use Rattle.std.proofs.Common.{◌≡◌, ◌≢◌, ◌⊎◌, inl, inr, ℕ, List, [], true, false, refl, sym, ◌∙◌, ap, subst, Option, Some, None, Result, Ok, Err, IsOk, IfSome, MatchOption, is_some, arith}
 use Rattle.signal_script.specs.declared.signal.Signal.{Signal}
 use Rattle.slee_disk.specs.Disk.{DiskState}
 use Rattle.commit_journal.specs.Reading.{Wrong, Bad, Other}
@@ -10,7 +10,7 @@ use Rattle.deploy_text.specs.declared.counts.Counts.{Counts}
 use Rattle.slee_run.specs.Words.{command_of}
 use Rattle.slee_run.specs.Status.{status_line}
 use Rattle.slee_run.specs.Text.{output_text, shown_text}
-use Rattle.slee_run.specs.Headline.{Plays, Shows, Checks, AsksLater, lines_given, EndsOn, ComesOn, IsShownAt, IsWritten, IsLegalRun, IsComplete, IsShown, IsWholeCheck}
+use Rattle.slee_run.specs.Headline.{Plays, Shows, Checks, lines_given, EndsOn, ComesOn, IsShownAt, IsWritten, IsLegalRun, IsComplete, IsShown, IsWholeCheck}
 use Rattle.slee_run.specs.Opening.{found, IsAnswerTo, IsGood}
 use Rattle.slee_run.specs.Answers.{IsPlayedBy, IsPlayFrom, IsShownBy, IsCheckedBy, IsFormOf}
 use Rattle.slee_run.specs.Checking.{IsTextFor, IsCheckedAt, IsAnswerFor}

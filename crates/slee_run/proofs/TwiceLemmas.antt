@@ -1,5 +1,5 @@
 -- Two runs over one disk.
-use Rattle.std.proofs.Common.{◌≡◌, ◌≢◌, ℕ, ◌≤◌, List, [], ◌∷◌, ◌++◌, length, refl, sym, ◌∙◌, ap, subst, append_assoc, append-nil, Option, Some, None, Ok, IsTrue, arith}
+use Rattle.std.proofs.Common.{◌≡◌, ◌≢◌, ℕ, List, [], ◌++◌, sym, ◌∙◌, ap, subst, append_assoc, Option, Some, None, Ok, IsTrue, arith}
 use Rattle.slee_disk.specs.Sides.{Sides}
 use Rattle.slee_disk.specs.Disk.{DiskState, IsAtRest, is_clean}
 use Rattle.slee_disk.proofs.Moments.{clean_told, rest_is_clean}

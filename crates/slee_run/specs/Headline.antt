@@ -1,5 +1,5 @@
 -- What a run is: a legal history of the signal lines, its text, and a status with its cause.
-use Rattle.std.specs.Prelude.{◌≡◌, ◌≢◌, ◌⊎◌, ℕ, ◌+◌, ◌<◌, ◌≤◌, nat_le, Bool, true, false, IsTrue, IsOk, if◌then◌else◌, is_some, List, [], ◌∷◌, ◌++◌, length, Ok, Err, Some, None, IfSome, MatchOption}
+use Rattle.std.specs.Prelude.{◌≡◌, ◌≢◌, ◌⊎◌, ℕ, ◌+◌, ◌<◌, ◌≤◌, nat_le, true, false, IsTrue, IsOk, if◌then◌else◌, is_some, List, [], ◌∷◌, ◌++◌, length, Ok, Err, Some, None, IfSome, MatchOption}
 use mathlib.Core.List.{IsPrefix}
 use Rattle.std.specs.Io.KnownBytes.{Appends}
 use Rattle.std.specs.List.{list_all}

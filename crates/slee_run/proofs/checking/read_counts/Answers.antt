@@ -1,4 +1,4 @@
-use Rattle.std.proofs.Common.{◌≡◌, List, ℕ, ◌∙◌, sym, ap, subst, Err, IfSome}
+use Rattle.std.proofs.Common.{◌∙◌, sym, ap, subst, Err, IfSome}
 use Rattle.slee_run.specs.Checking.{IsBarred, IsCheckedAt}
 use Rattle.slee_run.specs.Answers.{IsEarly}
 use Rattle.slee_run.specs.declared.status.Given.TheVariants as givens

@@ -1,11 +1,9 @@
-use Rattle.std.proofs.Common.{◌≡◌, ◌≢◌, ℕ, List, [], ◌∙◌, sym, ap, subst, Err, IfSome}
+use Rattle.std.proofs.Common.{ℕ, [], ◌∙◌, sym, ap, subst, Err, IfSome}
 use Rattle.router_model.specs.State.{Parts}
 use Rattle.slee_run.specs.Headline.{ComesOn}
 use Rattle.slee_run.specs.Answers.{IsEarly}
 use Rattle.slee_run.specs.declared.status.Status.{Status}
-use Rattle.slee_run.specs.declared.status.Status.TheVariants as statuses
 use Rattle.slee_run.specs.declared.status.Given.TheVariants as givens
-use Rattle.slee_disk.specs.declared.reading.ReadFault.{ReadFault}
 use Rattle.slee_run.proofs.EndLemmas.{reading_refused, reading_early, reading_words, reading_failed, reading_large}
 use Rattle.slee_run.proofs.reading.read_lines.Goals as goal
 

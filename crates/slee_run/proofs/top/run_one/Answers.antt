@@ -1,6 +1,6 @@
-use Rattle.std.proofs.Common.{◌≡◌, inl, inr, sym}
+use Rattle.std.proofs.Common.{inl, inr, sym}
 use Rattle.slee_run.specs.Words.{texts}
-use Rattle.slee_run.proofs.RunLemmas.{run_of_bad, run_of_later, run_of_play, run_of_show, run_of_check, complete, check_whole}
+use Rattle.slee_run.proofs.RunLemmas.{run_of_bad, run_of_later, run_of_play, run_of_check, complete, check_whole}
 use Rattle.slee_run.proofs.top.run_one.Goals as goal
 
 pub returns-in-None-clause-headline : goal.returns-in-None-clause-headline
