@@ -1,9 +1,10 @@
 //! Sides that aren't a journal of this program, or not one of this deployment.
+use crate::comparing::compare;
 use slee_disk::Side;
 use std::alloc::Global;
 use std::process::Abort;
 use std::test::Fail;
-use whole_runs::running::{Wanted, compare, disk_of, run_over};
+use whole_runs::running::{Wanted, disk_of, run_over};
 
 const OTHER_DEPLOYMENT: Wanted = Wanted {
     code: 9,

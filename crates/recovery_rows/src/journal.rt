@@ -1,12 +1,11 @@
 //! Runs that go on from the journal of an earlier one.
+use crate::comparing::compare;
 use slee_disk::{MemoryDisk, Side};
 use std::alloc::Global;
 use std::process::Abort;
 use std::test::Fail;
 use whole_runs::one_call::{PLAY, SHOW, show};
-use whole_runs::running::{
-    Failing, Ran, Wanted, compare, empty_disk, run_alone, run_over, text_of,
-};
+use whole_runs::running::{Failing, Ran, Wanted, empty_disk, run_alone, run_over, text_of};
 
 // Words, lines, and what comes of the run.
 type Step = (&'static [&'static str], &'static str, Wanted);

@@ -1,10 +1,11 @@
 //! Lines that are bad, lines that aren't taken yet, and more bytes than are read.
+use crate::comparing::compare;
 use slee_disk::{MemorySink, MemorySource};
 use slee_value::Blob;
 use std::alloc::Global;
 use std::process::Abort;
 use std::test::Fail;
-use whole_runs::running::{Ran, SOUND, Wanted, compare, empty_disk, run, run_alone, text_of};
+use whole_runs::running::{Ran, SOUND, Wanted, empty_disk, run, run_alone, text_of};
 
 const NOT_BUILT: Wanted = Wanted {
     code: 14,

@@ -1,9 +1,10 @@
 //! Calls of the built-in service, and their traces.
+use crate::comparing::compare;
 use std::alloc::Global;
 use std::process::Abort;
 use std::test::Fail;
 use whole_runs::one_call::{CALL, CALL_TRACE};
-use whole_runs::running::{SOUND, Wanted, compare, run_alone};
+use whole_runs::running::{SOUND, Wanted, run_alone};
 
 // Lines that are played in so many entries at most, and what is printed.
 struct Row {

@@ -1,8 +1,9 @@
 //! Words of the command line, and what they are taken for.
+use crate::comparing::compare;
 use std::alloc::Global;
 use std::process::Abort;
 use std::test::Fail;
-use whole_runs::running::{Failing, Wanted, compare, run_alone};
+use whole_runs::running::{Failing, Wanted, run_alone};
 
 // Words are refused before anything is read.
 const NOTHING_READ: Failing<'static> = Failing {

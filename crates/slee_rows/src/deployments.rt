@@ -1,10 +1,11 @@
 //! Checks of deployments. No check reads the signals or touches the disk, each of which would fail at once.
-use crate::running::{Failing, Ran, SOUND, Wanted, compare, run_on, text_of};
+use crate::comparing::compare;
 use slee_disk::{MemoryDisk, MemorySink, MemorySource};
 use slee_value::{Blob, NoMemory};
 use std::alloc::Global;
 use std::process::Abort;
 use std::test::Fail;
+use whole_runs::running::{Failing, Ran, SOUND, Wanted, run_on, text_of};
 
 const CHECK: &[&str] = &["check"];
 

@@ -1,8 +1,9 @@
 //! Reads of the lines and writes of the text that fail.
+use crate::comparing::compare;
 use std::alloc::Global;
 use std::process::Abort;
 use std::test::Fail;
-use whole_runs::running::{Failing, Ran, Wanted, compare, run_alone};
+use whole_runs::running::{Failing, Ran, Wanted, run_alone};
 
 const LINES: &[u8] = b"start c1\nstart c1\n";
 

@@ -3,7 +3,6 @@ use slee_disk::{MemoryDisk, MemorySink, MemorySource};
 use slee_run::run_one;
 use slee_value::{Blob, NoMemory};
 use std::alloc::Global;
-use std::process::Abort;
 
 /// What a run printed, the status that it ended with, and the disk that it left.
 #[derive(Drop)]
@@ -120,10 +119,4 @@ pub fn run_over(
 pub struct Wanted {
     pub code: u8,
     pub printed: &'static str,
-}
-
-/// Compares what came of a run.
-pub fn compare(rt: &impl Abort, ran: &Ran, wanted: Wanted) {
-    assert_eq!(rt; text_of(ran), wanted.printed);
-    assert_eq!(rt; ran.code, wanted.code);
 }
