@@ -17,15 +17,10 @@ fn failing_disk(alloc: Global) -> Result<MemoryDisk, NoMemory> {
     MemoryDisk::new(alloc, Blob::new(alloc), Blob::new(alloc), fails)
 }
 
-// Checks a deployment that comes in pieces of so many bytes, with these reads of it and these writes failing.
-fn check(
-    alloc: Global,
-    deployment: &[u8],
-    piece: u64,
-    failing: Failing<'_>,
-) -> Result<Ran, NoMemory> {
+// Checks a deployment that comes byte by byte, with these reads of it and these writes failing.
+fn check(alloc: Global, deployment: &[u8], failing: Failing<'_>) -> Result<Ran, NoMemory> {
     let deploy = Blob::from_slice(alloc, deployment)?;
-    let deploy = MemorySource::new(deploy, piece, Blob::from_slice(alloc, failing.reads)?);
+    let deploy = MemorySource::new(deploy, 1, Blob::from_slice(alloc, failing.reads)?);
     let signals = MemorySource::new(Blob::new(alloc), 1, Blob::from_slice(alloc, FIRST_FAILS)?);
     let out = MemorySink::new(alloc, Blob::from_slice(alloc, failing.writes)?);
     Ok(run_on(alloc, CHECK, deploy, signals, out, failing_disk(alloc)?))
@@ -88,7 +83,7 @@ fn prepaid_with(alloc: Global, script: &str) -> Result<Vec<u8>, Fail> {
 fn a_deployment_is_counted_or_its_first_script_fault_is_told(rt: HostRuntime) -> Result<(), Fail> {
     for (script, wanted) in SCRIPTS {
         let text = prepaid_with(rt.alloc(), script)?;
-        let ran = check(rt.alloc(), &text, 7, SOUND)?;
+        let ran = check(rt.alloc(), &text, SOUND)?;
         expect(&rt, &ran, *wanted);
     }
     Ok(())
@@ -160,7 +155,7 @@ const TEXTS: &[(&[u8], Wanted)] = &[
 #[test]
 fn the_first_fault_of_bytes_is_told(rt: HostRuntime) -> Result<(), Fail> {
     for (text, wanted) in TEXTS {
-        let ran = check(rt.alloc(), text, 7, SOUND)?;
+        let ran = check(rt.alloc(), text, SOUND)?;
         expect(&rt, &ran, *wanted);
     }
     Ok(())
@@ -182,7 +177,7 @@ fn nested(alloc: Global, depth: usize) -> Result<Vec<u8>, Fail> {
 fn too_many_nested_lists_are_no_json(rt: HostRuntime) -> Result<(), Fail> {
     for (depth, wanted) in [(127, NO_OBJECT), (128, JSON)] {
         let text = nested(rt.alloc(), depth)?;
-        expect(&rt, &check(rt.alloc(), &text, 7, SOUND)?, wanted);
+        expect(&rt, &check(rt.alloc(), &text, SOUND)?, wanted);
     }
     Ok(())
 }
@@ -223,7 +218,7 @@ const FAULTS: &[(&[u8], &[u8], Wanted)] = &[
 fn a_fault_of_reading_or_writing_is_told(rt: HostRuntime) -> Result<(), Fail> {
     for (reads, writes, wanted) in FAULTS {
         let failing = Failing { reads, writes };
-        expect(&rt, &check(rt.alloc(), b"{}", 1, failing)?, *wanted);
+        expect(&rt, &check(rt.alloc(), b"{}", failing)?, *wanted);
     }
     Ok(())
 }
@@ -236,7 +231,7 @@ const TOO_LARGE: Wanted = Wanted {
 // An empty deployment with blanks behind it, in all so many bytes.
 fn filled(alloc: Global, length: usize) -> Result<Vec<u8>, Fail> {
     let mut text = Vec::from_slice(alloc, b"{}")?;
-    while text.len() < length {
+    for _ in 2..length {
         text.push(b' ')?;
     }
     Ok(text)
@@ -246,7 +241,7 @@ fn filled(alloc: Global, length: usize) -> Result<Vec<u8>, Fail> {
 fn a_deployment_has_a_megabyte_at_most(rt: HostRuntime) -> Result<(), Fail> {
     for (length, wanted) in [(1_048_576, EMPTY), (1_048_577, TOO_LARGE)] {
         let text = filled(rt.alloc(), length)?;
-        expect(&rt, &check(rt.alloc(), &text, 65_536, SOUND)?, wanted);
+        expect(&rt, &check(rt.alloc(), &text, SOUND)?, wanted);
     }
     Ok(())
 }
@@ -263,7 +258,7 @@ fn is_answered(ran: &Ran) -> bool {
 
 #[test]
 fn a_refused_allocation_is_told(rt: HostRuntime) -> Result<(), Fail> {
-    if let Ok(ran) = check(rt.alloc(), b"{}", 1, SOUND) {
+    if let Ok(ran) = check(rt.alloc(), b"{}", SOUND) {
         assert!(rt; is_answered(&ran), "status {}: {}", ran.code, text_of(&ran));
         assert_eq!(rt; ran.disk.calls(), 0);
     }
