@@ -2,6 +2,7 @@
 use Rattle.std.specs.Prelude.{◌≡◌, ℕ, ◌^◌, ◌<◌, ◌≤◌, ◌==◌, nat_le, Bool, true, false, not, ◌&&◌, if◌then◌else◌, is_none, IsTrue, List, [], ◌∷◌, map, filter, length}
 use Rattle.std.specs.List.{AllByRecursion, list_any, list_all}
 use Rattle.std.specs.Str.{bytes_eq, is_utf8}
+use Rattle.signal_script.specs.Lines.{line_limit}
 use Rattle.slee_value.specs.Name.{is_name}
 use Rattle.slee_value.specs.declared.value.Value.{Value}
 use Rattle.slee_value.specs.declared.value.Value.TheVariants as values
@@ -60,10 +61,10 @@ pub record IsBuiltInActivity (row : Activity) : Type 0 where
   pub number : 1 ≤ row.number.0
   pub kind : IsTrue (is_external row.kind)
 
--- a text of at most 4,096 bytes, which are UTF-8, as a line has
+-- a text of no more bytes than a line has, which are UTF-8
 abbrev pub is_short_text : Value → Bool
 is_short_text (values.Int n) = false
-is_short_text (values.Text text) = nat_le (length text) 4096 && is_utf8 text
+is_short_text (values.Text text) = nat_le (length text) line_limit && is_utf8 text
 is_short_text (values.Bool b) = false
 is_short_text (values.Activity a) = false
 is_short_text (values.Timer t) = false

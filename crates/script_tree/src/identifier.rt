@@ -3,18 +3,14 @@ ghost use Rattle.std.specs.Prelude.{◌≡◌, IsTrue, IfOk};
 ghost use Rattle.script_tree.specs.Words.{is_identifier};
 
 use crate::NameRef;
-use slee_value::NoMemory;
-use smallvec::SmallVec;
+use slee_value::{Name, NoMemory};
 use std::alloc::Global;
 use std::marker::Model;
-
-/// How many bytes of a name are kept in the tree itself; a longer name is kept apart.
-pub const SHORT_NAME: usize = 16;
 
 /// A name that a script can write: one that is no word of the language and no function's.
 #[derive(Drop)]
 pub struct Identifier {
-    bytes: SmallVec<u8, SHORT_NAME>,
+    name: Name,
 }
 
 impl Model for Identifier {
@@ -23,9 +19,9 @@ impl Model for Identifier {
 
     ghost Value = { List ℕ };
 
-    ghost view = { λ i. i.bytes.items };
+    ghost view = { λ i. i.name };
 
-    ghost invariant = { λ i. IsTrue (is_identifier i.bytes.items) };
+    ghost invariant = { λ i. IsTrue (is_identifier i.name) };
 }
 
 impl Identifier {
@@ -35,7 +31,7 @@ impl Identifier {
         ensures { IfOk result (λ i. i ≡ bytes.now) }
     {
         Ok(Identifier {
-            bytes: SmallVec::from_slice(alloc, bytes)?,
+            name: Name::from_slice(alloc, bytes)?,
         })
     }
 
@@ -43,7 +39,7 @@ impl Identifier {
         ensures same { result.now ≡ self.now }
         ensures identifier { IsTrue (is_identifier self.now) }
     {
-        self.bytes.as_slice()
+        self.name.as_bytes()
     }
 
     /// The name where it stands.
