@@ -1,2 +1,3 @@
+mod BuiltInLemmas
 pub mod Noting
 pub mod NotingIds

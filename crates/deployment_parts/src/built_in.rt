@@ -6,6 +6,7 @@ use built_in_events::BuiltInEvent;
 use slee_value::Kind;
 
 /// Whether an event is built in.
+#[tactic(auto, using(crate::proofs::BuiltInLemmas::built_in_named))]
 pub fn is_built_in(event: &str) -> bool
     ensures { result ≡ built_in_so event.now }
 {
@@ -13,6 +14,7 @@ pub fn is_built_in(event: &str) -> bool
 }
 
 /// The type of a field of a built-in event.
+#[tactic(auto, using(crate::proofs::BuiltInLemmas::built_in_field_named))]
 pub fn built_in_field(event: &str, field: &str) -> Option<Kind>
     ensures { result ≡ built_in_field_so event.now field.now }
 {

@@ -5,9 +5,8 @@ ghost use Rattle.deployment_parts.specs.Firsts.{found_in, answer_of, only_at};
 ghost use Rattle.deployment_parts.specs.Rules.{or_later};
 ghost use Rattle.deployment_parts.specs.Tables.{key_number, kind_of};
 
-use crate::rule::Named;
 use indexmap::IndexMap;
-use script_types::CodeList;
+use script_types::Named;
 use slee_value::{Kind, Name, NoMemory};
 use std::alloc::Global;
 

@@ -9,8 +9,9 @@ ghost use Rattle.deployment_parts.specs.Tables.{version as version_so, identity 
 use crate::fault::{DeployBad, DeployFault, here, unless};
 use crate::first::{Firsts, Numbers};
 use crate::ids::{Component, Ids};
-use crate::rule::{Named, Rule, check_member};
+use crate::rule::{Rule, check_member};
 use built_in_events::BuiltInEvent;
+use script_types::Named;
 use slee_value::{ComponentId, Kind, Name, Text};
 use std::alloc::Global;
 

@@ -22,5 +22,4 @@ pub use leaf::LABEL_LIMIT;
 pub use parts::{
     Block, BlockEvent, CustomRule, EventType, Method, Parts, ProfileSpec, Relation, Service, Table,
 };
-pub use rule::Named;
 pub use walk::check_parts;

@@ -3,9 +3,8 @@
 ghost use Rattle.std.specs.Prelude.{◌≡◌};
 
 use crate::ids::Component;
-use crate::rule::Named;
 use script_tree::Script;
-use script_types::CodeList;
+use script_types::{CodeList, Named};
 use slee_value::{ComponentId, Kind, Name, Text};
 
 /// An event type (JSR 240, chapter 8). The built-in ones are in no list.
@@ -169,22 +168,6 @@ impl Named for Service {
 
     fn name(&self) -> &str {
         self.key.as_str()
-    }
-}
-
-impl Named for (Name, Kind) {
-    ghost name_of = { λ x. x.0 };
-
-    fn name(&self) -> &str {
-        self.0.as_str()
-    }
-}
-
-impl Named for (Name, Name) {
-    ghost name_of = { λ x. x.0 };
-
-    fn name(&self) -> &str {
-        self.0.as_str()
     }
 }
 

@@ -4,7 +4,7 @@ ghost use Rattle.deployment_parts.specs.Faults.{Says, under, and_then};
 ghost use Rattle.deployment_parts.specs.Rules.{items, items_from, entries as all_entries};
 
 use crate::fault::DeployFault;
-use script_types::CodeList;
+use script_types::{CodeList, Named};
 use std::alloc::Global;
 
 /// A rule for a part that stands in the item of this number.
@@ -62,16 +62,6 @@ fn check_item<A, R: Rule<A>>(alloc: Global, rule: &R, i: usize, part: &A) -> Res
         Ok(()) => Ok(()),
         Err(fault) => Err(fault.under(alloc, format!(in alloc; "{i}")?.as_str())),
     }
-}
-
-/// What has a name of its own.
-pub trait Named {
-    ghost use Rattle.std.specs.Prelude.{ℕ, List};
-
-    ghost name_of: { Self → List ℕ };
-
-    fn name(&self) -> &str
-        ensures { result.now ≡ name_of self.now };
 }
 
 /// An object that is a map, each member under its own name.

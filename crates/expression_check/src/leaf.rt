@@ -13,7 +13,7 @@ use crate::{
     check_value,
 };
 use script_tree::{Constant, Identifier, Leaf};
-use script_types::{Atom, CheckBad, FieldCode, Misuse};
+use script_types::{Atom, CheckBad, FieldCode, Misuse, NamedList};
 use slee_value::{ActivityId, Kind, Value};
 
 /// What an expression without parts is made into.
@@ -130,7 +130,7 @@ fn check_failure(role: &Role, at: usize) -> Result<TypedAtom, ScriptFault>
 fn check_field(setting: &Setting, at: usize, name: &Identifier) -> Result<TypedAtom, ScriptFault>
     ensures { Gives typed_atom_of result (leaf_of (setting_of setting.now) [] at (leaves.Field name.now)) }
 {
-    let fields = setting.block.fields.as_slice();
+    let fields = &setting.block.fields;
     let kind = check_known(behind(at, 2)?, kind_of_field(fields, name.as_bytes()))?;
     Ok(TypedAtom {
         kind,
@@ -139,18 +139,16 @@ fn check_field(setting: &Setting, at: usize, name: &Identifier) -> Result<TypedA
 }
 
 /// A field of an event by its place.
-fn event_field(fields: &[FieldCode], name: &[u8]) -> Option<TypedAtom>
+#[tactic(auto, using(crate::proofs::LookupLemmas::event_field_is))]
+fn event_field(fields: &NamedList<FieldCode>, name: &[u8]) -> Option<TypedAtom>
     ensures { option_map typed_atom_of result ≡ event_field 0 name.now fields.now }
 {
-    'fields: for (place, field) in fields.iter().enumerate() {
-        if field.name.as_bytes() == name {
-            return Some(TypedAtom {
-                kind: field.kind,
-                atom: Atom::EventField(place, field.kind),
-            });
-        }
-    }
-    None
+    let place = fields.place_of(name)?;
+    let field = fields.find(name)?;
+    Some(TypedAtom {
+        kind: field.kind,
+        atom: Atom::EventField(place, field.kind),
+    })
 }
 
 /// `event.NAME`, which is for handlers.

@@ -19,8 +19,8 @@ pub use fault::{ScriptFault, check_known, check_test};
 pub use kind::{as_kind, expr_as_kind, expr_serves, is_nothing, none_of, same_kind, serves};
 pub use leaf::{TypedAtom, check_leaf, tokens_of_leaf};
 pub use lookup::{
-    attribute_named, event_named, field_named, is_built_in, is_event, is_table, kind_in_row,
-    kind_of_field, name_of, place_of_table, relation_named, table_named,
+    attribute_named, event_named, is_built_in, is_event, is_table, kind_in_row, kind_of_field,
+    name_of, place_of_table, relation_named, table_named,
 };
 pub use position::behind;
 pub use scope::{

@@ -1,13 +1,14 @@
 //! What names of scripts stand for: fields, attributes, relations, tables and events.
 ghost use Rattle.std.specs.Prelude.{◌≡◌, IfOk, bytes_eq, is_some, option_copied, position};
 ghost use Rattle.std.specs.List.{list_any};
-ghost use Rattle.script_types.specs.Codes.{named, kind_in, relation_named, declared_event, any_event, table_named, row_kind, built_in};
+ghost use Rattle.script_types.specs.Codes.{kind_in, relation_named, declared_event, any_event, table_named, row_kind, built_in};
 ghost use Rattle.script_types.specs.CodesOf.{codes_of, block_of_code};
 ghost use Rattle.script_types.specs.Elaboration.{attribute_named};
 
+use built_in_events::BuiltInEvent;
 use script_tree::Identifier;
 use script_types::{
-    AttributeCode, BlockCode, Codes, EventCode, FieldCode, RelationCode, TableCode,
+    AttributeCode, BlockCode, Codes, EventCode, FieldCode, NamedList, RelationCode, TableCode,
 };
 use slee_value::{Kind, Name, NoMemory};
 use std::alloc::Global;
@@ -21,18 +22,11 @@ pub fn name_of(alloc: Global, identifier: &Identifier) -> Result<Name, NoMemory>
     Name::from_slice(alloc, bytes)
 }
 
-/// The field of that name.
-pub fn field_named<'a>(fields: &'a [FieldCode], name: &[u8]) -> Option<&'a FieldCode>
-    ensures { option_copied result ≡ named (λ f. f.name) name.now fields.now }
-{
-    fields.iter().find(|field| field.name.as_bytes() == name)
-}
-
-/// Its type.
-pub fn kind_of_field(fields: &[FieldCode], name: &[u8]) -> Option<Kind>
+/// The type of the field of that name.
+pub fn kind_of_field(fields: &NamedList<FieldCode>, name: &[u8]) -> Option<Kind>
     ensures { result ≡ kind_in name.now fields.now }
 {
-    let field = field_named(fields, name)?;
+    let field = fields.find(name)?;
     Some(field.kind)
 }
 
@@ -40,38 +34,28 @@ pub fn kind_of_field(fields: &[FieldCode], name: &[u8]) -> Option<Kind>
 pub fn relation_named<'a>(block: &'a BlockCode, name: &[u8]) -> Option<&'a RelationCode>
     ensures { option_copied result ≡ relation_named name.now (block_of_code block.now) }
 {
-    let relations = block.relations.as_slice();
-    relations
-        .iter()
-        .find(|relation| relation.name.as_bytes() == name)
+    block.relations.find(name)
 }
 
 /// The block's attribute of activities with that name.
 pub fn attribute_named<'a>(block: &'a BlockCode, name: &[u8]) -> Option<&'a AttributeCode>
     ensures { option_copied result ≡ attribute_named name.now (block_of_code block.now) }
 {
-    let attributes = block.attributes.as_slice();
-    attributes
-        .iter()
-        .find(|attribute| attribute.name.as_bytes() == name)
+    block.attributes.find(name)
 }
 
 /// The place of the table of that name.
 pub fn place_of_table(codes: &Codes, name: &[u8]) -> Option<usize>
     ensures { result ≡ position (λ x. bytes_eq x.name name.now) codes.now.tables }
 {
-    let tables = codes.tables.as_slice();
-    tables
-        .iter()
-        .position(|table| table.name.as_bytes() == name)
+    codes.tables.place_of(name)
 }
 
 /// The table of that name.
 pub fn table_named<'a>(codes: &'a Codes, name: &[u8]) -> Option<&'a TableCode>
     ensures { option_copied result ≡ table_named name.now (codes_of codes.now) }
 {
-    let tables = codes.tables.as_slice();
-    tables.iter().find(|table| table.name.as_bytes() == name)
+    codes.tables.find(name)
 }
 
 /// Whether there is a table of that name.
@@ -86,27 +70,22 @@ pub fn kind_in_row(codes: &Codes, table: &[u8], name: &[u8]) -> Option<Kind>
     ensures { result ≡ row_kind table.now name.now (codes_of codes.now) }
 {
     let table = table_named(codes, table)?;
-    kind_of_field(table.attributes.as_slice(), name)
+    kind_of_field(&table.attributes, name)
 }
 
 /// The event of that name, where the deployment declares it.
 pub fn event_named<'a>(codes: &'a Codes, name: &[u8]) -> Option<&'a EventCode>
     ensures { option_copied result ≡ declared_event name.now (codes_of codes.now) }
 {
-    let events = codes.events.as_slice();
-    events.iter().find(|event| event.name.as_bytes() == name)
+    codes.events.find(name)
 }
 
 /// Whether an event of that name is built in.
+#[tactic(auto, using(crate::proofs::LookupLemmas::built_in_is))]
 pub fn is_built_in(name: &[u8]) -> bool
     ensures { result ≡ list_any (λ e. bytes_eq e.name name.now) built_in }
 {
-    b"activity-end".as_slice() == name
-        || b"timer".as_slice() == name
-        || b"service-started".as_slice() == name
-        || b"profile-added".as_slice() == name
-        || b"profile-updated".as_slice() == name
-        || b"profile-removed".as_slice() == name
+    BuiltInEvent::named(name).is_some()
 }
 
 /// Whether an event of that name is declared or built in.

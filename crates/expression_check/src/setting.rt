@@ -5,7 +5,7 @@ ghost use Rattle.expression_check.specs.Answers.{Gives};
 ghost use Rattle.expression_check.specs.SettingOf.{setting_of, role_of};
 
 use crate::{ScriptFault, check_test};
-use script_types::{BlockCode, CheckBad, Codes, FieldCode};
+use script_types::{BlockCode, CheckBad, Codes, FieldCode, NamedList};
 use slee_value::Kind;
 use std::alloc::Global;
 
@@ -13,7 +13,7 @@ use std::alloc::Global;
 #[derive(Drop)]
 pub enum Role<'a> {
     /// A handler, with the fields of its event.
-    OnEvent(&'a [FieldCode]),
+    OnEvent(&'a NamedList<FieldCode>),
     /// A method, with the type of its result.
     InMethod(Option<Kind>),
     OnException,

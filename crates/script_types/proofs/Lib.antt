@@ -1,3 +1,4 @@
+mod PlaceLemmas
 mod TypingExamples
 pub mod TypingLaws
 pub mod ScopeLaws

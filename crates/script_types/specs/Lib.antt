@@ -1,3 +1,4 @@
+pub mod Places
 pub mod Codes
 pub mod CodesOf
 pub mod TypingResult

@@ -1,6 +1,6 @@
 //! What scripts may name: events, tables, and blocks with their fields, relations and methods.
 
-use crate::{BlockSteps, CodeList};
+use crate::{BlockSteps, CodeList, NamedList};
 use script_tree::Script;
 use slee_value::{Kind, Name, Text};
 
@@ -12,19 +12,19 @@ pub struct FieldCode {
 }
 
 /// An event type that the deployment declares. The built-in ones are in no list.
-#[derive(Debug, Drop)]
+#[derive(Drop)]
 pub struct EventCode {
     pub name: Name,
     /// In byte order.
-    pub fields: CodeList<FieldCode>,
+    pub fields: NamedList<FieldCode>,
 }
 
 /// A profile table. Its number is its place in the list of tables, from 1.
-#[derive(Debug, Drop)]
+#[derive(Drop)]
 pub struct TableCode {
     pub name: Name,
     /// In byte order.
-    pub attributes: CodeList<FieldCode>,
+    pub attributes: NamedList<FieldCode>,
 }
 
 /// An attribute of activities as one block names it.
@@ -71,13 +71,13 @@ pub struct MethodCode {
 pub struct BlockCode {
     pub key: Name,
     /// In byte order, as are the attributes and relations.
-    pub fields: CodeList<FieldCode>,
-    pub attributes: CodeList<AttributeCode>,
-    pub relations: CodeList<RelationCode>,
+    pub fields: NamedList<FieldCode>,
+    pub attributes: NamedList<AttributeCode>,
+    pub relations: NamedList<RelationCode>,
     /// In the deployment's order.
     pub handlers: CodeList<HandlerCode>,
     /// In byte order.
-    pub methods: CodeList<MethodCode>,
+    pub methods: NamedList<MethodCode>,
     pub exception: Option<Script>,
     pub rolled_back: Option<Script>,
     pub remove: Option<Script>,
@@ -86,11 +86,11 @@ pub struct BlockCode {
 /// All that scripts may name, and the scripts. Each name stands once in its list.
 #[derive(Drop)]
 pub struct Codes {
-    pub events: CodeList<EventCode>,
+    pub events: NamedList<EventCode>,
     /// In byte order.
-    pub tables: CodeList<TableCode>,
+    pub tables: NamedList<TableCode>,
     /// The keys of the services.
-    pub services: CodeList<Name>,
+    pub services: NamedList<Name>,
     /// In the deployment's order.
     pub blocks: CodeList<BlockCode>,
     /// What the scripts are made into, block by block; nothing until they are checked.

@@ -8,6 +8,9 @@ mod code_list;
 mod codes;
 mod laws;
 mod misuse;
+mod named;
+mod named_list;
+mod places;
 mod step;
 mod term;
 
@@ -27,5 +30,8 @@ pub use laws::{
     well_typed_codes_have_no_fault,
 };
 pub use misuse::{CheckBad, Misuse};
+pub use named::Named;
+pub use named_list::NamedList;
+pub use places::Places;
 pub use step::{Range, Who};
 pub use term::{Atom, Joint, Question, Scale, Test};
