@@ -5,6 +5,7 @@ mod arithmetic;
 mod comparing;
 mod effect_bytes;
 mod effects;
+mod frames;
 mod keys;
 mod kinds;
 mod machine;
@@ -18,6 +19,7 @@ mod variables;
 
 pub use comparing::{is_decided, is_same_ref};
 pub use effects::{EFFECT_BYTES_LIMIT, EFFECT_LIMIT};
+pub use frames::Finished;
 pub use keys::{is_same_key, kept_answer};
 pub use kinds::{activity_of, flag_of, int_of, text_of, timer_of};
 pub use machine::{Machine, UNIT_LIMIT};

@@ -1,0 +1,63 @@
+-- Operands side by side run as operators in one another.
+use Rattle.std.proofs.Common.{◌≡◌, ◌<◌, ◌+◌, ◌-◌, false, Bool, ℕ, zero, suc, List, [], ◌∷◌, length, drop, get_or, Vec, Box, Global, refl, sym, ap, ◌∙◌, subst, arith, drop-cons, add-one}
+use Rattle.std.specs.Prelude.{cond}
+use Rattle.slee_effect.specs.declared.value.Val.{Val}
+use Rattle.script_types.specs.declared.term.Joint.{Joint}
+use Rattle.script_types.specs.declared.checked_term.Term as t
+use Rattle.script_types.specs.declared.checked_term.Term.{Term as TermInMemory}
+use Rattle.script_types.specs.Program.{Term, Combine}
+use Rattle.script_types.specs.ProgramOf.{term_of, combine_of, combined}
+use Rattle.script_types.proofs.ProgramRows.{chain_term}
+use Rattle.handler_meaning.specs.Running.{Setting, State, Ending, Gave, Broke, Needs, Stays, Run, then_run, give, tick, tick_at}
+use Rattle.handler_meaning.specs.Values.{apply, decides}
+use Rattle.handler_meaning.specs.Terms.{eval, combine}
+use Rattle.script_machine.specs.declared.stop.Stop.{Stop}
+use Rattle.script_machine.specs.Agreeing.{Stops}
+use Rattle.term_run.specs.Links.{spend, linked}
+use Rattle.term_run.proofs.RunLemmas.{stops_then, then_give, assoc}
+
+module _ (s : Setting) (a : Term) (y : Joint × TermInMemory) (more : List (Joint × TermInMemory)) where
+  abbrev inside : Unit {0} → Run Val
+  inside u st = then_run (eval s (Combine y.0 a (term_of y.1)) st) (linked s more)
+
+  abbrev behind : Unit {0} → Run Val
+  behind u st = then_run (eval s a st) (linked s (y ∷ more))
+
+  inner : (n : ℕ) (st : State) → then_run (then_run (tick_at n st) (λ _ st. then_run (eval s a st) (λ x. combine y.0 x (eval s (term_of y.1))))) (linked s more) ≡ then_run (tick_at n st) behind
+  inner zero st = refl
+  inner (suc n) st = assoc (eval s a (record st { left = n })) (λ x. combine y.0 x (eval s (term_of y.1))) (linked s more)
+
+  outer : (e : Ending (Unit {0})) → then_run e inside ≡ then_run (then_run e (λ _. tick)) behind
+  outer (Gave u st) = inner st.left st
+  outer (Broke kind text st) = refl
+  outer (Needs key) = refl
+  outer Stays = refl
+
+chain_run : (s : Setting) (a : Term) (xs : List (Joint × TermInMemory)) (st : State) → eval s (combined a xs) st ≡ then_run (spend (length xs) st) (λ _ st. then_run (eval s a st) (linked s xs))
+chain_run s a [] st = then_give (eval s a st)
+chain_run s a (y ∷ more) st = chain_run s (Combine y.0 a (term_of y.1)) more st ∙ outer s a y more (spend (length more) st)
+
+-- what a chain does: the units of its operators behind the first, the first with its operands, and what stands behind
+pub chain_eval : (s : Setting) (x : TermInMemory) (a : Box (TermInMemory × Joint × TermInMemory) Global) (v : Vec (Joint × TermInMemory) Global) (n : ℕ) (st : State) → x ≡ t.Chain a v → n ≡ length v.items → eval s (term_of x) st ≡ then_run (spend n st) (λ _ st. then_run (eval s (combine_of a.value) st) (linked s v.items))
+chain_eval s x a v n st is len =
+    ap (λ x. eval s (term_of x) st) is ∙ ap (λ x. eval s x st) (chain_term a v) ∙ chain_run s (combine_of a.value) v.items st
+    ∙ ap (λ n. then_run (spend n st) (λ _ st. then_run (eval s (combine_of a.value) st) (linked s v.items))) (sym len)
+
+spend_more : (k i : ℕ) (st new : State) (e : Stop) → Stops (spend i st) new e → Stops (spend (k + i) st) new e
+spend_more zero i st new e h = let z : zero + i ≡ i = omega arith in rw z h
+spend_more (suc k) i st new e h = let z : suc k + i ≡ suc (k + i) = omega arith in rw z (stops_then (spend (k + i) st) (λ _. tick) new e (spend_more k i st new e h))
+
+-- where a unit is missing, all of them can't be spent
+pub spend_stops : (n i : ℕ) (st st' new : State) (e : Stop) → i < n → spend i st ≡ Gave tt st' → Stops (tick st') new e → Stops (spend n st) new e
+spend_stops n i st st' new e lt h t =
+    let one : Stops (spend (suc i) st) new e = subst (λ (x : Ending (Unit {0})). Stops (then_run x (λ _. tick)) new e) (sym h) t in
+    let z : (n - suc i) + suc i ≡ n = omega arith in
+    subst (λ n. Stops (spend n st) new e) z (spend_more (n - suc i) (suc i) st new e one)
+
+-- what stops an operator stops the whole
+pub linked_stops : (s : Setting) (xs : List (Joint × TermInMemory)) (i : ℕ) (y : Joint × TermInMemory) (x z : Val) (st new : State) (e : Stop) (total : Ending Val) → i < length xs → y ≡ get_or xs i y → linked s (drop i xs) x st ≡ total → decides y.0 x ≡ false → eval s (term_of y.1) st ≡ Gave z new → Stops (apply y.0 x z new) new e → Stops total new e
+linked_stops s xs i y x z st new e total lt is so_far undecided given h =
+    let go : Bool → Ending Val = λ b. then_run (cond b (give x) (λ st. then_run (eval s (term_of y.1) st) (apply y.0 x)) st) (linked s (drop (i + 1) xs)) in
+    let split : linked s (drop i xs) x st ≡ go (decides y.0 x) = rw (drop-cons xs i y, add-one, ← is) refl in
+    let stops : Stops (then_run (eval s (term_of y.1) st) (apply y.0 x)) new e = subst (λ (m : Ending Val). Stops (then_run m (apply y.0 x)) new e) (sym given) h in
+    subst (λ (t : Ending Val). Stops t new e) (sym (ap go undecided) ∙ sym split ∙ so_far) (stops_then _ (linked s (drop (i + 1) xs)) new e stops)

@@ -1,0 +1,22 @@
+-- A chain of operators as it runs: the units of its operators first, then its operands from left to right.
+use Rattle.std.specs.Prelude.{ℕ, zero, suc, List, [], ◌∷◌}
+use Rattle.slee_effect.specs.declared.value.Val.{Val}
+use Rattle.script_types.specs.declared.term.Joint.{Joint}
+use Rattle.script_types.specs.declared.checked_term.Term.{Term as TermInMemory}
+use Rattle.script_types.specs.ProgramOf.{term_of}
+use Rattle.handler_meaning.specs.Running.{Setting, Run, ◌>>=◌, give, tick}
+use Rattle.handler_meaning.specs.Terms.{eval, combine}
+
+-- so many units
+abbrev pub spend : ℕ → Run (Unit {0})
+spend zero = give tt
+spend (suc n) = do
+  _ ← spend n
+  tick
+
+-- operands behind a value, joined from left to right
+abbrev pub linked : Setting → List (Joint × TermInMemory) → Val → Run Val
+linked s [] x = give x
+linked s (y ∷ more) x = do
+  z ← combine y.0 x (eval s (term_of y.1))
+  linked s more z

@@ -1,0 +1,17 @@
+//! Units of the operators of a chain.
+ghost use Rattle.std.specs.Prelude.{◌≡◌, ◌≤◌};
+ghost use Rattle.script_machine.specs.Agreeing.{Agrees};
+ghost use Rattle.term_run.specs.Links.{spend};
+
+use script_machine::{Machine, Stop};
+
+/// Spends so many units.
+pub(crate) fn spend(machine: &mut Machine, units: usize) -> Result<(), Stop>
+    ensures agrees { Agrees (spend units) machine.old machine.new result }
+    ensures spent { machine.new.left ≤ machine.old.left }
+{
+    'units: for _unit in 0..units {
+        machine.tick()?;
+    }
+    Ok(())
+}

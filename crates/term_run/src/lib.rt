@@ -1,0 +1,16 @@
+//! What terms of checked scripts give, with the units that they take: each as the meaning of scripts says, over the answers that were kept.
+#![tactic(auto)]
+
+mod asked_activities;
+mod asked_names;
+mod asked_rows;
+mod asked_timers;
+mod atoms;
+mod chains;
+mod questions;
+mod terms;
+mod typed;
+
+pub use asked_names::activity_value;
+pub use terms::eval;
+pub use typed::{eval_activity, eval_int, eval_text, eval_timer};
