@@ -61,7 +61,7 @@ fn check_set_field(
     ensures made { Makes result scope.now (assigning_of (setting_of setting.now) scope.now at (tree.Field name.now (tree_of x.now))) }
     ensures tokens { IfOk result (λ r. r.tokens ≡ length (spell_assigning (tree.Field name.now (tree_of x.now)))) }
 {
-    let kind = check_field(setting.block.fields.as_slice(), name, at + 2)?;
+    let kind = check_field(&setting.block.fields, name, at + 2)?;
     let value = check_part(setting, scope, kind, at + 4, x)?;
     check_not_on_remove(setting, at)?;
     let name = name_of(setting.alloc, name)?;

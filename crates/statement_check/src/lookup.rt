@@ -14,7 +14,7 @@ use expression_check::{
     relation_named,
 };
 use script_tree::{Identifier, Literal};
-use script_types::{AttributeCode, CheckBad, FieldCode, Misuse, RelationCode};
+use script_types::{AttributeCode, CheckBad, FieldCode, Misuse, NamedList, RelationCode};
 use slee_value::Kind;
 
 /// A name that stands for nothing.
@@ -28,7 +28,11 @@ fn unknown(at: usize) -> ScriptFault
 }
 
 /// The type of a field.
-pub fn check_field(fields: &[FieldCode], name: &Identifier, at: usize) -> Result<Kind, ScriptFault>
+pub fn check_field(
+    fields: &NamedList<FieldCode>,
+    name: &Identifier,
+    at: usize,
+) -> Result<Kind, ScriptFault>
     ensures { Gives (λ k. k) result (known at (kind_in name.now fields.now)) }
 {
     check_known(at, kind_of_field(fields, name.as_bytes()))
