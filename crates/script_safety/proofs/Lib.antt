@@ -13,8 +13,3 @@ pub mod Scripts
 pub mod Programs
 pub mod Calls
 pub mod Deliveries
-pub mod Likeness
-pub mod LikeTerms
-pub mod LikeSteps
-pub mod LikeMeaning
-pub mod OwnEffects

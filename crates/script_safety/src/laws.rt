@@ -1,5 +1,5 @@
 //! The laws.
-ghost use Rattle.std.specs.Prelude.{◌≡◌, ◌≤◌, ◌||◌, true, ℕ, List, length, Some, Ok, slice_get};
+ghost use Rattle.std.specs.Prelude.{◌≡◌, ◌≤◌, ℕ, List, length, Some, Ok, slice_get};
 ghost use Rattle.slee_value.specs.declared.ids.EntityId.{EntityId};
 ghost use Rattle.slee_value.specs.declared.ids.ActivityId.{ActivityId};
 ghost use Rattle.slee_value.specs.declared.value.Value.{Value};
@@ -10,16 +10,13 @@ ghost use Rattle.script_types.specs.Scopes.{Scope};
 ghost use Rattle.script_types.specs.Elaboration.{Typed, expression_of};
 ghost use Rattle.script_types.specs.Program.{Steps, BlockProgram, Program};
 ghost use Rattle.script_types.specs.Programs.{program_of};
-ghost use Rattle.std.specs.List.{list_any};
-ghost use Rattle.handler_meaning.specs.declared.key.Key.{Key};
-ghost use Rattle.handler_meaning.specs.Seeing.{same_key};
 ghost use Rattle.handler_meaning.specs.declared.outcome.Args.{Args};
 ghost use Rattle.handler_meaning.specs.declared.which.Part.{Part};
 ghost use Rattle.handler_meaning.specs.Answers.{Answers};
 ghost use Rattle.handler_meaning.specs.Running.{Setting, State, key_limit};
 ghost use Rattle.handler_meaning.specs.Terms.{eval};
 ghost use Rattle.handler_meaning.specs.Delivery.{handler_of, delivered_by};
-ghost use Rattle.handler_meaning.specs.Meaning.{Before, Report, Done, script_in, meaning_in};
+ghost use Rattle.handler_meaning.specs.Meaning.{Before, script_in, meaning_in};
 ghost use Rattle.script_safety.specs.Fitting.{Sound, Safe, Is, IsSound, IsSoundDelivery};
 
 /// What a checked expression is made into gives a value of its type wherever variables fit the scope, and leaves them fitting; or
@@ -39,10 +36,4 @@ pub fn checked_scripts_have_a_meaning()
 /// 256 effects of at most 32,768 bytes, its callbacks run, or to the first key that has no answer.
 pub fn checked_deliveries_have_an_outcome()
     ensures { (all : Codes) (program : Program) (answers : Answers) (number : ℕ) (block : BlockProgram) (steps : Steps) (e : EntityId) (a : ActivityId) (event : List ℕ) (fields : List (List ℕ × Value)) → program_of all ≡ Ok program → slice_get program number ≡ Some block → handler_of event block ≡ Some steps → IsSoundDelivery answers (delivered_by answers program block steps e a fields) }
-{}
-
-/// What a script means depends on the answers to the keys that it read, and on no others: where other answers are the same at these
-/// and at those that its transaction had read before, it ends in the same way with the same effects.
-pub fn runs_depend_on_what_they_read()
-    ensures { (answers other : Answers) (program : Program) (block : BlockProgram) (steps : Steps) (e : EntityId) (arguments : Args) (before : Before) (report : Report) → meaning_in answers program block steps e arguments before ≡ Done report → ((key : Key) → (list_any (same_key key) before.keys || list_any (same_key key) report.keys) ≡ true → answers key ≡ other key) → meaning_in other program block steps e arguments before ≡ Done report }
 {}

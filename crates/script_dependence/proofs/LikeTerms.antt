@@ -24,7 +24,7 @@ use Rattle.handler_meaning.specs.Running.{Setting, Variable, Holds, Child, State
 use Rattle.handler_meaning.specs.Values.{number, divided, joined, apply, same_values, is_less, compare}
 use Rattle.handler_meaning.specs.Observing as read
 use Rattle.handler_meaning.specs.Terms.{single, is_masked, looked_up, in_row, of_row, row, ask, combine, node, eval}
-use Rattle.script_safety.proofs.Likeness.{Like, like_then, like_give, like_break, like_cond, like_tick, like_tested, like_int, like_text, like_flag, like_activity, like_timer, look_like}
+use Rattle.script_dependence.proofs.Likeness.{Like, like_then, like_give, like_break, like_cond, like_tick, like_tested, like_int, like_text, like_flag, like_activity, like_timer, look_like}
 
 -- the same setting over other answers
 abbrev pub over : Setting → Answers → Setting

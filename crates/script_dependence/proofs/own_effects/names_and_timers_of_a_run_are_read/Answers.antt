@@ -1,5 +1,5 @@
-use Rattle.script_safety.proofs.OwnEffects.{name_bound, name_free, timer_set, timer_gone}
-use Rattle.script_safety.proofs.own_effects.names_and_timers_of_a_run_are_read.Goals as goal
+use Rattle.script_dependence.proofs.OwnEffects.{name_bound, name_free, timer_set, timer_gone}
+use Rattle.script_dependence.proofs.own_effects.names_and_timers_of_a_run_are_read.Goals as goal
 
 pub returns-clause-bound : goal.returns-clause-bound
 returns-clause-bound c = name_bound

@@ -16,10 +16,10 @@ use Rattle.handler_meaning.specs.Running.{Setting, Variable, Holds, State, Endin
 use Rattle.handler_meaning.specs.Steps.{Flow, Next, Returned, act_all}
 use Rattle.handler_meaning.specs.Calls.{apart, result_of, keep_result, setting_in, call_at}
 use Rattle.handler_meaning.specs.Meaning.{Before, Report, Meaning, Done, setting_of, start, report_of, report, meaning_in}
-use Rattle.script_safety.specs.Dependence.{Agree}
-use Rattle.script_safety.proofs.Likeness.{longer_same, Like, like_then, like_give, like_break, like_from}
-use Rattle.script_safety.proofs.LikeTerms.{over}
-use Rattle.script_safety.proofs.LikeSteps.{Alike, AlikeCalls, act_all_like}
+use Rattle.script_dependence.specs.Dependence.{Agree}
+use Rattle.script_dependence.proofs.Likeness.{longer_same, Like, like_then, like_give, like_break, like_from}
+use Rattle.script_dependence.proofs.LikeTerms.{over}
+use Rattle.script_dependence.proofs.LikeSteps.{Alike, AlikeCalls, act_all_like}
 
 restored_like : (m : Setting) (other : Answers) (variables : List Variable) (flow : Flow) (st : State) → Like m other st (Gave flow (record st { variables = variables })) (Gave flow (record st { variables = variables }))
 restored_like m other variables flow st = (longer_same st.keys, λ agree. refl)

@@ -24,8 +24,8 @@ use Rattle.handler_meaning.specs.Running.{Setting, Variable, Holds, Child, State
 use Rattle.handler_meaning.specs.Terms.{eval}
 use Rattle.handler_meaning.specs.Doing as doing
 use Rattle.handler_meaning.specs.Steps.{Flow, Next, Returned, Calling, next, followed, ask_rollback, throw, says, either, choose, turns, walk, items, arguments_of, does_call, act, act_all}
-use Rattle.script_safety.proofs.Likeness.{longer_same, Like, like_then, like_give, like_break, like_ending, like_tick, like_tested, like_int, like_text, like_flag, like_activity, like_timer}
-use Rattle.script_safety.proofs.LikeTerms.{over, now_like, named_like, attached_like, children_like, activities_like, used_like, used_active_like, child_like, eval_like}
+use Rattle.script_dependence.proofs.Likeness.{longer_same, Like, like_then, like_give, like_break, like_ending, like_tick, like_tested, like_int, like_text, like_flag, like_activity, like_timer}
+use Rattle.script_dependence.proofs.LikeTerms.{over, now_like, named_like, attached_like, children_like, activities_like, used_like, used_active_like, child_like, eval_like}
 
 effect_like : (m : Setting) (other : Answers) (e : Effect) (st : State) → Like m other st (effect e st) (effect e st)
 unfolding effect

@@ -10,7 +10,7 @@ use Rattle.slee_effect.specs.declared.effect.Effect.TheVariants as ef
 use Rattle.slee_value.specs.declared.keep.Keep.{Keep}
 use Rattle.handler_meaning.specs.declared.seen.AcSeen.{AcSeen}
 use Rattle.handler_meaning.specs.Overlay.{same_ref, count_of, overlay_from, overlay, entities_by, activities_by, timers_by, field_after, attr_after, children_after, priority_after, ended, activity_after, attached_after, named_after, timer_after}
-use Rattle.script_safety.proofs.Likeness.{flags_same, texts_same, both_same}
+use Rattle.script_dependence.proofs.Likeness.{flags_same, texts_same, both_same}
 
 last_from : {A : Type 0} (makes : Effect → ℕ) (does : ℕ → Effect → A → A) (n : ℕ) (es : List Effect) (e : Effect) (x : A) → overlay_from makes does n (es ++ e ∷ []) x ≡ does (n + count_of makes es) e (overlay_from makes does n es x)
 last_from makes does n [] e x = ap (λ k. does k e x) (omega arith)

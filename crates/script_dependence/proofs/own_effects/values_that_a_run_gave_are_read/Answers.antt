@@ -1,5 +1,5 @@
-use Rattle.script_safety.proofs.OwnEffects.{field_given, attribute_given, priority_given}
-use Rattle.script_safety.proofs.own_effects.values_that_a_run_gave_are_read.Goals as goal
+use Rattle.script_dependence.proofs.OwnEffects.{field_given, attribute_given, priority_given}
+use Rattle.script_dependence.proofs.own_effects.values_that_a_run_gave_are_read.Goals as goal
 
 pub returns-clause-field : goal.returns-clause-field
 returns-clause-field c = field_given

@@ -1,5 +1,5 @@
-use Rattle.script_safety.proofs.OwnEffects.{new_activity, activity_ends, attachment_made, attachment_gone}
-use Rattle.script_safety.proofs.own_effects.activities_of_a_run_are_read.Goals as goal
+use Rattle.script_dependence.proofs.OwnEffects.{new_activity, activity_ends, attachment_made, attachment_gone}
+use Rattle.script_dependence.proofs.own_effects.activities_of_a_run_are_read.Goals as goal
 
 pub returns-clause-made : goal.returns-clause-made
 returns-clause-made c = new_activity

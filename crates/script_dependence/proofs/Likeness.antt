@@ -19,7 +19,7 @@ use Rattle.handler_meaning.specs.Seeing.{same_key}
 use Rattle.handler_meaning.specs.Answers.{Answers}
 use Rattle.handler_meaning.specs.Running.{Setting, State, Ending, Gave, Broke, Needs, Stays, Run, then_run, give, break, tested, tick_at, ticked, observe, answered, look, key_limit}
 use Rattle.handler_meaning.specs.Values.{with_int, with_text, with_flag, with_activity, with_timer}
-use Rattle.script_safety.specs.Dependence.{Agree}
+use Rattle.script_dependence.specs.Dependence.{Agree}
 
 -- keys that stand in front of others
 abbrev pub Longer : List Key → List Key → Type 0

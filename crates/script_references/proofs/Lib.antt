@@ -1,0 +1,12 @@
+pub mod Sets
+pub mod Overlaid
+pub mod Runs
+pub mod Constants
+pub mod Terms
+pub mod Doing
+pub mod Steps
+pub mod Calls
+pub mod Checked
+pub mod CheckedSteps
+pub mod Deliveries
+pub mod CheckedScripts
