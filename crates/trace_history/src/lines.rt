@@ -8,6 +8,9 @@ use std::fmt;
 use std::marker::Model;
 use std::snapshot::Snapshot;
 
+/// How many bytes are made room for where lines begin.
+const TEXT_ROOM: usize = 96;
+
 /// Lines of text, in one piece of memory. Where one begins is known to contracts alone: a snapshot has no bytes.
 #[derive(Drop)]
 pub struct Lines {
@@ -46,13 +49,16 @@ impl Lines {
 
     /// Adds a line at the end.
     #[tactic(auto, using(crate::proofs::LinesLemmas::line_more, crate::proofs::LinesLemmas::one_more))]
-    pub fn push(&mut self, line: Text) -> Result<(), NoMemory>
-        ensures ok { OnOk result (self.new ≡ self.old ++ line ∷ []) }
+    pub fn push(&mut self, line: &Text) -> Result<(), NoMemory>
+        ensures ok { OnOk result (self.new ≡ self.old ++ line.now ∷ []) }
         ensures err { OnErr result (self.new ≡ self.old) }
     {
+        if self.text.is_empty() {
+            make_room(&mut self.text)?;
+        }
         self.lines.reserve(1)?;
         add_line(&mut self.text, line.as_bytes())?;
-        self.lines.push_reserved(Snapshot::of(&line));
+        self.lines.push_reserved(Snapshot::of(line));
         Ok(())
     }
 }
@@ -61,6 +67,14 @@ impl fmt::Debug for Lines {
     fn fmt<W: fmt::Write>(&self, f: &mut fmt::Formatter<W>) -> fmt::Result {
         write!(f, "{:?}", self.text)
     }
+}
+
+/// Makes room for the lines of a step: most have no more.
+fn make_room(text: &mut Vec<u8>) -> Result<(), NoMemory>
+    ensures { text.new.items ≡ text.old.items }
+{
+    text.reserve(TEXT_ROOM)?;
+    Ok(())
 }
 
 /// Adds a line and its newline, or nothing.
