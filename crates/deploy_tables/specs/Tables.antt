@@ -2,6 +2,8 @@
 use Rattle.std.specs.Prelude.{ℕ, ◌&&◌, Bool, List, [], ◌∷◌, not, Option, Some, None, option_and_then, option_map, codes, bytes_eq, is_some, if◌then◌else◌}
 use Rattle.serde_json.specs.Data.{Data}
 use Rattle.serde_json.specs.Find.{get, as_array, as_object}
+use Rattle.built_in_events.specs.declared.built_in.BuiltInEvent.TheVariants as built_in_events
+use Rattle.built_in_events.specs.BuiltIn.{name_of as built_in_name}
 use Rattle.slee_value.specs.declared.kind.Kind.{Kind}
 use Rattle.script_tree.specs.Tree.{Bytes}
 use Rattle.deployment_parts.specs.declared.fault.DeployBad.TheVariants as bad
@@ -75,7 +77,7 @@ variable words number owner s = variable_word words number s
 -- The variables of an initial event; the end of an activity never is one.
 abbrev pub initial : Bytes → Form
 initial event number owner d =
-    if bytes_eq event (codes "activity-end") && is_some (as_array d) then here bad.Range
+    if bytes_eq event (built_in_name built_in_events.ActivityEnd) && is_some (as_array d) then here bad.Range
     else list_of (text (variable (texts_of (items_of d)))) number owner d
 
 -- Whether the event is initial by custom selection.

@@ -7,6 +7,7 @@ ghost use Rattle.deploy_tables.specs.Tables.{event_key, event_members};
 
 use crate::component::{Version, component};
 use crate::lookup::Lookup;
+use built_in_events::BuiltInEvent;
 use deploy_shape::{
     End, Form, Label, MapOf, May, Named, Need, Numbers, Object, TextOf, TextRule, TypeWord,
     check_fresh, check_name, unless,
@@ -30,7 +31,11 @@ impl<'a, 'v> TextRule for EventKey<'a, 'v> {
         text: &str,
     ) -> Result<(), DeployFault> {
         check_name(alloc, text)?;
-        unless(alloc, !(text == "timer"), DeployBad::Repeated)?;
+        unless(
+            alloc,
+            !(text == BuiltInEvent::Timer.name()),
+            DeployBad::Repeated,
+        )?;
         check_fresh(alloc, self.0.get(text), number)
     }
 }

@@ -2,7 +2,6 @@
 #![tactic(auto)]
 
 mod block;
-mod built_in;
 mod component;
 mod document;
 mod event;

@@ -7,10 +7,10 @@ ghost use Rattle.deploy_shape.specs.Numbers.{answer_of, numbers_from};
 ghost use Rattle.deploy_tables.specs.Ids.{ids_from};
 ghost use Rattle.deploy_tables.specs.Lookups.{names_of, id_answer};
 
-use crate::built_in::{built_in_field, is_built_in};
 use crate::ids::{Ids, ids_of};
 use crate::kinds::{Kinds, aliases_of, kind_at};
 use deploy_shape::{Numbers, items_in, number_of_name, numbers_of};
+use deployment_parts::{built_in_field, is_built_in};
 use serde_json::Value;
 use slee_value::{Kind, NoMemory};
 use std::alloc::Global;

@@ -12,6 +12,7 @@ ghost use Rattle.deploy_tables.specs.Tables.{variable, initial, is_custom as cus
 
 use crate::lookup::Lookup;
 use crate::member::text_or_empty;
+use built_in_events::BuiltInEvent;
 use deploy_shape::{
     End, Form, ListOf, Need, Object, TextOf, TextRule, array_items, check_fresh, here, items_in,
     unless,
@@ -81,7 +82,7 @@ impl<'e> Form for Initial<'e> {
         owner: &Value,
         value: &Value,
     ) -> Result<(), DeployFault> {
-        if self.0 == "activity-end" && value.is_array() {
+        if self.0 == BuiltInEvent::ActivityEnd.name() && value.is_array() {
             Err(here(alloc, DeployBad::Range))
         } else {
             check_variables(alloc, number, owner, value)

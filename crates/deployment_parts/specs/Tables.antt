@@ -2,6 +2,8 @@
 -- Types, missing and unknown members and the forms of names are no matter of parts: they are those of a document from which parts are read.
 use Rattle.std.specs.Prelude.{ℕ, ◌||◌, Bool, true, false, List, [], ◌∷◌, not, Option, Some, None, option_and_then, slice_get, is_some, codes, bytes_eq, if◌then◌else◌}
 use Rattle.std.specs.List.{list_any, position_from}
+use Rattle.built_in_events.specs.declared.built_in.BuiltInEvent.TheVariants as built_in_events
+use Rattle.built_in_events.specs.BuiltIn.{name_of as built_in_name}
 use Rattle.slee_value.specs.declared.kind.Kind.{Kind}
 use Rattle.slee_value.specs.declared.component.ComponentId.{ComponentId}
 use Rattle.script_tree.specs.Tree.{Bytes}
@@ -63,7 +65,7 @@ component key id keys ids n = table (member (codes "key") key (λ k. fresh (keys
 
 -- The one built-in event whose name has the form of a key; no event type may have it.
 abbrev pub is_taken : Bytes → Bool
-is_taken key = bytes_eq key (codes "timer")
+is_taken key = bytes_eq key (built_in_name built_in_events.Timer)
 
 abbrev pub event_type : Numbering → IdNumbering → ℕ → Rule EventType
 event_type keys ids n =
@@ -112,7 +114,7 @@ event_name all handlers n event = if is_event all event then fresh (handlers eve
 -- The variables of an initial event; the end of an activity never is one.
 abbrev pub initial : Bytes → Rule (Option (List Bytes))
 initial event None = None
-initial event (Some words) = if bytes_eq event (codes "activity-end") then here bad.Range else items (variable_word words) words
+initial event (Some words) = if bytes_eq event (built_in_name built_in_events.ActivityEnd) then here bad.Range else items (variable_word words) words
 
 -- Whether an event is initial by custom selection.
 abbrev pub wants_custom : Option (List Bytes) → Bool

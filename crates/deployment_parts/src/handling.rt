@@ -14,6 +14,7 @@ use crate::leaf::check_fresh;
 use crate::lookup::Lookup;
 use crate::parts::{BlockEvent, CustomRule};
 use crate::rule::{Items, Rule, check_member};
+use built_in_events::BuiltInEvent;
 use script_types::CodeList;
 use slee_value::{Kind, Name, Text};
 use std::alloc::Global;
@@ -116,7 +117,7 @@ impl<'e> Rule<Option<CodeList<Text>>> for Initial<'e> {
     ) -> Result<(), DeployFault> {
         match part {
             None => Ok(()),
-            Some(words) => if self.0 == "activity-end" {
+            Some(words) => if self.0 == BuiltInEvent::ActivityEnd.name() {
                 Err(here(alloc, DeployBad::Range))
             } else {
                 Items(VariableWord(words.as_slice())).check(alloc, number, words)

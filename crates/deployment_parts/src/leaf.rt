@@ -10,6 +10,7 @@ use crate::fault::{DeployBad, DeployFault, here, unless};
 use crate::first::{Firsts, Numbers};
 use crate::ids::{Component, Ids};
 use crate::rule::{Named, Rule, check_member};
+use built_in_events::BuiltInEvent;
 use slee_value::{ComponentId, Kind, Name, Text};
 use std::alloc::Global;
 
@@ -69,7 +70,11 @@ impl<T: Named> Rule<T> for NotTaken {
     ghost fault = { λ _ _ x. unless_so (not (is_taken (T.name_of x))) bad.Repeated };
 
     fn check(&self, alloc: Global, _number: usize, part: &T) -> Result<(), DeployFault> {
-        unless(alloc, !(part.name() == "timer"), DeployBad::Repeated)
+        unless(
+            alloc,
+            !(part.name() == BuiltInEvent::Timer.name()),
+            DeployBad::Repeated,
+        )
     }
 }
 

@@ -1,6 +1,7 @@
 //! The parts of deployments, what names in them stand for, and the first fault of parts that are no deployment.
 #![tactic(auto)]
 
+mod built_in;
 mod choice;
 mod fault;
 mod first;
@@ -12,6 +13,7 @@ mod parts;
 mod rule;
 mod walk;
 
+pub use built_in::{built_in_field, is_built_in};
 pub use choice::{SelectRule, Variable};
 pub use fault::{DeployBad, DeployFault};
 pub use first::{Firsts, Numbers, numbers_of};

@@ -4,8 +4,9 @@ ghost use Rattle.script_tree.specs.Tree.{Bytes};
 ghost use Rattle.deployment_parts.specs.Firsts.{answer_of};
 ghost use Rattle.deployment_parts.specs.Rules.{or_later};
 ghost use Rattle.deployment_parts.specs.Lookups.{known_of};
-ghost use Rattle.deployment_parts.specs.Tables.{kind_of, is_event as is_event_so, event_field as field_so, is_built_in as built_in_so, built_in_field as built_in_field_so, aliased, alias_in, alias_kind, known_in};
+ghost use Rattle.deployment_parts.specs.Tables.{kind_of, is_event as is_event_so, event_field as field_so, aliased, alias_in, alias_kind, known_in};
 
+use crate::built_in::{built_in_field, is_built_in};
 use crate::first::{Kinds, Numbers, kinds_of, numbers_of};
 use crate::parts::{Block, EventType, Parts};
 use slee_value::{Kind, Name, NoMemory};
@@ -53,46 +54,6 @@ fn kind_in(fields: &[(Name, Kind)], name: &str) -> Option<Kind>
         }
     }
     None
-}
-
-/// Whether an event is built in.
-fn is_built_in(event: &str) -> bool
-    ensures { result ≡ built_in_so event.now }
-{
-    "activity-end" == event
-        || "timer" == event
-        || "service-started" == event
-        || "profile-added" == event
-        || "profile-updated" == event
-        || "profile-removed" == event
-}
-
-/// The type of a field of a built-in event.
-fn built_in_field(event: &str, field: &str) -> Option<Kind>
-    ensures { result ≡ built_in_field_so event.now field.now }
-{
-    if "activity-end" == event {
-        None
-    } else if "timer" == event {
-        only_field("which", Kind::Timer, field)
-    } else if "service-started" == event {
-        None
-    } else if "profile-added" == event {
-        only_field("row", Kind::Text, field)
-    } else if "profile-updated" == event {
-        only_field("row", Kind::Text, field)
-    } else if "profile-removed" == event {
-        only_field("row", Kind::Text, field)
-    } else {
-        None
-    }
-}
-
-/// The type of a field, where this is the only one.
-fn only_field(name: &str, kind: Kind, field: &str) -> Option<Kind>
-    ensures { result ≡ (if bytes_eq name.now field.now then Option.Some kind else Option.None) }
-{
-    if name == field { Some(kind) } else { None }
 }
 
 /// The alias has the attribute's type, if it had none before.

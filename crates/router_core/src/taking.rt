@@ -14,6 +14,7 @@ ghost use Rattle.router_core.specs.Plans.{IsDraftOf, event_next};
 
 use crate::draft::Draft;
 use crate::{built_in, telling};
+use built_in_events::BuiltInEvent;
 use router_model::{AcKind, Activity, Change, Event};
 use router_stores::Stores;
 use signal_script::Signal;
@@ -127,12 +128,13 @@ fn ended(
     let mut draft = Draft::begun(alloc, heading)?;
     draft.change(Change::Taken)?;
     draft.change(Change::End { activity })?;
-    let name = Text::from_str(alloc, "activity-end")?;
+    let end = BuiltInEvent::ActivityEnd.name();
+    let name = Text::from_str(alloc, end)?;
     let event = next_event(stores, name, Payload::new(alloc));
     draft.change(Change::Push { activity, event })?;
     draft.change(Change::NextEvent)?;
     draft.tell(&telling::ending(alloc, activity)?)?;
-    draft.tell(&telling::queued(alloc, stores.next_event(), "activity-end", activity)?)?;
+    draft.tell(&telling::queued(alloc, stores.next_event(), end, activity)?)?;
     Ok(draft)
 }
 

@@ -2,8 +2,6 @@
 use Rattle.std.proofs.Common.{◌≡◌, ◌++◌, List, [], ◌∷◌, Vec, Box, Global, refl, ap, ◌∙◌}
 use mathlib.Core.Former.{Count}
 use Rattle.script_types.specs.declared.term.Joint.{Joint}
-use Rattle.script_types.specs.declared.term.Test.{Test}
-use Rattle.script_types.specs.declared.term.Question.{Question}
 use Rattle.script_types.specs.declared.step.Range.{Range}
 use Rattle.script_types.specs.declared.checked_term.Term as t
 use Rattle.script_types.specs.declared.checked_term.Term.{Term as TermInMemory, Row_of-Term-Chain-1-2, end_of-Term-Chain-1-2, more_of-Term-Chain-1-2, items-the_row-Term-Chain-1-2, items_hidden-the_row-Term-Chain-1-2-0}
@@ -11,7 +9,7 @@ use Rattle.script_types.specs.declared.checked_step.Step as s
 use Rattle.script_types.specs.declared.checked_step.Step.{Step as StepInMemory, Row_of-Step, end_of-Step, more_of-Step, items-the_row-Step, items_hidden-the_row-Step-0}
 use Rattle.script_types.specs.Program as p
 use Rattle.script_types.specs.Program.{Term, Combine, Steps, Nothing, Then}
-use Rattle.script_types.specs.ProgramOf.{term_of, ask_of, compare_of, combine_of, combined, combined_row, step_of, row_of, steps_of, before}
+use Rattle.script_types.specs.ProgramOf.{term_of, combine_of, combined, combined_row, step_of, row_of, steps_of, before}
 
 row_combined : (x : Term) (n : _) (row : Row_of-Term-Chain-1-2 n) → combined_row x row ≡ combined x (items-the_row-Term-Chain-1-2 n row)
 row_combined x n end_of-Term-Chain-1-2 = refl

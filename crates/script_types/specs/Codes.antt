@@ -1,7 +1,8 @@
 -- All that scripts may name: what a deployment declares, with the scripts themselves.
-use Rattle.std.specs.Prelude.{ℕ, Bool, List, [], ◌∷◌, ◌++◌, Option, codes, find, bytes_eq, slice_get, option_map, option_and_then}
+use Rattle.std.specs.Prelude.{ℕ, Bool, List, ◌++◌, Option, find, bytes_eq, map, slice_get, option_map, option_and_then}
 use Rattle.slee_value.specs.declared.kind.Kind.{Kind}
-use Rattle.slee_value.specs.declared.kind.Kind.TheVariants as k
+use Rattle.built_in_events.specs.declared.built_in.BuiltInEvent.{BuiltInEvent}
+use Rattle.built_in_events.specs.BuiltIn.{name_of, fields_of, all_events}
 use Rattle.script_types.specs.declared.codes.FieldCode.{FieldCode}
 use Rattle.script_types.specs.declared.codes.EventCode.{EventCode}
 use Rattle.script_types.specs.declared.codes.TableCode.{TableCode}
@@ -50,19 +51,13 @@ kind_in name fields = option_map (λ f. f.kind) (named (λ f. f.name) name field
 abbrev pub attribute_kind : Bytes → Block → Option Kind
 attribute_kind name block = option_map (λ a. a.kind) (named (λ a. a.name) name block.attributes)
 
-abbrev pub row_event : Bytes → EventCode
-row_event name = record { name = name; fields = record { name = codes "row"; kind = k.Text } ∷ [] }
+-- a built-in event, as the events of a deployment are
+abbrev pub built_in_code : BuiltInEvent → EventCode
+built_in_code event = record { name = name_of event; fields = map (λ f. record { name = f.0; kind = f.1 }) (fields_of event) }
 
 -- the events that no deployment declares
 abbrev pub built_in : List EventCode
-built_in =
-    record { name = codes "activity-end"; fields = [] }
-    ∷ record { name = codes "timer"; fields = record { name = codes "which"; kind = k.Timer } ∷ [] }
-    ∷ record { name = codes "service-started"; fields = [] }
-    ∷ row_event (codes "profile-added")
-    ∷ row_event (codes "profile-updated")
-    ∷ row_event (codes "profile-removed")
-    ∷ []
+built_in = map built_in_code all_events
 
 -- an event that is declared
 abbrev pub declared_event : Bytes → Codes → Option EventCode

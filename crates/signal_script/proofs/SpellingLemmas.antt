@@ -1,14 +1,16 @@
 -- What is spelled is read as itself, part by part.
-use Rattle.std.proofs.Common.{◌≡◌, ℕ, ◌/◌, ◌%◌, ◌<◌, ◌≤◌, Bool, true, false, not, ◌||◌, ◌==◌, nat_lt, nat_le, List, [], ◌∷◌, ◌++◌, decimal, length, map, refl, sym, ◌∙◌, ap, arith, append_assoc, append-nil, Option, Some, None, Ok, ◌⊎◌, inl, inr}
+use Rattle.std.proofs.Common.{◌≡◌, ℕ, ◌/◌, ◌%◌, ◌<◌, ◌≤◌, Bool, true, false, not, ◌||◌, ◌==◌, nat_lt, nat_le, List, [], ◌∷◌, ◌++◌, decimal, length, map, refl, sym, ◌∙◌, ap, arith, append_assoc, append-nil, Option, Some, None, is_some, Ok, ◌⊎◌, inl, inr}
 use Rattle.std.proofs.lemmas.Bool.{cases_Bool, and_parts, and_from}
 use Rattle.std.proofs.lemmas.Bool.Decides.{nat_tests}
 use Rattle.std.proofs.lemmas.Slice.Eq.{bytes_eq-Decides}
-use Rattle.std.specs.List.{list_all, list_any, join_with_byte}
+use Rattle.std.specs.List.{find, list_all, join_with_byte}
 use Rattle.std.specs.Str.{bytes_eq}
+use Rattle.built_in_events.specs.declared.built_in.BuiltInEvent.{BuiltInEvent}
+use Rattle.built_in_events.specs.BuiltIn.{is_built_in, all_events, name_of as name_of_event}
 use Rattle.slee_value.specs.Name.{is_name, is_byte_of_name, is_letter}
 use Rattle.slee_value.specs.Escape.{is_escaped, hex_digit_of, escaped}
 use Rattle.signal_script.specs.Lines.{words_of}
-use Rattle.signal_script.specs.Signals.{Reading, and_then, tested, name_of, is_event, built_in_events, event_name_of, event_of, moment_of, clock_limit, text_of, row_of, is_new_name, field_of, fields_of, spelled_event, spelled_field, is_name_or_none, are_fields}
+use Rattle.signal_script.specs.Signals.{Reading, and_then, tested, name_of, is_event, event_name_of, event_of, moment_of, clock_limit, text_of, row_of, is_new_name, field_of, fields_of, spelled_event, spelled_field, is_name_or_none, are_fields}
 use Rattle.signal_script.specs.declared.fault.SignalBad.{SignalBad}
 use Rattle.signal_script.specs.declared.fault.SignalBad.TheVariants as bads
 use Rattle.signal_script.proofs.WordLemmas.{lacks, words_alone, words_before, cut_none, cut_some}
@@ -48,22 +50,22 @@ name_lacks c (b ∷ bs) mark is =
     let rest = and_parts (list_all is_byte_of_name bs) _ first.1 in
     and_from (not (b == c)) (lacks c bs) (letter_lacks c b mark first.0) (bytes_lack c bs mark rest.0)
 
--- one of a list of texts has what each of them has
-one_of : (c : ℕ) (word : List ℕ) (all : List (List ℕ)) → list_all (lacks c) all ≡ true → list_any (bytes_eq word) all ≡ true → lacks c word ≡ true
-one_of c word [] each is = cc
-one_of c word (x ∷ all) each is = elim (cases_Bool (bytes_eq word x)) [
-  | inl same ↦ let e : word ≡ x = (bytes_eq-Decides word x).0 same in rw e (and_parts (lacks c x) (list_all (lacks c) all) each).0
-  | inr other ↦ one_of c word all (and_parts (lacks c x) (list_all (lacks c) all) each).1 (let h : (bytes_eq word x || list_any (bytes_eq word) all) ≡ true = is in rw other at h)
+-- the name of an event that is found among some lacks what the name of each of them lacks
+one_of : (c : ℕ) (word : List ℕ) (all : List BuiltInEvent) → list_all (λ e. lacks c (name_of_event e)) all ≡ true → is_some (find (λ e. bytes_eq (name_of_event e) word) all) ≡ true → lacks c word ≡ true
+one_of c word [] each is = absurd cc
+one_of c word (x ∷ all) each is = elim (cases_Bool (bytes_eq (name_of_event x) word)) [
+  | inl same ↦ let e : name_of_event x ≡ word = (bytes_eq-Decides (name_of_event x) word).0 same in rw (sym e) (and_parts (lacks c (name_of_event x)) _ each).0
+  | inr other ↦ one_of c word all (and_parts (lacks c (name_of_event x)) _ each).1 (let h : is_some (find (λ e. bytes_eq (name_of_event e) word) (x ∷ all)) ≡ true = is in rw other at h)
 ]
 
 either_way : (a b : Bool) → (a || b) ≡ true → (a ≡ true) ⊎ (b ≡ true)
 either_way true b is = inl refl
 either_way false b is = inr is
 
-pub event_lacks : (c : ℕ) (event : List ℕ) → is_mark c ≡ true → list_all (lacks c) built_in_events ≡ true → is_event event ≡ true → lacks c event ≡ true
-event_lacks c event mark each is = elim (either_way (is_name event) (list_any (bytes_eq event) built_in_events) is) [
+pub event_lacks : (c : ℕ) (event : List ℕ) → is_mark c ≡ true → list_all (λ e. lacks c (name_of_event e)) all_events ≡ true → is_event event ≡ true → lacks c event ≡ true
+event_lacks c event mark each is = elim (either_way (is_name event) (is_built_in event) is) [
   | inl name ↦ name_lacks c event mark name
-  | inr built_in ↦ one_of c event built_in_events each built_in
+  | inr built_in ↦ one_of c event all_events each built_in
 ]
 
 pub lacks_append : (c : ℕ) (xs ys : List ℕ) → lacks c xs ≡ true → lacks c ys ≡ true → lacks c (xs ++ ys) ≡ true

@@ -5,6 +5,7 @@ use Rattle.std.specs.List.{list_any, flat_map, join_with_byte}
 use Rattle.std.specs.Option.{option_map_or}
 use Rattle.std.specs.Str.{bytes_eq, is_utf8}
 use Rattle.std.specs.Str.Parse.{digits_value}
+use Rattle.built_in_events.specs.BuiltIn.{is_built_in}
 use Rattle.slee_value.specs.Name.{is_name}
 use Rattle.slee_value.specs.Escape.{escaped}
 use Rattle.signal_script.specs.Lines.{lines_of, words_of, cut_at, line_limit, is_control, is_line}
@@ -38,14 +39,9 @@ tested test bad word = if test word then Ok word else Err bad
 abbrev pub name_of : List ℕ → Reading (List ℕ)
 name_of word = tested is_name bads.Name word
 
--- the events that every deployment has
-abbrev pub built_in_events : List (List ℕ)
-built_in_events =
-    codes "activity-end" ∷ codes "timer" ∷ codes "service-started"
-    ∷ codes "profile-added" ∷ codes "profile-updated" ∷ codes "profile-removed" ∷ []
-
+-- a name that a deployment may give an event, or that of an event which every deployment has
 abbrev pub is_event : List ℕ → Bool
-is_event word = is_name word || list_any (bytes_eq word) built_in_events
+is_event word = is_name word || is_built_in word
 
 abbrev pub event_name_of : List ℕ → Reading (List ℕ)
 event_name_of word = tested is_event bads.Name word

@@ -7,6 +7,7 @@ ghost use Rattle.signal_script.specs.Signals.{name_of, is_event, event_name_of, 
 use crate::number::number_of;
 use crate::unescaping::unescape;
 use crate::{Fields, LineFault, SignalBad};
+use built_in_events::BuiltInEvent;
 use slee_value::{Name, Text};
 use std::alloc::Global;
 
@@ -29,12 +30,7 @@ fn is_event(word: &str) -> bool
     ensures { result ≡ is_event word.now }
 {
     Name::is_name(word.as_bytes())
-        || word == "activity-end"
-        || word == "timer"
-        || word == "service-started"
-        || word == "profile-added"
-        || word == "profile-updated"
-        || word == "profile-removed"
+        || BuiltInEvent::named(word.as_bytes()).is_some()
 }
 
 fn read_event_name(alloc: Global, word: &str) -> Result<Text, LineFault>
