@@ -3,28 +3,23 @@ use signal_script::read_signals;
 use slee_value::{ActivityId, NoMemory, Text};
 use std::alloc::Global;
 use std::process::Abort;
+use std::str;
 use std::test::Fail;
 use trace_history::{Choice, Entry, History, Lines};
 
 fn entry(alloc: Global, choice: &Choice, heading: &str) -> Result<Entry, NoMemory> {
     let mut lines = Lines::new(alloc);
     lines.push(Text::from_str(alloc, heading)?)?;
+    lines.push(Text::from_str(alloc, "  first")?)?;
     Ok(Entry {
         choice: choice.copy(alloc)?,
         lines,
     })
 }
 
-// The headings of the entries by number, each ended by a newline.
-fn headings(alloc: Global, history: &History) -> Result<Vec<u8>, NoMemory> {
-    let mut text = Vec::new(alloc);
-    for number in 1..=history.len() {
-        for line in history.get(number).lines.as_slice() {
-            text.extend_from_slice(line.as_bytes())?;
-            text.push(b'\n')?;
-        }
-    }
-    Ok(text)
+// The text of so many entries.
+fn text_of(alloc: Global, history: &History, entries: u64) -> Result<Text, NoMemory> {
+    Ok(Text::from_str(alloc, str::from_utf8(history.text(entries)).unwrap_or("no text"))?)
 }
 
 #[test]
@@ -36,15 +31,22 @@ fn entries_stand_as_they_were_added(rt: HostRuntime) -> Result<(), Fail> {
         (Choice::Deliver(ActivityId(1)), "deliver a1 v1 e1 fine"),
         (Choice::Finish(ActivityId(1)), "finish a1 v1"),
     ];
+    assert_eq!(rt; text_of(alloc, &history, 0)?.as_str(), "");
     for (choice, heading) in &choices {
-        history.reserve(1)?;
-        history.push(entry(alloc, choice, heading)?);
+        let entry = entry(alloc, choice, heading)?;
+        history.reserve(&entry.lines)?;
+        history.push(entry);
     }
-    assert_eq!(rt;
-        headings(alloc, &history)?.as_slice(),
-        b"initial a1 v1 s e1 new\ndeliver a1 v1 e1 fine\nfinish a1 v1\n".as_slice()
-    );
-    assert_eq!(rt; history.as_slice().len(), 3);
+    assert_eq!(rt; history.len(), 3);
+    let texts = [
+        "",
+        "1 initial a1 v1 s e1 new\n  first\n",
+        "1 initial a1 v1 s e1 new\n  first\n2 deliver a1 v1 e1 fine\n  first\n",
+        "1 initial a1 v1 s e1 new\n  first\n2 deliver a1 v1 e1 fine\n  first\n3 finish a1 v1\n  first\n",
+    ];
+    for (entries, text) in texts.iter().enumerate() {
+        assert_eq!(rt; text_of(alloc, &history, entries as u64)?.as_str(), *text);
+    }
     Ok(())
 }
 

@@ -1,8 +1,9 @@
 -- The bytes that the journal keeps.
-use Rattle.std.proofs.Common.{◌≡◌, ℕ, ◌^◌, ◌<◌, ◌≤◌, true, List, [], ◌∷◌, ◌++◌, map, length, codes, sym, ◌∙◌, ap, subst, arith, inl, inr, Option, Some, None, length-append}
+use Rattle.std.proofs.Common.{◌≡◌, ℕ, ◌^◌, ◌-◌, ◌<◌, ◌≤◌, true, take, drop, List, [], ◌∷◌, ◌++◌, map, length, codes, sym, ◌∙◌, ap, subst, arith, inl, inr, Option, Some, None, length-append}
 use Rattle.std.specs.Option.{option_map_or}
 use Rattle.std.specs.Str.{bytes_eq}
 use Rattle.std.proofs.lemmas.Bool.{cases_Bool}
+use Rattle.std.proofs.lemmas.List.{take_rest}
 use Rattle.slee_value.specs.declared.value.Value.{Value}
 use Rattle.slee_effect.specs.declared.effect.Effect.TheVariants as effects
 use Rattle.slee_effect.specs.declared.reference.Ref.TheVariants as references
@@ -14,6 +15,7 @@ use Rattle.router_model.specs.declared.rows.Entity.{Entity}
 use Rattle.router_model.specs.declared.rows.Event.{Event}
 use Rattle.router_rules.specs.BuiltIn.{invite, emitted, address_in}
 use Rattle.router_rules.specs.Effects.{effects_of}
+use Rattle.router_rules.specs.Lines.{input_heading}
 use Rattle.router_rules.specs.Payload.{effects_due}
 use Rattle.router_rules.specs.Selection.{first}
 use Rattle.router_rules.specs.Well.{IsWell, IsBuiltInEvent, has_fields, is_address}
@@ -22,6 +24,18 @@ use Rattle.router_rules.proofs.RowLemmas.{front_all}
 
 pub line_fits : (signal : Signal) (bytes : List ℕ) → bytes ≡ spelled signal → is_signal signal ≡ true → length bytes < 2 ^ 32
 line_fits signal bytes is valid = omega (arith, short_line signal valid, ap length is)
+
+-- what stands behind the word of a heading
+pub behind_word : (heading : List ℕ) → take (length heading - 6) (drop 6 heading) ≡ drop 6 heading
+behind_word heading = take_rest heading 6
+
+-- is the line
+pub line_behind : (heading line : List ℕ) → heading ≡ input_heading line → drop 6 heading ≡ line
+line_behind heading line is = ap (drop 6) is
+
+-- and the heading has the word
+pub word_there : (heading line : List ℕ) → heading ≡ input_heading line → 6 ≤ length heading
+word_there heading line is = omega (arith, ap length is, length-append (codes "input ") line)
 
 pub no_effects : (s : Parts) (a : ℕ) → front s.events a ≡ None → effects_due s a ≡ []
 no_effects s a none = ap (λ (o : Option Event). option_map_or (λ (v : Event). option_map_or (λ (row : Entity). effects_of v row) (first s a v) []) o []) none

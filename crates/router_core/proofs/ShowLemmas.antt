@@ -1,7 +1,7 @@
 -- The text of the show command, part by part.
 use Rattle.std.proofs.Common.{◌≡◌, ℕ, List, [], ◌∷◌, ◌++◌, map, codes, decimal, refl, sym, ◌∙◌, ap, append_assoc}
 use Rattle.router_model.specs.State.{Parts}
-use Rattle.trace_history.specs.Trace.{line_text, line_texts}
+use Rattle.trace_history.specs.Lines.{line_text, line_texts}
 use Rattle.router_rules.specs.Show.{service_lines, activity_line, entity_line, link_line, pending_line, show_text}
 
 texts_append : (xs ys : List (List ℕ)) → line_texts (xs ++ ys) ≡ line_texts xs ++ line_texts ys

@@ -6,7 +6,9 @@ use Rattle.std.specs.Str.{bytes_eq}
 use Rattle.slee_value.specs.declared.ids.ActivityId.{ActivityId}
 use Rattle.router_model.specs.Activities.{links_on, front}
 use Rattle.router_model.specs.Trees.{links_of}
+use Rattle.signal_script.specs.Signals.{spelled}
 use Rattle.router_rules.specs.BuiltIn.{activity_end}
+use Rattle.router_rules.specs.Lines.{input_heading}
 use Rattle.slee_value.specs.declared.value.Value.{Value}
 use Rattle.router_model.specs.declared.rows.Event.{Event}
 use Rattle.router_model.specs.State.{Parts}
@@ -31,6 +33,13 @@ pub record PlanView : Type 0 where
   pub changes : List Change
   pub lines : List (List ℕ)
   pub payload : List ℕ
+
+-- the heading of a choice that takes a line; of another choice no text
+abbrev pub heading_taken : Choice → List ℕ
+heading_taken (choices.Input signal) = input_heading (spelled signal)
+heading_taken (choices.Initial a) = []
+heading_taken (choices.Deliver a) = []
+heading_taken (choices.Finish a) = []
 
 -- the event that is fired next
 abbrev pub event_next : Parts → List ℕ → List (List ℕ × Value) → Event

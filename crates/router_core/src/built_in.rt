@@ -4,6 +4,7 @@ ghost use Rattle.router_rules.specs.BuiltIn.{handles, is_initial, is_event, fiel
 ghost use Rattle.router_rules.specs.Taking.{fields_of};
 ghost use Rattle.std.specs.Str.{bytes_eq};
 
+use built_in_events::BuiltInEvent;
 use router_model::Event;
 use slee_value::{Name, NoMemory, Payload, Text, Value};
 use std::alloc::Global;
@@ -22,7 +23,7 @@ pub fn is_event(event: &str) -> bool
 pub fn is_end(event: &str) -> bool
     ensures { result ≡ bytes_eq event.now activity_end }
 {
-    event == "activity-end"
+    event == BuiltInEvent::ActivityEnd.name()
 }
 
 /// Whether the block call declares the event initial.
@@ -36,7 +37,7 @@ pub fn is_initial(event: &str) -> bool
 pub fn handles(event: &str) -> bool
     ensures { result ≡ handles 0 event.now }
 {
-    event == "invite" || event == "activity-end"
+    event == "invite" || is_end(event)
 }
 
 /// Whether the field words of a line give each field of an invite once.

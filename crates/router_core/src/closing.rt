@@ -19,7 +19,7 @@ fn remove(alloc: Global, draft: &mut Draft, entity: EntityId) -> Result<(), NoMe
     ensures lines { OnOk result (draft.new.lines ≡ draft.old.lines ++ removed_line entity.0 ∷ []) }
 {
     draft.change(Change::Remove { entity })?;
-    draft.tell(telling::removed(alloc, entity)?)?;
+    draft.tell(&telling::removed(alloc, entity)?)?;
     Ok(())
 }
 

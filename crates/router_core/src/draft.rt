@@ -35,9 +35,9 @@ impl Draft {
     }
 
     /// Nothing but the heading is planned yet.
-    pub fn begun(alloc: Global, heading: Text) -> Result<Self, NoMemory>
+    pub fn begun(alloc: Global, heading: &Text) -> Result<Self, NoMemory>
         ensures changes { IfOk result (λ d. d.changes ≡ []) }
-        ensures lines { IfOk result (λ d. d.lines ≡ heading ∷ []) }
+        ensures lines { IfOk result (λ d. d.lines ≡ heading.now ∷ []) }
     {
         let mut draft = Draft::new(alloc);
         draft.tell(heading)?;
@@ -54,9 +54,9 @@ impl Draft {
     }
 
     /// A line more.
-    pub fn tell(&mut self, line: Text) -> Result<(), NoMemory>
+    pub fn tell(&mut self, line: &Text) -> Result<(), NoMemory>
         ensures changes { OnOk result (self.new.changes ≡ self.old.changes) }
-        ensures lines { OnOk result (self.new.lines ≡ self.old.lines ++ line ∷ []) }
+        ensures lines { OnOk result (self.new.lines ≡ self.old.lines ++ line.now ∷ []) }
     {
         self.lines.push(line)?;
         Ok(())

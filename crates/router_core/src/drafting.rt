@@ -3,12 +3,12 @@ ghost use Rattle.std.specs.Prelude.{◌≡◌, ◌∷◌, [], IsTrue, IfOk};
 ghost use Rattle.router_rules.specs.Step.{is_choice};
 ghost use Rattle.router_rules.specs.Well.{IsWell};
 ghost use Rattle.trace_history.specs.declared.choice.Choice.TheVariants as choices;
-ghost use Rattle.router_core.specs.Plans.{IsDraftOf};
+ghost use Rattle.router_core.specs.Plans.{IsDraftOf, heading_taken};
 
 use crate::draft::Draft;
 use crate::{choosing, fronts, taking};
 use router_stores::Stores;
-use slee_value::{ActivityId, NoMemory};
+use slee_value::{ActivityId, NoMemory, Text};
 use std::alloc::Global;
 use trace_history::Choice;
 
@@ -50,14 +50,20 @@ fn finish(alloc: Global, stores: &Stores, activity: ActivityId) -> Result<Draft,
     }
 }
 
-/// What the choice changes and tells, before closing.
-pub fn draft(alloc: Global, stores: &Stores, choice: &Choice) -> Result<Draft, NoMemory>
+/// What the choice changes and tells, before closing. The heading is that of a line that is taken.
+pub fn draft(
+    alloc: Global,
+    stores: &Stores,
+    heading: &Text,
+    choice: &Choice,
+) -> Result<Draft, NoMemory>
+    requires heading { heading.now ≡ heading_taken choice.now }
     requires well { IsWell stores.now.parts }
     requires valid { IsTrue (is_choice choice.now) }
     ensures { IfOk result (λ d. IsDraftOf stores.now.parts choice.now d) }
 {
     match choice {
-        Choice::Input(signal) => taking::draft(alloc, stores, signal),
+        Choice::Input(signal) => taking::draft(alloc, stores, heading, signal),
         Choice::Initial(activity) => initial(alloc, stores, *activity),
         Choice::Deliver(activity) => deliver(alloc, stores, *activity),
         Choice::Finish(activity) => finish(alloc, stores, *activity),

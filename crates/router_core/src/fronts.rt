@@ -43,7 +43,7 @@ fn tell_attached(
     ensures lines { OnOk result (draft.new.lines ≡ draft.old.lines ++ lines_of_attached stores.now.parts entity.0 activity.0) }
 {
     if !stores.is_linked(entity, activity) {
-        draft.tell(telling::attached(alloc, entity, activity)?)?;
+        draft.tell(&telling::attached(alloc, entity, activity)?)?;
     }
     Ok(())
 }
@@ -60,7 +60,7 @@ fn selected_old(
     ensures lines { IfOk result (λ d. d.lines ≡ initial_heading activity.0 event.0 (codes "prepaid") root.0 (codes "old") ∷ lines_of_attached stores.now.parts root.0 activity.0) }
 {
     let heading = telling::initial_old(alloc, activity, event, root)?;
-    let mut draft = Draft::begun(alloc, heading)?;
+    let mut draft = Draft::begun(alloc, &heading)?;
     let service = built_in::PREPAID;
     draft.change(Change::MarkService { activity, service })?;
     let entity = root;
@@ -81,7 +81,7 @@ fn selected_new(
 {
     let entity = stores.next_entity();
     let heading = telling::initial_new(alloc, activity, event, entity)?;
-    let mut draft = Draft::begun(alloc, heading)?;
+    let mut draft = Draft::begun(alloc, &heading)?;
     let service = built_in::PREPAID;
     draft.change(Change::MarkService { activity, service })?;
     draft.change(Change::CreateRoot {
@@ -125,9 +125,9 @@ fn delivered_to(
     ensures lines { IfOk result (λ d. d.lines ≡ deliver_heading activity.0 event.now.id.0 entity.0 (codes "fine") ∷ say_line entity.0 said.now ∷ []) }
 {
     let heading = telling::deliver(alloc, activity, event.id, entity)?;
-    let mut draft = Draft::begun(alloc, heading)?;
+    let mut draft = Draft::begun(alloc, &heading)?;
     draft.change(Change::MarkEntity { activity, entity })?;
-    draft.tell(telling::said(alloc, entity, said)?)?;
+    draft.tell(&telling::said(alloc, entity, said)?)?;
     Ok(draft)
 }
 
@@ -153,11 +153,11 @@ pub fn finished(alloc: Global, activity: ActivityId, event: &Event) -> Result<Dr
     ensures lines { IfOk result (λ d. d.lines ≡ lines_of_finished activity.0 event.now) }
 {
     let heading = telling::finish(alloc, activity, event.id)?;
-    let mut draft = Draft::begun(alloc, heading)?;
+    let mut draft = Draft::begun(alloc, &heading)?;
     draft.change(Change::Pop { activity })?;
     if built_in::is_end(event.name.as_str()) {
         draft.change(Change::DropContext { activity })?;
-        draft.tell(telling::gone(alloc, activity)?)?;
+        draft.tell(&telling::gone(alloc, activity)?)?;
     }
     Ok(draft)
 }

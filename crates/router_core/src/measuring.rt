@@ -20,7 +20,7 @@ use slee_value::{ActivityId, COUNT_LEN, Name, Text, needs_escape};
 pub const INPUT_FRAME: usize = 1 + COUNT_LEN;
 
 /// A payload of a kind and an activity.
-const NUMBERED: usize = 1 + 8;
+pub const NUMBERED: usize = 1 + 8;
 
 /// The payload of a delivery without effects: its kind, the activity, the outcome and the count of effects.
 const DELIVERY_FRAME: usize = NUMBERED + 1 + COUNT_LEN;

@@ -1,6 +1,6 @@
 //! What the show command prints of a state.
 ghost use Rattle.std.specs.Prelude.{◌≡◌, ◌++◌, ◌∷◌, [], IfOk, OnOk, OnErr, codes, if◌then◌else◌, map, decimal, string_bytes};
-ghost use Rattle.trace_history.specs.Trace.{line_text, line_texts};
+ghost use Rattle.trace_history.specs.Lines.{line_text, line_texts};
 ghost use Rattle.router_rules.specs.Show.{state_word, service_lines, kind_words, activity_line, stem_words, entity_line, link_line, pending_line, show_text};
 
 use router_model::{AcKind, Activity, Entity, Link, Queued, Service, ServiceState, Stem};

@@ -13,7 +13,7 @@ ghost use Rattle.router_rules.specs.declared.limits.TheConstants.{PAYLOAD_LIMIT}
 ghost use Rattle.router_core.specs.Plans.{AllFit, IsPlanOf, HasRoomFor};
 ghost use Rattle.router_core.specs.Lent.{choice_of};
 
-use crate::{ChoiceRef, Plan, choosing, closing, drafting, keeping, measuring, showing};
+use crate::{ChoiceRef, Plan, choosing, closing, drafting, keeping, measuring, showing, telling};
 use router_model::{Change, Entity, Event, Queued};
 use router_rules::Kindred;
 use router_stores::Stores;
@@ -106,9 +106,10 @@ impl State {
         ensures made { IfOk result (λ plan. IsPlanOf self.now.parts choice plan) }
         ensures short { IfOk result (λ plan. length plan.payload ≤ PAYLOAD_LIMIT) }
     {
-        let mut draft = drafting::draft(alloc, &self.stores, &choice)?;
+        let heading = telling::heading(alloc, &choice)?;
+        let mut draft = drafting::draft(alloc, &self.stores, &heading, &choice)?;
         closing::close(alloc, &self.stores, &choice, &mut draft)?;
-        let payload = keeping::payload(alloc, &self.stores, &choice)?;
+        let payload = keeping::payload(alloc, &self.stores, &heading, &choice)?;
         let (changes, lines) = draft.into_parts();
         Ok(Plan::new(choice, changes, lines, payload))
     }

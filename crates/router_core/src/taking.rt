@@ -14,6 +14,7 @@ ghost use Rattle.router_core.specs.Plans.{IsDraftOf, event_next};
 
 use crate::draft::Draft;
 use crate::{built_in, telling};
+use built_in_events::BuiltInEvent;
 use router_model::{AcKind, Activity, Change, Event};
 use router_stores::Stores;
 use signal_script::Signal;
@@ -81,25 +82,25 @@ fn number_named(stores: &Stores, name: &Name) -> ActivityId
     }
 }
 
-fn refused(alloc: Global, heading: Text, why: &str) -> Result<Draft, NoMemory>
+fn refused(alloc: Global, heading: &Text, why: &str) -> Result<Draft, NoMemory>
     ensures changes { IfOk result (λ d. d.changes ≡ changes.Taken ∷ []) }
-    ensures lines { IfOk result (λ d. d.lines ≡ heading ∷ refused_line why.now ∷ []) }
+    ensures lines { IfOk result (λ d. d.lines ≡ heading.now ∷ refused_line why.now ∷ []) }
 {
     let mut draft = Draft::begun(alloc, heading)?;
     draft.change(Change::Taken)?;
-    draft.tell(telling::refused(alloc, why)?)?;
+    draft.tell(&telling::refused(alloc, why)?)?;
     Ok(draft)
 }
 
-fn started(alloc: Global, stores: &Stores, heading: Text, name: &Name) -> Result<Draft, NoMemory>
+fn started(alloc: Global, stores: &Stores, heading: &Text, name: &Name) -> Result<Draft, NoMemory>
     ensures changes { IfOk result (λ d. d.changes ≡ changes.Taken ∷ changes.Start (kinds.External name.now) ∷ []) }
-    ensures lines { IfOk result (λ d. d.lines ≡ heading ∷ started_line stores.now.parts.next_activity name.now ∷ []) }
+    ensures lines { IfOk result (λ d. d.lines ≡ heading.now ∷ started_line stores.now.parts.next_activity name.now ∷ []) }
 {
     let mut draft = Draft::begun(alloc, heading)?;
     draft.change(Change::Taken)?;
     let kind = AcKind::External(name.copy(alloc)?);
     draft.change(Change::Start { kind })?;
-    draft.tell(telling::started(alloc, stores.next_activity(), name)?)?;
+    draft.tell(&telling::started(alloc, stores.next_activity(), name)?)?;
     Ok(draft)
 }
 
@@ -118,40 +119,41 @@ fn next_event(stores: &Stores, name: Text, fields: Payload) -> Event
 fn ended(
     alloc: Global,
     stores: &Stores,
-    heading: Text,
+    heading: &Text,
     activity: ActivityId,
 ) -> Result<Draft, NoMemory>
     ensures changes { IfOk result (λ d. d.changes ≡ changes.Taken ∷ changes.End activity ∷ changes.Push activity (event_next stores.now.parts activity_end []) ∷ changes.NextEvent ∷ []) }
-    ensures lines { IfOk result (λ d. d.lines ≡ heading ∷ ending_line activity.0 ∷ queued_line stores.now.parts.next_event activity_end activity.0 ∷ []) }
+    ensures lines { IfOk result (λ d. d.lines ≡ heading.now ∷ ending_line activity.0 ∷ queued_line stores.now.parts.next_event activity_end activity.0 ∷ []) }
 {
     let mut draft = Draft::begun(alloc, heading)?;
     draft.change(Change::Taken)?;
     draft.change(Change::End { activity })?;
-    let name = Text::from_str(alloc, "activity-end")?;
+    let end = BuiltInEvent::ActivityEnd.name();
+    let name = Text::from_str(alloc, end)?;
     let event = next_event(stores, name, Payload::new(alloc));
     draft.change(Change::Push { activity, event })?;
     draft.change(Change::NextEvent)?;
-    draft.tell(telling::ending(alloc, activity)?)?;
-    draft.tell(telling::queued(alloc, stores.next_event(), "activity-end", activity)?)?;
+    draft.tell(&telling::ending(alloc, activity)?)?;
+    draft.tell(&telling::queued(alloc, stores.next_event(), end, activity)?)?;
     Ok(draft)
 }
 
 fn fired(
     alloc: Global,
     stores: &Stores,
-    heading: Text,
+    heading: &Text,
     activity: ActivityId,
     event: &Text,
     fields: Payload,
 ) -> Result<Draft, NoMemory>
     ensures changes { IfOk result (λ d. d.changes ≡ changes.Taken ∷ changes.Push activity (event_next stores.now.parts event.now fields) ∷ changes.NextEvent ∷ []) }
-    ensures lines { IfOk result (λ d. d.lines ≡ heading ∷ queued_line stores.now.parts.next_event event.now activity.0 ∷ []) }
+    ensures lines { IfOk result (λ d. d.lines ≡ heading.now ∷ queued_line stores.now.parts.next_event event.now activity.0 ∷ []) }
 {
     let mut draft = Draft::begun(alloc, heading)?;
     draft.change(Change::Taken)?;
     let name = event.copy(alloc)?;
     let event = next_event(stores, name, fields);
-    draft.tell(telling::queued(alloc, stores.next_event(), event.name.as_str(), activity)?)?;
+    draft.tell(&telling::queued(alloc, stores.next_event(), event.name.as_str(), activity)?)?;
     draft.change(Change::Push { activity, event })?;
     draft.change(Change::NextEvent)?;
     Ok(draft)
@@ -159,8 +161,8 @@ fn fired(
 
 /// What a line does that isn't refused.
 #[tactic(auto, using(crate::proofs::TakingLemmas::start_drafted, crate::proofs::TakingLemmas::end_drafted, crate::proofs::TakingLemmas::fire_drafted, crate::proofs::TakingLemmas::given_where_it_stands))]
-fn obeyed(alloc: Global, stores: &Stores, heading: Text, signal: &Signal) -> Result<Draft, NoMemory>
-    requires heading { heading ≡ input_heading (spelled signal.now) }
+fn obeyed(alloc: Global, stores: &Stores, heading: &Text, signal: &Signal) -> Result<Draft, NoMemory>
+    requires heading { heading.now ≡ input_heading (spelled signal.now) }
     requires taken { IsTrue (is_routed signal.now) }
     requires stands { refusal stores.now.parts signal.now ≡ None }
     ensures { IfOk result (λ d. IsDraftOf stores.now.parts (choices.Input signal.now) d) }
@@ -188,13 +190,18 @@ fn obeyed(alloc: Global, stores: &Stores, heading: Text, signal: &Signal) -> Res
     }
 }
 
-/// What taking a line does.
+/// What taking a line does, of this heading.
 #[tactic(auto, using(crate::proofs::TakingLemmas::refused_drafted, crate::proofs::TakingLemmas::input_signal, crate::proofs::TakingLemmas::input_routed))]
-pub fn draft(alloc: Global, stores: &Stores, signal: &Signal) -> Result<Draft, NoMemory>
-    requires { IsTrue (is_input signal.now) }
+pub fn draft(
+    alloc: Global,
+    stores: &Stores,
+    heading: &Text,
+    signal: &Signal,
+) -> Result<Draft, NoMemory>
+    requires heading { heading.now ≡ input_heading (spelled signal.now) }
+    requires taken { IsTrue (is_input signal.now) }
     ensures { IfOk result (λ d. IsDraftOf stores.now.parts (choices.Input signal.now) d) }
 {
-    let heading = telling::input(alloc, signal)?;
     match refusal(stores, signal) {
         Some(why) => refused(alloc, heading, why),
         None => obeyed(alloc, stores, heading, signal),

@@ -1,16 +1,48 @@
 //! The lines of a trace.
-ghost use Rattle.std.specs.Prelude.{◌≡◌, false, IsTrue, IfOk, codes, string_bytes};
+ghost use Rattle.std.specs.Prelude.{◌≡◌, [], false, IsTrue, IfOk, codes, string_bytes};
 ghost use Rattle.signal_script.specs.Signals.{spelled, is_signal};
 ghost use Rattle.slee_value.specs.Escape.{escaped};
+ghost use Rattle.router_rules.specs.Step.{is_choice};
+ghost use Rattle.router_core.specs.Plans.{heading_taken};
 ghost use Rattle.router_rules.specs.Lines.{input_heading, initial_heading, deliver_heading, finish_heading, refused_line, started_line, ending_line, gone_line, queued_line, attached_line, removed_line, say_line};
 
 use signal_script::{Signal, print_signal};
 use slee_value::{ActivityId, EntityId, EventId, Name, NoMemory, Text, escape};
 use std::alloc::Global;
+use trace_history::Choice;
+
+/// How many bytes are made room for where a line begins: most are no longer.
+const LINE_ROOM: usize = 48;
+
+/// A line that nothing is written on yet.
+fn empty_line(alloc: Global) -> Result<String, NoMemory>
+    ensures { IfOk result (λ line. string_bytes line ≡ []) }
+{
+    Ok(String::with_capacity(alloc, LINE_ROOM)?)
+}
+
+/// The heading of a line that is taken; of another choice no text.
+pub fn heading(alloc: Global, choice: &Choice) -> Result<Text, NoMemory>
+    requires { IsTrue (is_choice choice.now) }
+    ensures { IfOk result (λ line. line ≡ heading_taken choice.now) }
+{
+    match choice {
+        Choice::Input(signal) => input(alloc, signal),
+        Choice::Initial(_) => none(alloc),
+        Choice::Deliver(_) => none(alloc),
+        Choice::Finish(_) => none(alloc),
+    }
+}
+
+fn none(alloc: Global) -> Result<Text, NoMemory>
+    ensures { IfOk result (λ text. text ≡ []) }
+{
+    Ok(Text::from(String::new(alloc)))
+}
 
 /// A line that a signal gave, as it was.
 #[tactic(auto, using(crate::proofs::TextLemmas::heading_is_utf8))]
-pub fn input(alloc: Global, signal: &Signal) -> Result<Text, NoMemory>
+fn input(alloc: Global, signal: &Signal) -> Result<Text, NoMemory>
     requires { IsTrue (is_signal signal.now) }
     ensures { IfOk result (λ line. line ≡ input_heading (spelled signal.now)) }
 {
@@ -27,10 +59,10 @@ pub fn initial_new(
 ) -> Result<Text, NoMemory>
     ensures { IfOk result (λ line. line ≡ initial_heading activity.0 event.0 (codes "prepaid") entity.0 (codes "new")) }
 {
-    Ok(Text::from(format!(in alloc;
-        "initial a{} v{} prepaid e{} new",
-        activity.0, event.0, entity.0
-    )?))
+    let mut line = empty_line(alloc)?;
+    write!(line, "initial a{} v{} prepaid e{} new",
+        activity.0, event.0, entity.0)?;
+    Ok(Text::from(line))
 }
 
 pub fn initial_old(
@@ -41,10 +73,10 @@ pub fn initial_old(
 ) -> Result<Text, NoMemory>
     ensures { IfOk result (λ line. line ≡ initial_heading activity.0 event.0 (codes "prepaid") entity.0 (codes "old")) }
 {
-    Ok(Text::from(format!(in alloc;
-        "initial a{} v{} prepaid e{} old",
-        activity.0, event.0, entity.0
-    )?))
+    let mut line = empty_line(alloc)?;
+    write!(line, "initial a{} v{} prepaid e{} old",
+        activity.0, event.0, entity.0)?;
+    Ok(Text::from(line))
 }
 
 pub fn deliver(
@@ -55,37 +87,49 @@ pub fn deliver(
 ) -> Result<Text, NoMemory>
     ensures { IfOk result (λ line. line ≡ deliver_heading activity.0 event.0 entity.0 (codes "fine")) }
 {
-    Ok(Text::from(format!(in alloc; "deliver a{} v{} e{} fine", activity.0, event.0, entity.0)?))
+    let mut line = empty_line(alloc)?;
+    write!(line, "deliver a{} v{} e{} fine", activity.0, event.0, entity.0)?;
+    Ok(Text::from(line))
 }
 
 pub fn finish(alloc: Global, activity: ActivityId, event: EventId) -> Result<Text, NoMemory>
     ensures { IfOk result (λ line. line ≡ finish_heading activity.0 event.0) }
 {
-    Ok(Text::from(format!(in alloc; "finish a{} v{}", activity.0, event.0)?))
+    let mut line = empty_line(alloc)?;
+    write!(line, "finish a{} v{}", activity.0, event.0)?;
+    Ok(Text::from(line))
 }
 
 pub fn refused(alloc: Global, why: &str) -> Result<Text, NoMemory>
     ensures { IfOk result (λ line. line ≡ refused_line why.now) }
 {
-    Ok(Text::from(format!(in alloc; "  refused {why}")?))
+    let mut line = empty_line(alloc)?;
+    write!(line, "  refused {why}")?;
+    Ok(Text::from(line))
 }
 
 pub fn started(alloc: Global, activity: ActivityId, name: &Name) -> Result<Text, NoMemory>
     ensures { IfOk result (λ line. line ≡ started_line activity.0 name.now) }
 {
-    Ok(Text::from(format!(in alloc; "  started a{} {}", activity.0, name.as_str())?))
+    let mut line = empty_line(alloc)?;
+    write!(line, "  started a{} {}", activity.0, name.as_str())?;
+    Ok(Text::from(line))
 }
 
 pub fn ending(alloc: Global, activity: ActivityId) -> Result<Text, NoMemory>
     ensures { IfOk result (λ line. line ≡ ending_line activity.0) }
 {
-    Ok(Text::from(format!(in alloc; "  ending a{}", activity.0)?))
+    let mut line = empty_line(alloc)?;
+    write!(line, "  ending a{}", activity.0)?;
+    Ok(Text::from(line))
 }
 
 pub fn gone(alloc: Global, activity: ActivityId) -> Result<Text, NoMemory>
     ensures { IfOk result (λ line. line ≡ gone_line activity.0) }
 {
-    Ok(Text::from(format!(in alloc; "  gone a{}", activity.0)?))
+    let mut line = empty_line(alloc)?;
+    write!(line, "  gone a{}", activity.0)?;
+    Ok(Text::from(line))
 }
 
 pub fn queued(
@@ -96,19 +140,25 @@ pub fn queued(
 ) -> Result<Text, NoMemory>
     ensures { IfOk result (λ line. line ≡ queued_line event.0 name.now activity.0) }
 {
-    Ok(Text::from(format!(in alloc; "  queued v{} {name} a{}", event.0, activity.0)?))
+    let mut line = empty_line(alloc)?;
+    write!(line, "  queued v{} {name} a{}", event.0, activity.0)?;
+    Ok(Text::from(line))
 }
 
 pub fn attached(alloc: Global, entity: EntityId, activity: ActivityId) -> Result<Text, NoMemory>
     ensures { IfOk result (λ line. line ≡ attached_line entity.0 activity.0) }
 {
-    Ok(Text::from(format!(in alloc; "  attached e{} a{}", entity.0, activity.0)?))
+    let mut line = empty_line(alloc)?;
+    write!(line, "  attached e{} a{}", entity.0, activity.0)?;
+    Ok(Text::from(line))
 }
 
 pub fn removed(alloc: Global, entity: EntityId) -> Result<Text, NoMemory>
     ensures { IfOk result (λ line. line ≡ removed_line entity.0) }
 {
-    Ok(Text::from(format!(in alloc; "  removed e{}", entity.0)?))
+    let mut line = empty_line(alloc)?;
+    write!(line, "  removed e{}", entity.0)?;
+    Ok(Text::from(line))
 }
 
 #[tactic(auto, using(crate::proofs::TextLemmas::escaped_is_utf8))]
@@ -125,5 +175,7 @@ pub fn said(alloc: Global, entity: EntityId, text: &Text) -> Result<Text, NoMemo
     ensures { IfOk result (λ line. line ≡ say_line entity.0 text.now) }
 {
     let escaped = escaped(alloc, text)?;
-    Ok(Text::from(format!(in alloc; "  say e{} {escaped}", entity.0)?))
+    let mut line = empty_line(alloc)?;
+    write!(line, "  say e{} {escaped}", entity.0)?;
+    Ok(Text::from(line))
 }

@@ -3,6 +3,7 @@ ghost use Rattle.router_journal.specs.Opening.{fault_of, begin_fault_of};
 ghost use Rattle.commit_journal.specs.declared.limits.TheConstants.{PAYLOAD_LIMIT, SIDE_FRAME, SIDE_LIMIT};
 ghost use Rattle.router_core.specs.Lent.{choice_of};
 ghost use Rattle.router_core.specs.Plans.{HasRoomFor, IsPlanOf};
+ghost use Rattle.trace_history.specs.Views.{HasRoomForLines};
 ghost use Rattle.router_rules.specs.Step.{is_enabled, is_choice};
 ghost use Rattle.std.specs.Prelude.{◌≡◌, ◌≤◌, ◌<◌, ◌+◌, [], true, false, length, IsTrue, Some, None, Ok, Err, IfOk, IfErr, OnOk, OnErr, IsErrOf, IsOk};
 
@@ -269,10 +270,10 @@ fn reserve(state: &mut State, history: &mut History, plan: &Plan) -> Result<(), 
     ensures state { state.new.parts ≡ state.old.parts }
     ensures history { history.new.entries ≡ history.old.entries }
     ensures room { OnOk result (HasRoomFor plan.now state.new) }
-    ensures one { OnOk result (1 ≤ history.new.room) }
+    ensures lines { OnOk result (HasRoomForLines plan.now.lines history.new) }
 {
     state.reserve(plan)?;
-    history.reserve(1)
+    history.reserve(plan.lines())
 }
 
 /// A fault of the journal, as one of opening.

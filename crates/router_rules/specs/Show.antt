@@ -13,7 +13,7 @@ use Rattle.router_model.specs.declared.rows.Queued.{Queued}
 use Rattle.router_model.specs.declared.rows.Service.{Service}
 use Rattle.router_model.specs.declared.rows.ServiceState.{ServiceState}
 use Rattle.router_model.specs.declared.rows.ServiceState.TheVariants as states
-use Rattle.trace_history.specs.Trace.{line_texts}
+use Rattle.trace_history.specs.Lines.{line_texts}
 use Rattle.router_rules.specs.BuiltIn.{service_key, block_key}
 
 abbrev pub state_word : ServiceState → List ℕ

@@ -1,7 +1,8 @@
 -- Escaping and its inverse.
 use Rattle.std.proofs.Common.{◌≡◌, ℕ, ◌-◌, ◌/◌, ◌%◌, ◌<◌, ◌≤◌, zero, suc, Bool, true, false, ◌&&◌, ◌==◌, if◌then◌else◌, List, [], ◌∷◌, ◌++◌, length, get_or, take, drop, refl, sym, ◌∙◌, ap, subst, arith, append_assoc, append-nil, length-append, Option, Some, None, option_map, true≢false, ◌⊎◌, inl, inr, ne_eqb, eq-eqb}
 use Rattle.std.proofs.lemmas.List.{take_rest}
-use Rattle.std.proofs.lemmas.Bool.{cases_Bool, cases_lt, and_parts}
+use Rattle.std.proofs.lemmas.Bool.{cases_Bool, cases_lt, and_parts, or_parts}
+use Rattle.std.specs.List.{list_any}
 use Rattle.std.proofs.lemmas.Bool.Decides.{nat_tests}
 use Rattle.std.proofs.lemmas.Str.{IsUtf8-append, IsUtf8-nil, IsUtf8-drop, IsUtf8-encode, IsCharBoundary-after_ascii, encode_ascii, inside_one, length-encode, len_utf8_bounds}
 use lib.Utf8.{scalar, scalars, encode, encodes, low_scalar}
@@ -39,6 +40,13 @@ plain_byte word b (h ∷ l ∷ bs) not = rw (not, ne_eqb b 37 (percent_is_escape
 pub escape_read : (word : Bool) (b h l : ℕ) (bs : List ℕ) → b ≡ 37 → is_escape word h l ≡ true
     → unescaped word (b ∷ h ∷ l ∷ bs) ≡ option_map (λ more. byte_of_digits h l ∷ more) (unescaped word bs)
 escape_read word b h l bs percent is = rw (eq-eqb b 37 percent, is)
+
+-- a text without a byte that has to be escaped stands as it is
+pub plain_text : (word : Bool) (text : List ℕ) → list_any (is_escaped word) text ≡ false → unescaped word text ≡ Some text
+plain_text word [] none = refl
+plain_text word (b ∷ bs) none =
+    let parts = or_parts (is_escaped word b) (list_any (is_escaped word) bs) none in
+    plain_byte word b bs parts.0 ∙ ap (option_map (λ more. b ∷ more)) (plain_text word bs parts.1)
 
 -- the same, as the code cuts them
 pub plain_cut : (word : Bool) (text : List ℕ) → 0 < length text → is_escaped word (get_or text 0 0) ≡ false

@@ -41,6 +41,9 @@ impl Fields {
         ensures ok { OnOk result (self.new ≡ self.old ++ (name, value) ∷ []) }
         ensures err { OnErr result (self.new ≡ self.old) }
     {
+        if self.fields.is_empty() {
+            make_room(&mut self.fields)?;
+        }
         self.fields.push((name, value))?;
         Ok(())
     }
@@ -55,10 +58,20 @@ impl Fields {
     pub fn copy(&self, alloc: Global) -> Result<Self, NoMemory>
         ensures { IfOk result (λ fields. fields ≡ self.now) }
     {
-        let mut made = Fields::new(alloc);
+        let mut made = Fields {
+            fields: Vec::with_capacity(alloc, self.fields.len())?,
+        };
         for (name, value) in &self.fields {
             made.push(name.copy(alloc)?, value.copy(alloc)?)?;
         }
         Ok(made)
     }
+}
+
+/// Makes room for one field: most lines have no more.
+fn make_room(fields: &mut Vec<(Name, Text)>) -> Result<(), NoMemory>
+    ensures { fields.new.items ≡ fields.old.items }
+{
+    fields.reserve_exact(1)?;
+    Ok(())
 }

@@ -3,29 +3,34 @@ ghost use Rattle.std.specs.Prelude.{◌≡◌, ◌∷◌, ◌<◌, ◌+◌, [], 
 ghost use Rattle.std.specs.List.{list_any};
 ghost use Rattle.signal_script.specs.Lines.{lines_of, words_of, words_behind, is_control};
 
+use memchr::memchr;
+
 /// The most bytes that a line has, without its newline.
 pub const LINE_LIMIT: usize = 4096;
 
 /// The first line, without its newline, and what follows it.
-#[tactic(auto, using(crate::proofs::LineLemmas::first_line_cut, crate::proofs::LineLemmas::only_line_of))]
+#[tactic(auto, using(crate::proofs::LineLemmas::newline_found, crate::proofs::LineLemmas::newline_missing))]
 pub fn first_line(bytes: &[u8]) -> (&[u8], &[u8])
     requires { 0 < length bytes.now }
     ensures lines { lines_of bytes.now ≡ result.0.now ∷ lines_of result.1.now }
     ensures shorter { length result.1.now < length bytes.now }
 {
-    for (i, b) in bytes.iter().enumerate() {
-        if *b == b'\n' {
-            return (&bytes[..i], &bytes[i + 1..]);
-        }
+    match memchr(b'\n', bytes) {
+        Some(end) => (&bytes[..end], &bytes[end + 1..]),
+        None => (bytes, &bytes[bytes.len()..]),
     }
-    (bytes, &bytes[bytes.len()..])
 }
 
-/// Whether the line has a byte that no line has.
+/// Whether the line has a byte that no line has. It looks at each, since so many are looked at side by side.
+#[tactic(auto, using(crate::proofs::LineLemmas::one_byte_looked_at))]
 pub fn has_control(line: &[u8]) -> bool
     ensures { result ≡ list_any is_control line.now }
 {
-    line.iter().any(|b| is_control(*b))
+    let mut found = false;
+    for b in line {
+        found = is_control(*b) | found;
+    }
+    found
 }
 
 fn is_control(b: u8) -> bool

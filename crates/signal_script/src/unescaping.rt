@@ -1,17 +1,36 @@
 //! Reading an escaped text.
 ghost use Rattle.std.specs.Prelude.{◌≡◌, ◌∷◌, ◌<◌, ◌/◌, ◌%◌, ◌&&◌, ◌==◌, true, false, None, IfOk, IsNone, IfSome, MatchOption, length, option_map};
-ghost use Rattle.slee_value.specs.Escape.{hex_digit_of};
+ghost use Rattle.std.specs.List.{list_any};
+ghost use Rattle.slee_value.specs.Escape.{hex_digit_of, is_escaped};
 ghost use Rattle.signal_script.specs.WordText.{unescaped, is_escape, byte_of_digits, digit_value};
 
 use slee_value::{NoMemory, Text, hex_digit, needs_escape};
 use std::alloc::Global;
 
 /// The text that was escaped, where this is an escaped text: each byte that has to be escaped is, and no other.
-#[tactic(auto, using(crate::proofs::WordTextLemmas::one_byte_more, crate::proofs::WordTextLemmas::none_more))]
+#[tactic(auto, using(crate::proofs::WordTextLemmas::plain_text))]
 pub fn unescape(alloc: Global, text: &str, word: bool) -> Result<Option<Text>, NoMemory>
     ensures { IfOk result (λ read. read ≡ unescaped word text.now) }
 {
-    let mut made = Vec::new(alloc);
+    if !has_escaped(text.as_bytes(), word) {
+        return Ok(Some(Text::from_str(alloc, text)?));
+    }
+    read_escapes(alloc, text, word)
+}
+
+/// Whether it has a byte that isn't written as it is.
+fn has_escaped(text: &[u8], word: bool) -> bool
+    ensures { result ≡ list_any (is_escaped word) text.now }
+{
+    text.iter().any(|b| needs_escape(*b, word))
+}
+
+/// The same, a byte after the other.
+#[tactic(auto, using(crate::proofs::WordTextLemmas::one_byte_more, crate::proofs::WordTextLemmas::none_more))]
+fn read_escapes(alloc: Global, text: &str, word: bool) -> Result<Option<Text>, NoMemory>
+    ensures { IfOk result (λ read. read ≡ unescaped word text.now) }
+{
+    let mut made = Vec::with_capacity(alloc, text.len())?;
     let mut rest = text.as_bytes();
     while !rest.is_empty() {
         let Some((byte, after)) = first_byte(rest, word) else {

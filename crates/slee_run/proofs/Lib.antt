@@ -1,5 +1,4 @@
 pub mod WordLemmas
-pub mod TraceLemmas
 pub mod AdvanceLemmas
 pub mod PlayLemmas
 pub mod JournalLemmas

@@ -11,7 +11,6 @@ use crate::Status;
 use crate::printing::{write_status, write_text};
 use slee_container::Container;
 use slee_disk::{Disk, Failed, Sink};
-use std::alloc::Global;
 
 /// Writes the status alone.
 #[tactic(auto, using(crate::proofs::EndLemmas::written))]
@@ -26,7 +25,6 @@ pub fn refuse<K: Sink>(out: &mut K, stood: Status) -> Status
 /// Writes the acknowledged entries of a container and the status.
 #[tactic(auto, using(crate::proofs::EndLemmas::written))]
 pub fn finish<'d, K: Sink, D: Disk>(
-    alloc: Global,
     out: &mut K,
     container: &Container<'d, D>,
     stood: Status,
@@ -34,9 +32,8 @@ pub fn finish<'d, K: Sink, D: Disk>(
     ensures output { IsWritten (K.contents out.old) (K.contents out.new) (output_text (take container.now.acked container.now.history) stood) stood result }
     ensures write { stood ≢ Status.WriteFault → result ≡ Status.WriteFault → Rose (K.faults out.old) (K.faults out.new) }
 {
-    let acked = container.acked() as usize;
-    let entries = container.history().as_slice();
-    let written = write_text(alloc, out, &entries[..acked], &stood);
+    let acked = container.acked();
+    let written = write_text(out, container.history(), acked, &stood);
     status_written(written, stood)
 }
 

@@ -1,7 +1,7 @@
 //! Writing the text of a run.
-ghost use Rattle.std.specs.Prelude.{◌≡◌, ◌+◌, ◌++◌, ◌<◌, ◌≤◌, ◌^◌, OnOk, decimal, length, take};
+ghost use Rattle.std.specs.Prelude.{◌++◌, ◌≤◌, length, take};
 ghost use Rattle.slee_disk.specs.Writes.{Writes};
-ghost use Rattle.trace_history.specs.Trace.{trace_text, trace_from, entry_text, line_text, line_texts};
+ghost use Rattle.trace_history.specs.Trace.{trace_text};
 ghost use Rattle.slee_disk.specs.Sides.{side_word};
 ghost use Rattle.commit_journal.specs.Words.{kind_word};
 ghost use Rattle.signal_script.specs.Words.{bad_word};
@@ -13,28 +13,30 @@ use crate::{Given, Status};
 use commit_journal::JournalBad;
 use deploy_reading::ReadFault;
 use deploy_text::{Counts, write_counts, write_fault};
-use itoa::Buffer;
 use signal_script::SignalBad;
 use sink_text::write_number;
 use slee_disk::{Failed, Side, Sink, write_whole};
-use slee_value::{NoMemory, Text};
-use std::alloc::Global;
-use trace_history::Entry;
+use trace_history::History;
 
-/// How many bytes are gathered before they are written, or a few more.
-const CHUNK: usize = 65_536;
-
-/// Writes the entries, numbered from 1, and the status line.
+/// Writes so many entries, numbered from 1, and the status line.
 pub fn write_text<K: Sink>(
-    alloc: Global,
     out: &mut K,
-    history: &[Entry],
+    history: &History,
+    entries: u64,
     status: &Status,
 ) -> Result<(), Failed>
-    ensures { Writes K.contents K.faults out.old out.new (output_text history.now status.now) result }
+    requires { entries ≤ length history.now.entries }
+    ensures { Writes K.contents K.faults out.old out.new (output_text (take entries history.now.entries) status.now) result }
 {
-    write_trace(alloc, out, history)?;
+    write_trace(out, history, entries)?;
     write_status(out, status)
+}
+
+fn write_trace<K: Sink>(out: &mut K, history: &History, entries: u64) -> Result<(), Failed>
+    requires { entries ≤ length history.now.entries }
+    ensures { Writes K.contents K.faults out.old out.new (trace_text (take entries history.now.entries)) result }
+{
+    write_whole(out, history.text(entries))
 }
 
 /// Writes the counts of a deployment and that all is done.
@@ -43,85 +45,6 @@ pub fn write_checked<K: Sink>(out: &mut K, counts: Counts) -> Result<(), Failed>
 {
     write_counts(out, counts)?;
     write_status(out, &Status::Ok)
-}
-
-/// Writes the entries, many at a time where memory is found for their text.
-fn write_trace<K: Sink>(alloc: Global, out: &mut K, history: &[Entry]) -> Result<(), Failed>
-    ensures { Writes K.contents K.faults out.old out.new (trace_text history.now) result }
-{
-    let mut chunk = Vec::new(alloc);
-    let mut at = 0;
-    while at < history.len() {
-        let count = gather(alloc, &mut chunk, at as u64 + 1, &history[at..]);
-        if count == 0 {
-            write_entry(out, at as u64 + 1, history[at].lines.as_slice())?;
-            at += 1;
-        } else {
-            write_whole(out, &chunk)?;
-            at += count;
-        }
-    }
-    Ok(())
-}
-
-/// Puts the text of entries into the chunk, the first of this number, up to its size, and answers of how many.
-fn gather(alloc: Global, chunk: &mut Vec<u8>, number: u64, entries: &[Entry]) -> usize
-    requires { number + length entries.now < 2 ^ 64 }
-    ensures within { result ≤ length entries.now }
-    ensures text { chunk.new.items ≡ trace_from number (take result entries.now) }
-{
-    chunk.clear();
-    let mut text = Vec::new(alloc);
-    for (i, entry) in entries.iter().enumerate() {
-        text.clear();
-        let Ok(()) = put_entry(&mut text, number + i as u64, entry.lines.as_slice()) else {
-            return i;
-        };
-        let Ok(()) = chunk.extend_from_slice(&text) else {
-            return i;
-        };
-        if chunk.len() >= CHUNK {
-            return i + 1;
-        }
-    }
-    entries.len()
-}
-
-fn put_entry(text: &mut Vec<u8>, number: u64, lines: &[Text]) -> Result<(), NoMemory>
-    ensures { OnOk result (text.new.items ≡ text.old.items ++ entry_text number lines.now) }
-{
-    let mut buffer = Buffer::new();
-    text.extend_from_slice(buffer.format(number).as_bytes())?;
-    text.push(b' ')?;
-    for line in lines {
-        text.extend_from_slice(line.as_str().as_bytes())?;
-        text.push(b'\n')?;
-    }
-    Ok(())
-}
-
-fn write_entry<K: Sink>(out: &mut K, number: u64, lines: &[Text]) -> Result<(), Failed>
-    ensures { Writes K.contents K.faults out.old out.new (entry_text number lines.now) result }
-{
-    write_number(out, number)?;
-    write_whole(out, b" ")?;
-    write_lines(out, lines)
-}
-
-fn write_lines<K: Sink>(out: &mut K, lines: &[Text]) -> Result<(), Failed>
-    ensures { Writes K.contents K.faults out.old out.new (line_texts lines.now) result }
-{
-    for line in lines {
-        write_line(out, line)?;
-    }
-    Ok(())
-}
-
-fn write_line<K: Sink>(out: &mut K, line: &Text) -> Result<(), Failed>
-    ensures { Writes K.contents K.faults out.old out.new (line_text line.now) result }
-{
-    write_whole(out, line.as_str().as_bytes())?;
-    write_whole(out, b"\n")
 }
 
 /// Writes the last line.

@@ -79,7 +79,7 @@ fn play_lines<K: Sink, D: Disk>(
     };
     let end = play(&mut container);
     let stood = status_after(container.history().len(), end);
-    let status = finish(alloc, out, &container, stood);
+    let status = finish(out, &container, stood);
     (status, container.into_disk())
 }
 

@@ -1,6 +1,8 @@
+pub mod Lines
+pub mod Trace
+pub mod Ends
 pub mod Views
 pub mod Histories
-pub mod Trace
 pub mod Decimals
 pub mod Totals
 pub mod Reading

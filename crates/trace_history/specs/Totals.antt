@@ -6,7 +6,8 @@ use Rattle.std.specs.Option.{unwrap_or}
 use Rattle.std.specs.Str.{bytes_eq}
 use Rattle.slee_value.specs.Order.{is_below}
 use Rattle.trace_history.specs.Decimals.{int_in}
-use Rattle.trace_history.specs.Trace.{line_text, line_texts, trace_text}
+use Rattle.trace_history.specs.Lines.{line_text, line_texts}
+use Rattle.trace_history.specs.Trace.{trace_text}
 use Rattle.trace_history.specs.declared.entry.Entry.{Entry}
 
 -- how often a usage count was added to, and the sum

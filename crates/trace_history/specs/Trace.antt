@@ -1,15 +1,7 @@
 -- The text of a history.
 use Rattle.std.specs.Prelude.{ℕ, ◌+◌, List, [], ◌∷◌, ◌++◌, codes, decimal}
-use Rattle.std.specs.List.{flat_map}
+use Rattle.trace_history.specs.Lines.{line_texts}
 use Rattle.trace_history.specs.declared.entry.Entry.{Entry}
-
--- a line and its newline
-abbrev pub line_text : List ℕ → List ℕ
-line_text line = line ++ 10 ∷ []
-
--- lines, each with its newline
-abbrev pub line_texts : List (List ℕ) → List ℕ
-line_texts lines = flat_map line_text lines
 
 -- the number, a space and the lines, the first of which is the heading
 abbrev pub entry_text : ℕ → List (List ℕ) → List ℕ

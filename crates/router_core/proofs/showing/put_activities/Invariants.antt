@@ -1,5 +1,5 @@
 use Rattle.std.proofs.Common.{◌≡◌, ◌++◌, map, drop}
-use Rattle.trace_history.specs.Trace.{line_texts}
+use Rattle.trace_history.specs.Lines.{line_texts}
 use Rattle.router_rules.specs.Show.{activity_line}
 use Rattle.router_core.proofs.showing.put_activities.Given as goal
 

@@ -1,7 +1,7 @@
 use Rattle.std.proofs.Common.{◌≡◌, length}
 use Rattle.signal_script.specs.WordText.{unescaped}
 use Rattle.signal_script.proofs.WordTextLemmas.{with_bytes}
-use Rattle.signal_script.proofs.unescaping.unescape.Given as goal
+use Rattle.signal_script.proofs.unescaping.read_escapes.Given as goal
 
 -- the bytes so far, and those of the rest
 abbrev pub invariant-loop-rest : goal.invariant-loop-rest

@@ -2,7 +2,7 @@ use Rattle.std.proofs.Common.{◌∙◌, ◌≡◌, sym, ap, List, ℕ, length, 
 use Rattle.std.proofs.lemmas.Bool.Decides.{nat_tests}
 use Rattle.signal_script.specs.WordText.{unescaped}
 use Rattle.signal_script.proofs.WordTextLemmas.{with_bytes, one_byte_more, made_utf8}
-use Rattle.signal_script.proofs.unescaping.unescape.Goals as goal
+use Rattle.signal_script.proofs.unescaping.read_escapes.Goals as goal
 
 pub loop-rest-preserved : goal.loop-rest-preserved
 loop-rest-preserved c =
