@@ -1,0 +1,82 @@
+//! Steps that give a value to something.
+ghost use Rattle.std.specs.Prelude.{◌≡◌, ◌≤◌};
+ghost use Rattle.script_types.specs.Program as p;
+ghost use Rattle.script_types.specs.ProgramOf.{term_of, assigning_of};
+ghost use Rattle.handler_meaning.specs.Doing.{assigns};
+ghost use Rattle.script_machine.specs.Agreeing.{Agrees};
+ghost use Rattle.script_machine.specs.Settings.{setting_of};
+
+use crate::names::text_of_name;
+use script_machine::{Machine, Scene, Stop, Variable};
+use script_reading::used;
+use script_types::{Assigning, Term};
+use slee_effect::Effect;
+use slee_value::{Name, Text};
+use term_run::{eval, eval_activity};
+
+/// `let NAME = e;`
+fn declare_value(machine: &mut Machine, scene: &Scene, term: &Term) -> Result<(), Stop>
+    ensures agrees { Agrees (assigns (setting_of scene.now) (p.New (term_of term.now))) machine.old machine.new result }
+    ensures spent { machine.new.left ≤ machine.old.left }
+{
+    let x = eval(machine, scene, term)?;
+    machine.declare(Variable::of_value(x))
+}
+
+/// `NAME = e;`
+fn assign_value(machine: &mut Machine, scene: &Scene, place: usize, term: &Term) -> Result<(), Stop>
+    ensures agrees { Agrees (assigns (setting_of scene.now) (p.Variable place (term_of term.now))) machine.old machine.new result }
+    ensures spent { machine.new.left ≤ machine.old.left }
+{
+    let x = eval(machine, scene, term)?;
+    machine.assign(place, x)
+}
+
+/// `self.NAME = e;`
+fn set_field(machine: &mut Machine, scene: &Scene, name: &Name, term: &Term) -> Result<(), Stop>
+    ensures agrees { Agrees (assigns (setting_of scene.now) (p.Field name.now (term_of term.now))) machine.old machine.new result }
+    ensures spent { machine.new.left ≤ machine.old.left }
+{
+    let value = eval(machine, scene, term)?;
+    let name = text_of_name(scene.alloc, name)?;
+    machine.add_effect(Effect::SetField {
+        entity: scene.me,
+        name,
+        value,
+    })
+}
+
+/// `attr(e, NAME) = e;`
+fn set_attribute(
+    machine: &mut Machine,
+    scene: &Scene,
+    place: &Term,
+    key: &Text,
+    term: &Term,
+) -> Result<(), Stop>
+    ensures agrees { Agrees (assigns (setting_of scene.now) (p.Attribute (term_of place.now) key.now (term_of term.now))) machine.old machine.new result }
+    ensures spent { machine.new.left ≤ machine.old.left }
+{
+    let activity = eval_activity(machine, scene, place)?;
+    let value = eval(machine, scene, term)?;
+    used(machine, scene, activity)?;
+    let key = key.copy(scene.alloc)?;
+    machine.add_effect(Effect::SetAttr {
+        activity,
+        key,
+        value,
+    })
+}
+
+/// A step that gives a value to something.
+pub fn do_assigning(machine: &mut Machine, scene: &Scene, step: &Assigning) -> Result<(), Stop>
+    ensures agrees { Agrees (assigns (setting_of scene.now) (assigning_of step.now)) machine.old machine.new result }
+    ensures spent { machine.new.left ≤ machine.old.left }
+{
+    match step {
+        Assigning::New(term) => declare_value(machine, scene, term),
+        Assigning::Variable(place, term) => assign_value(machine, scene, *place, term),
+        Assigning::Field(name, term) => set_field(machine, scene, name, term),
+        Assigning::Attribute(place, key, term) => set_attribute(machine, scene, place, key, term),
+    }
+}

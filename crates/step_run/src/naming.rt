@@ -1,0 +1,48 @@
+//! Steps that give names to activities and take them back.
+ghost use Rattle.std.specs.Prelude.{◌≡◌, ◌≤◌};
+ghost use Rattle.script_types.specs.Program as p;
+ghost use Rattle.script_types.specs.ProgramOf.{term_of};
+ghost use Rattle.handler_meaning.specs.Doing.{on_activities};
+ghost use Rattle.script_machine.specs.Agreeing.{Agrees};
+ghost use Rattle.script_machine.specs.Settings.{setting_of};
+
+use handler_meaning::FailKind;
+use script_machine::{Machine, Scene, Stop};
+use script_reading::{named, used_active};
+use script_types::Term;
+use slee_effect::Effect;
+use term_run::{eval_activity, eval_text};
+
+/// `bind e to e;`
+pub(crate) fn bind(
+    machine: &mut Machine,
+    scene: &Scene,
+    key: &Term,
+    term: &Term,
+) -> Result<(), Stop>
+    ensures agrees { Agrees (on_activities (setting_of scene.now) (p.Bind (term_of key.now) (term_of term.now))) machine.old machine.new result }
+    ensures spent { machine.new.left ≤ machine.old.left }
+{
+    let name = eval_text(machine, scene, key)?;
+    let activity = eval_activity(machine, scene, term)?;
+    if name.is_empty() {
+        return Err(Stop::Broken(FailKind::Range));
+    }
+    used_active(machine, scene, activity)?;
+    if named(machine, scene, &name)?.is_some() {
+        return Err(Stop::Broken(FailKind::Bound));
+    }
+    machine.add_effect(Effect::Bind { name, activity })
+}
+
+/// `unbind e;`
+pub(crate) fn unbind(machine: &mut Machine, scene: &Scene, key: &Term) -> Result<(), Stop>
+    ensures agrees { Agrees (on_activities (setting_of scene.now) (p.Unbind (term_of key.now))) machine.old machine.new result }
+    ensures spent { machine.new.left ≤ machine.old.left }
+{
+    let name = eval_text(machine, scene, key)?;
+    if named(machine, scene, &name)?.is_none() {
+        return Err(Stop::Broken(FailKind::Unbound));
+    }
+    machine.add_effect(Effect::Unbind { name })
+}
