@@ -1,14 +1,27 @@
 #!/usr/bin/env python3
 """Runs the definition of what a script means on the table of meaning_table.py. Outside the gate.
 
-    python3 bench/meaning_rows.py [WORD]      all rows, or those whose script or name has WORD
+    python3 bench/meaning_rows.py [WORD]            all rows, or those whose script or name has WORD
+    python3 bench/meaning_rows.py --write FOLDER    writes the rows as a program can read them, FOLDER/stdin, and what it has to
+                                                    print, FOLDER/stdout
 
 Each row is a script, what the state answers, and what comes out: the outcome, the failure's text where there is one, the effects;
-or the keys that are read; or the outcomes of a delivery. Without the tool that evaluates definitions (deployments.py says where it
-is looked for) nothing is run, and it says so.
+or the keys that are read; or the outcomes of a delivery. Of each run it is looked at besides that its effects refer to what it was
+given, what it was told and what was made before them. Without the tool that evaluates definitions (deployments.py says where it is
+looked for) nothing is run, and it says so.
+
+What is written are rows of lines, an empty line behind each. The first line is a deployment's JSON. The second says what is run:
+`handler` is the handler on `ping` of the first block, for entity 1 and activity 1; `exception` is the exception callback behind the
+handler's run, whose failure, effects and keys it gets; `delivery` is the handler with its callbacks; `removal` is the remove script.
+Then comes a line for each key that has an answer: the key in the words of meaning_table.py, ` = `, and the answer: `held` with
+`none` or a type and a value, `ids`, `number`, `ac` with `none` or with `null` and `ending` where they are so, `flag`, `masks` with
+`none` or `names` and the names, `refers` with `none` or a number, `row` with `none` or `values` and names, types and values. The fields
+of the event are PING's. A value that is a text is a word text. What is printed is a line a row: what comes out, and behind ` | ` the
+keys that a run read.
 """
 import copy
 import json
+import os
 import sys
 
 import deployments
@@ -18,16 +31,61 @@ NAMES = {"Field": "field", "Children": "children", "Priority": "priority", "AcSt
          "Mask": "masks", "Named": "name", "Timer": "timer", "Profile": "row", "Now": "clock", "Activities": "activities"}
 
 
+def word_text(text):
+    """A text as one word of a line."""
+    return "".join(f"%{ord(c):02X}" if ord(c) < 0x21 or c in "%\x7f" else c for c in text)
+
+
+def value_words(x):
+    """A value as a row has it, with its type."""
+    if isinstance(x, tuple):
+        return f"{x[0]} {x[1]}"
+    if isinstance(x, bool):
+        return f"bool {str(x).lower()}"
+    return f"text {word_text(x)}" if isinstance(x, str) else f"int {x}"
+
+
+def key_words(name, words):
+    return " ".join([name] + [word_text(word) for word in words])
+
+
+def answer_words(name, found):
+    """An answer as a row has it, as it is written."""
+    if found is UNFIT:
+        return "flag true" if name != "attached" else "number 1"
+    if name in ("field", "attr"):
+        return "held none" if found is None else f"held {value_words(found)}"
+    if name in ("children", "activities"):
+        return " ".join(["ids"] + [str(n) for n in found or ()])
+    if name in ("priority", "clock"):
+        return f"number {found or 0}"
+    if name == "activity":
+        return " ".join(["ac"] + ([w for w in ("null", "ending") if w in found] if found else ["none"]))
+    if name == "attached":
+        return f"flag {str(bool(found)).lower()}"
+    if name == "masks":
+        return "masks none" if found is None else " ".join(["masks", "names"] + found)
+    if name in ("name", "timer"):
+        return f"refers {'none' if found is None else found}"
+    return "row none" if found is None else " ".join(["row", "values"] + [f"{n} {value_words(x)}" for n, x in sorted(found.items())])
+
+
+class Stray(Exception):
+    """Effects that refer to what isn't known."""
+
+
 class Run:
     """The definitions, with the state's answers for one row."""
 
     def __init__(self, world):
         import rundefs
 
-        self.world, self.rundefs = world, rundefs
+        self.world, self.rundefs, self.asked = world, rundefs, {}
         self.meaning = world.eval("handler_meaning.specs.Meaning.meaning")
         self.delivered = world.eval("handler_meaning.specs.Delivery.delivered")
         self.removal_lines = world.eval("handler_meaning.specs.Removal.removal_lines")
+        self.refer = world.eval("script_references.specs.References.Refer")
+        self.in_answer = world.eval("script_references.specs.Told.in_answer")
 
     def variant(self, path, name):
         return self.world.variant(path, name)
@@ -61,6 +119,7 @@ class Run:
         name, found = NAMES[key.con.name], given.get(self.key(key), USUAL.get(self.key(key)))
         if found is MISSING:
             return self.rundefs.NONE
+        self.asked[key_words(name, [self.word(x) for x in key.args])] = answer_words(name, found)
         if found is UNFIT:
             return self.seen("Flag", True) if name != "attached" else self.seen("Number", 1)
         if name in ("field", "attr"):
@@ -87,7 +146,8 @@ class Run:
         source = copy.deepcopy(DEPLOYMENT)
         source["blocks"][0]["events"][0]["on"] = handler
         source["blocks"][0].update({name: script for name, script in others.items() if script is not None})
-        return deployments.Deployment(self.world, json.dumps(source)).program
+        self.source = json.dumps(source, ensure_ascii=False, separators=(",", ":"))
+        return deployments.Deployment(self.world, self.source).program
 
     def delivery(self, handler, exception, rolled_back, given):
         """The outcomes of a handler and its callbacks, and the effects that stand."""
@@ -114,7 +174,20 @@ class Run:
         which = self.world.record("handler_meaning.which.Which", block=0, part=part)
         args = self.world.record("handler_meaning.outcome.Args", activity=self.rundefs.Tup((1,)), fields=fields, failure=failure)
         answers = self.rundefs.Fn(1, lambda key: self.answer(given, key))
-        return self.meaning(answers, program, which, self.rundefs.Tup((1,)), args, before)
+        ended = self.meaning(answers, program, which, self.rundefs.Tup((1,)), args, before)
+        if ended.con.name == "Done" and not self.refers(before, ended.args[0], given):
+            raise Stray()
+        return ended
+
+    def refers(self, before, report, given):
+        """Whether the effects refer to what is known, of which nothing is left out here that the run was given or told."""
+        told = {self.reference(r) for key in before.keys + report.keys for r in self.in_answer(key, self.answer(given, key))}
+        told |= {"ToEntity Known 1", "ToActivity Known 1", "ToActivity Known 0", "ToTimer Known 0", "ToActivity Known 2"}
+        known = self.rundefs.Fn(1, lambda r: self.reference(r) in told)
+        return self.world.decide(self.refer(known, before.effects + report.effects)) is True
+
+    def reference(self, r):
+        return f"{r.con.name} {r.args[0].con.name} {r.args[0].args[0]}"
 
     def handled(self, program, given):
         handler = self.variant("handler_meaning.which.Part", "On")(0)
@@ -127,7 +200,12 @@ class Run:
 
     def reads(self, script, given):
         """The keys that a handler reads."""
-        return [self.key(key) for key in self.handled(self.program(script), given).args[0].keys]
+        return self.keys(self.handled(self.program(script), given))
+
+    def whole(self, script, given):
+        """All that is told of a handler."""
+        ended = self.handled(self.program(script), given)
+        return self.report(ended), self.keys(ended)
 
     def behind(self, handler, exception, given):
         """The outcome, effects and keys of an exception callback behind a handler that failed."""
@@ -135,7 +213,10 @@ class Run:
         failed = self.handled(program, {key: x for key, x in given.items() if x is not MISSING}).args[0]
         before = self.world.record("handler_meaning.specs.Meaning.Before", effects=failed.effects, keys=failed.keys)
         ended = self.run(program, self.variant("handler_meaning.which.Part", "Exception")(), (), failed.failure, before, given)
-        return self.report(ended), [self.key(key) for key in ended.args[0].keys] if ended.con.name == "Done" else None
+        return self.report(ended), self.keys(ended)
+
+    def keys(self, ended):
+        return [self.key(key) for key in ended.args[0].keys] if ended.con.name == "Done" else None
 
     def report(self, ended, effects=True):
         """A run's outcome, the text of a failure that isn't its kind's word, and the effects."""
@@ -212,7 +293,35 @@ def rows_of(run):
         yield f"remove {script}", lambda: run.removal(script, given), wanted
 
 
+def written(run):
+    """Each row as it is written: what is run, what asks the definitions, and what comes out."""
+    told = lambda x: x[0] if x[1] is None else f"{x[0]} | {', '.join(x[1])}".rstrip()
+    for script, given, _ in ROWS + READS:
+        yield "handler", lambda: told(run.whole(script, given))
+    for handler, exception, given, _, _ in BEHIND:
+        yield "exception", lambda: told(run.behind(handler, exception, given))
+    for handler, exception, rolled_back, given, _ in DELIVERIES:
+        yield "delivery", lambda: run.delivery(handler, exception, rolled_back, given)
+    for script, given, _ in REMOVALS:
+        yield "removal", lambda: run.removal(script, given)
+
+
+def write(world, folder):
+    run, rows, answers = Run(world), [], []
+    for what, ask in written(run):
+        run.asked = {}
+        answers.append(ask())
+        rows.append("\n".join([run.source, what] + [f"{key} = {answer}" for key, answer in run.asked.items()]) + "\n\n")
+    for name, lines in (("stdin", rows), ("stdout", [answer + "\n" for answer in answers])):
+        with open(os.path.join(folder, name), "w", encoding="utf-8") as file:
+            file.write("".join(lines))
+    print(f"meaning_rows: {len(rows)} rows written")
+    return 0
+
+
 def main(world):
+    if sys.argv[1:2] == ["--write"]:
+        return write(world, sys.argv[2])
     run, wrong, done = Run(world), 0, 0
     for name, ask, wanted in rows_of(run):
         if len(sys.argv) > 1 and sys.argv[1] not in name:
@@ -222,6 +331,8 @@ def main(world):
             told = ask()
         except deployments.Refused as refused:
             told = f"refused {refused.args}"
+        except Stray:
+            told = "effects that refer to what isn't known"
         if told != wanted:
             wrong += 1
             print(f"meaning_rows: {name[:160]}\n    wanted {str(wanted)[:300]}\n    found  {str(told)[:300]}")

@@ -46,7 +46,7 @@ in_effect (ef.Usage entity name amount) = ToEntity entity ∷ []
 in_effect (ef.Suspend activity until) = ToActivity activity ∷ []
 in_effect (ef.Resume activity) = ToActivity activity ∷ []
 
--- effects make it: fewer than they make of its kind stand before it
+-- it is new, and one of those that these effects make: its place is below their number
 abbrev pub IsMade : List Effect → Reference → Type 0
 IsMade effects (ToEntity (Fresh n)) = n < count_of entities_by effects
 IsMade effects (ToActivity (Fresh n)) = n < count_of activities_by effects
