@@ -8,12 +8,12 @@ ghost use Rattle.deployment_parts.specs.Firsts.{answer_of};
 ghost use Rattle.deployment_parts.specs.Resolving.{attribute_of, attribute_key as key_so, relation_of};
 ghost use Rattle.deployment_parts.specs.Tables.{key_number};
 
-use crate::coding::{Coding, codes_by};
+use crate::coding::{Coding, codes_by, named_by};
 use crate::keys::Keys;
-use crate::part_coding::{field_codes, number_of};
+use crate::part_coding::{FieldCoding, field_codes, number_of};
 use deployment_parts::{Block, BlockEvent, Method, Numbers, Relation, numbers_of};
 use script_tree::Script;
-use script_types::{AttributeCode, BlockCode, CodeList, HandlerCode, MethodCode, RelationCode};
+use script_types::{AttributeCode, BlockCode, HandlerCode, MethodCode, NamedList, RelationCode};
 use slee_value::{Kind, Name, NoMemory, Text};
 use std::alloc::Global;
 
@@ -83,7 +83,7 @@ impl<'a, 'v> Coding<(Name, Kind), AttributeCode> for AttributeCoding<'a, 'v> {
     }
 }
 
-fn attribute_codes(alloc: Global, block: &Block) -> Result<CodeList<AttributeCode>, NoMemory>
+fn attribute_codes(alloc: Global, block: &Block) -> Result<NamedList<AttributeCode>, NoMemory>
     ensures { IfOk result (λ l. l ≡ map (attribute_of block.now) block.now.attributes) }
 {
     let aliases = numbers_of(alloc, block.aliases.as_slice())?;
@@ -91,7 +91,7 @@ fn attribute_codes(alloc: Global, block: &Block) -> Result<CodeList<AttributeCod
         block,
         aliases: &aliases,
     };
-    codes_by(alloc, &coding, block.attributes.as_slice())
+    named_by(alloc, &coding, block.attributes.as_slice())
 }
 
 /// A child relation, with its block's number.
@@ -135,7 +135,7 @@ impl Coding<Method, MethodCode> for MethodCoding {
 
     fn code(&self, alloc: Global, part: &Method) -> Result<MethodCode, NoMemory> {
         let name = part.name.copy(alloc)?;
-        let parameters = field_codes(alloc, part.params.as_slice())?;
+        let parameters = codes_by(alloc, &FieldCoding, part.params.as_slice())?;
         Ok(MethodCode {
             name,
             parameters,
@@ -166,9 +166,9 @@ impl<'a> Coding<Block, BlockCode> for BlockCoding<'a> {
         let key = part.key.copy(alloc)?;
         let fields = field_codes(alloc, part.fields.as_slice())?;
         let attributes = attribute_codes(alloc, part)?;
-        let relations = codes_by(alloc, &RelationCoding(self.0), part.relations.as_slice())?;
+        let relations = named_by(alloc, &RelationCoding(self.0), part.relations.as_slice())?;
         let handlers = codes_by(alloc, &HandlerCoding, part.events.as_slice())?;
-        let methods = codes_by(alloc, &MethodCoding, part.methods.as_slice())?;
+        let methods = named_by(alloc, &MethodCoding, part.methods.as_slice())?;
         Ok(BlockCode {
             key,
             fields,

@@ -1,7 +1,7 @@
 //! Lists of what scripts may name, made of the parts that declare it.
 ghost use Rattle.std.specs.Prelude.{◌≡◌, IfOk, map};
 
-use script_types::CodeList;
+use script_types::{CodeList, Named, NamedList};
 use slee_value::NoMemory;
 use std::alloc::Global;
 
@@ -14,6 +14,21 @@ pub(crate) trait Coding<A, B> {
 }
 
 /// What scripts see of each part, in order.
+fn items_by<A, B: Drop, C: Coding<A, B>>(
+    alloc: Global,
+    coding: &C,
+    parts: &[A],
+) -> Result<Vec<B>, NoMemory>
+    ensures { IfOk result (λ v. v.items ≡ map (C.code coding.now) parts.now) }
+{
+    let mut items = Vec::with_capacity(alloc, parts.len())?;
+    for part in parts {
+        items.push(coding.code(alloc, part)?)?;
+    }
+    Ok(items)
+}
+
+/// The same as a list.
 pub(crate) fn codes_by<A, B: Drop, C: Coding<A, B>>(
     alloc: Global,
     coding: &C,
@@ -21,9 +36,18 @@ pub(crate) fn codes_by<A, B: Drop, C: Coding<A, B>>(
 ) -> Result<CodeList<B>, NoMemory>
     ensures { IfOk result (λ l. l ≡ map (C.code coding.now) parts.now) }
 {
-    let mut list = CodeList::new(alloc);
-    for part in parts {
-        list.push(coding.code(alloc, part)?)?;
-    }
-    Ok(list)
+    let items = items_by(alloc, coding, parts)?;
+    Ok(CodeList::from(items))
+}
+
+/// The same as a list in which items are found by their names.
+pub(crate) fn named_by<A, B: Named + Drop, C: Coding<A, B>>(
+    alloc: Global,
+    coding: &C,
+    parts: &[A],
+) -> Result<NamedList<B>, NoMemory>
+    ensures { IfOk result (λ l. l ≡ map (C.code coding.now) parts.now) }
+{
+    let items = items_by(alloc, coding, parts)?;
+    NamedList::from_items(alloc, items)
 }

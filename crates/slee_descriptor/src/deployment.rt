@@ -1,15 +1,16 @@
 //! Deployments. Clauses see one by its parts; what it says in words of the router is `deployed_of parts`.
-ghost use Rattle.std.specs.Prelude.{◌≡◌, [], IfOk, IsTrue};
+ghost use Rattle.std.specs.Prelude.{◌≡◌, [], IfOk, OnOk, IsTrue};
 ghost use Rattle.slee_descriptor.specs.CodesOfParts.{codes_in};
-ghost use Rattle.slee_descriptor.specs.Indexes.{AreIndexes};
+ghost use Rattle.slee_descriptor.specs.Indexes.{AreIndexes, AreNumbered};
 ghost use Rattle.deployment_parts.specs.Deployed.{event_named as event_so, profile_named as profile_so, table_named as table_so, block_named as block_so, service_named as service_so, handlers_of};
 ghost use Rattle.deployment_parts.specs.Faults.{Says};
 ghost use Rattle.deployment_parts.specs.Resolving.{deployed_of};
 ghost use Rattle.deployment_parts.specs.Tables.{parts_fault, is_deployment};
 
 use crate::block_coding::BlockCoding;
-use crate::coding::codes_by;
+use crate::coding::{codes_by, named_by};
 use crate::indexes::{Indexes, indexes_of};
+use crate::keys::{item_number, number_at};
 use crate::part_coding::{EventCoding, ServiceCoding, TableCoding};
 use deployment_parts::{
     Block, DeployFault, EventType, Parts, ProfileSpec, Service, Table, check_parts,
@@ -27,6 +28,7 @@ pub struct Deployment {
     pub ghost sound: { IsTrue (is_deployment parts) },
     ghost coded: { codes ≡ codes_in parts codes.programs },
     ghost indexed: { AreIndexes indexes (deployed_of parts) },
+    ghost numbered: { AreNumbered parts },
 }
 
 /// What scripts may name in parts, and the scripts, none of them checked.
@@ -39,9 +41,9 @@ fn codes_of(alloc: Global, parts: &Parts, indexes: &Indexes) -> Result<Codes, No
         keys: &indexes.profiles,
         profiles: parts.profiles.as_slice(),
     };
-    let events = codes_by(alloc, &EventCoding, parts.events.as_slice())?;
-    let tables = codes_by(alloc, &coding, parts.tables.as_slice())?;
-    let services = codes_by(alloc, &ServiceCoding, parts.services.as_slice())?;
+    let events = named_by(alloc, &EventCoding, parts.events.as_slice())?;
+    let tables = named_by(alloc, &coding, parts.tables.as_slice())?;
+    let services = named_by(alloc, &ServiceCoding, parts.services.as_slice())?;
     let blocks = codes_by(
         alloc,
         &BlockCoding(&indexes.blocks),
@@ -56,12 +58,23 @@ fn codes_of(alloc: Global, parts: &Parts, indexes: &Indexes) -> Result<Codes, No
     })
 }
 
+/// That the parts that scripts name have numbers. More of them find no memory.
+fn check_numbers(parts: &Parts) -> Result<(), NoMemory>
+    ensures { OnOk result (AreNumbered parts.now) }
+{
+    item_number(parts.events.as_slice().len())?;
+    item_number(parts.tables.as_slice().len())?;
+    item_number(parts.services.as_slice().len())?;
+    Ok(())
+}
+
 /// The deployment that parts without fault are.
 fn deployment_of(alloc: Global, parts: Parts) -> Result<Deployment, NoMemory>
     requires { IsTrue (is_deployment parts) }
     ensures same { IfOk result (λ d. d.parts ≡ parts) }
     ensures unchecked { IfOk result (λ d. d.codes.programs ≡ []) }
 {
+    check_numbers(&parts)?;
     let indexes = indexes_of(alloc, &parts)?;
     let codes = codes_of(alloc, &parts, &indexes)?;
     Ok(Deployment {
@@ -150,7 +163,7 @@ impl Deployment {
     pub fn event_named(&self, key: &str) -> Option<u32>
         ensures { result ≡ event_so (deployed_of self.now.parts) key.now }
     {
-        self.indexes.events.get(key)
+        number_at(self.codes.events.place_of(key.as_bytes()))
     }
 
     /// The number of the profile specification of this key.
@@ -164,7 +177,7 @@ impl Deployment {
     pub fn table_named(&self, name: &str) -> Option<u32>
         ensures { result ≡ table_so (deployed_of self.now.parts) name.now }
     {
-        self.indexes.tables.get(name)
+        number_at(self.codes.tables.place_of(name.as_bytes()))
     }
 
     /// The number of the block of this key.
@@ -178,6 +191,6 @@ impl Deployment {
     pub fn service_named(&self, key: &str) -> Option<u32>
         ensures { result ≡ service_so (deployed_of self.now.parts) key.now }
     {
-        self.indexes.services.get(key)
+        number_at(self.codes.services.place_of(key.as_bytes()))
     }
 }

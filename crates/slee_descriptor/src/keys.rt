@@ -1,13 +1,13 @@
 //! Which item of a list has each key, kept beside the list.
-ghost use Rattle.std.specs.Prelude.{◌≡◌, Option, IfOk, OnOk};
+ghost use Rattle.std.specs.Prelude.{◌≡◌, ◌<◌, ◌^◌, Option, IfOk, OnOk, IfSome};
 ghost use Rattle.script_tree.specs.Tree.{Bytes};
 ghost use Rattle.slee_descriptor.specs.Keys.{number_in};
 ghost use Rattle.deployment_parts.specs.Firsts.{only_at};
 ghost use Rattle.deployment_parts.specs.Rules.{or_later};
 ghost use Rattle.deployment_parts.specs.Tables.{key_number};
 
-use deployment_parts::Named;
 use indexmap::IndexMap;
+use script_types::Named;
 use slee_value::NoMemory;
 use std::alloc::Global;
 
@@ -64,4 +64,13 @@ pub(crate) fn keys_of<T: Named>(alloc: Global, items: &[T]) -> Result<Keys, NoMe
         keys.note(alloc, item.name(), item_number(i)?)?;
     }
     Ok(keys)
+}
+
+/// A place as the number of an item, where items have numbers.
+pub(crate) fn number_at(place: Option<usize>) -> Option<u32>
+    requires { IfSome place (λ p. p < 2 ^ 32) }
+    ensures { result ≡ place }
+{
+    let place = place?;
+    Some(place as u32)
 }

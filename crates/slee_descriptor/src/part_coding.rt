@@ -5,10 +5,10 @@ ghost use Rattle.slee_descriptor.specs.CodesOfParts.{table_code};
 ghost use Rattle.slee_descriptor.specs.Keys.{number_in};
 ghost use Rattle.deployment_parts.specs.Resolving.{number_of as number_so, field_of, event_of};
 
-use crate::coding::{Coding, codes_by};
+use crate::coding::{Coding, named_by};
 use crate::keys::Keys;
 use deployment_parts::{EventType, ProfileSpec, Service, Table};
-use script_types::{CodeList, EventCode, FieldCode, TableCode};
+use script_types::{EventCode, FieldCode, NamedList, TableCode};
 use slee_value::{Kind, Name, NoMemory};
 use std::alloc::Global;
 
@@ -31,10 +31,10 @@ impl Coding<(Name, Kind), FieldCode> for FieldCoding {
 pub(crate) fn field_codes(
     alloc: Global,
     fields: &[(Name, Kind)],
-) -> Result<CodeList<FieldCode>, NoMemory>
+) -> Result<NamedList<FieldCode>, NoMemory>
     ensures { IfOk result (λ l. l ≡ map field_of fields.now) }
 {
-    codes_by(alloc, &FieldCoding, fields)
+    named_by(alloc, &FieldCoding, fields)
 }
 
 /// An event type.
@@ -78,12 +78,12 @@ fn profile_codes(
     alloc: Global,
     profiles: &[ProfileSpec],
     number: u32,
-) -> Result<CodeList<FieldCode>, NoMemory>
+) -> Result<NamedList<FieldCode>, NoMemory>
     ensures { IfOk result (λ l. l ≡ option_map_or (λ p. map field_of p.attributes) (slice_get profiles.now number) []) }
 {
     match profiles.get(number as usize) {
         Some(profile) => field_codes(alloc, profile.attributes.as_slice()),
-        None => Ok(CodeList::new(alloc)),
+        None => Ok(NamedList::new(alloc)),
     }
 }
 

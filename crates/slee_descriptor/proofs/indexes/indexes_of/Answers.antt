@@ -19,10 +19,7 @@ returns c =
     let profiles = key_number (λ (x : ProfileSpec). x.key) p.profiles in
     let blocks = key_number (λ (b : Block). b.key) p.blocks in
     record {
-      events = λ q. c.in_ok-events.ensures q ∙ (λ j. key_number (λ (e : EventType). e.key) (c.as_slice.ensures j) q) ∙ sym (placed event_of (λ (e : EventCode). e.name) q p.events);
-      profiles = λ q. c.in_ok-profiles.ensures q ∙ (λ j. key_number (λ (x : ProfileSpec). x.key) (c.as_slice-2.ensures j) q) ∙ sym (placed profile_of (λ (x : DeployedProfile). x.key) q p.profiles);
-      tables = λ q. c.in_ok-tables.ensures q ∙ (λ j. key_number (λ (t : Table). t.name) (c.as_slice-3.ensures j) q) ∙ sym (placed (table_of profiles) (λ (t : DeployedTable). t.name) q p.tables);
-      blocks = λ q. c.in_ok-blocks.ensures q ∙ (λ j. key_number (λ (b : Block). b.key) (c.as_slice-4.ensures j) q) ∙ sym (placed (block_of blocks) (λ (b : DeployedBlock). b.key) q p.blocks);
-      services = λ q. c.in_ok-services.ensures q ∙ (λ j. key_number (λ (s : Service). s.key) (c.as_slice-5.ensures j) q) ∙ sym (placed (service_of blocks) (λ (s : DeployedService). s.key) q p.services);
-      handlers = λ q. c.in_ok-handlers.ensures q ∙ (λ j. handled_from 0 (c.as_slice-6.ensures j) q) ∙ sym (handled blocks q p.blocks 0);
+      profiles = λ q. c.in_ok-profiles.ensures q ∙ (λ j. key_number (λ (x : ProfileSpec). x.key) (c.as_slice.ensures j) q) ∙ sym (placed profile_of (λ (x : DeployedProfile). x.key) q p.profiles);
+      blocks = λ q. c.in_ok-blocks.ensures q ∙ (λ j. key_number (λ (b : Block). b.key) (c.as_slice-2.ensures j) q) ∙ sym (placed (block_of blocks) (λ (b : DeployedBlock). b.key) q p.blocks);
+      handlers = λ q. c.in_ok-handlers.ensures q ∙ (λ j. handled_from 0 (c.as_slice-3.ensures j) q) ∙ sym (handled blocks q p.blocks 0);
     }
