@@ -434,6 +434,10 @@ DELIVERIES = [
     ("throw \"a\";", "emit \"gone\";", None, {}, "failed thrown, fine, -:"),
     ("throw \"a\";", "rollback;", "self.n = 1;", {}, "failed thrown, asked, fine: set e1.n 1"),
     ("throw \"a\";", None, "emit \"x\"; rollback;", {}, "failed thrown, -, asked:"),
+    # What failed leaves nothing, whichever it was.
+    ("throw \"a\";", None, "emit \"x\"; throw \"b\";", {}, "failed thrown, -, failed thrown:"),
+    ("rollback;", None, "self.n = 1; let x = 1 / 0;", {}, "asked, -, failed zero-divisor:"),
+    ("emit \"a\"; let x = 1 / 0;", None, None, {}, "failed zero-divisor, -, -:"),
     # The exception callback sees what the handler did; the rolled-back callback doesn't.
     ("self.n = 5; throw \"a\";", "if self.n == 5 { throw \"saw\"; }", "emit text(self.n);", {}, "failed thrown, failed thrown, fine: say e1 0"),
     ("create leg as x; throw \"a\";", "emit text(count(leg)); create leg as y; call y.boom();", "emit text(count(leg));", {}, "failed thrown, failed thrown, fine: say e1 0"),
