@@ -1,8 +1,10 @@
 -- Fields of a `fire`, from one place on: the first, and those behind it. And how many tokens they have.
-use Rattle.std.proofs.Common.{◌≡◌, ◌+◌, ◌<◌, ◌==◌, ℕ, Bool, true, false, ◌||◌, List, [], ◌∷◌, ◌++◌, length, drop, take, get_or, map, Option, Ok, Err, refl, sym, ap, ◌∙◌, arith, add-one, drop-cons, bytes_eq}
-use Rattle.std.specs.Prelude.{if◌then◌else◌}
+use Rattle.std.proofs.Common.{◌≡◌, ◌+◌, ◌-◌, ◌<◌, ◌≤◌, ◌==◌, ℕ, Bool, true, false, ◌||◌, List, [], ◌∷◌, ◌++◌, length, drop, take, get_or, map, Option, Some, None, Ok, Err, refl, sym, ap, subst, ◌∙◌, arith, add-one, drop-cons, bytes_eq}
+use Rattle.std.specs.Prelude.{if◌then◌else◌, is_some}
+use Rattle.std.specs.Option.{option_or}
+use Rattle.std.specs.Cmp.Lexicographic.{nat_list_eq_equiv}
 use Rattle.std.specs.List.{list_any}
-use Rattle.std.proofs.lemmas.List.{length-append, map-append, take_more}
+use Rattle.std.proofs.lemmas.List.{length-append, map-append, take_more, drop_all}
 use Rattle.std.proofs.lemmas.Bool.Decides.{nat_tests}
 use Rattle.std.proofs.lemmas.List.Folds.{list_any-append}
 use Rattle.slee_value.specs.declared.kind.Kind.{Kind}
@@ -11,6 +13,8 @@ use Rattle.script_tree.specs.Tree.{Bytes, Expression, tree_of, field_of}
 use Rattle.script_tree.specs.Tree as tree
 use Rattle.script_tree.specs.Spelling.{spell_expression, spell_fields, spell_more_fields, spell_service, spell_on_activities}
 use Rattle.script_types.specs.declared.codes.FieldCode.{FieldCode}
+use Rattle.script_types.specs.declared.places.Places.{Places}
+use Rattle.script_types.specs.Places.{place_in, only_at}
 use Rattle.script_types.specs.Codes.{kind_in}
 use Rattle.script_types.specs.Scopes.{Scope}
 use Rattle.script_types.specs.TokenCounts.{tokens_in}
@@ -19,7 +23,7 @@ use Rattle.script_types.specs.TypingResult.{Checked, known}
 use Rattle.script_types.specs.Program.{Term}
 use Rattle.script_types.specs.Elaboration.{asked_of}
 use Rattle.script_types.specs.ElaborationOfStatements.{fields_of}
-use Rattle.call_check.specs.Parts.{field_made, names_of}
+use Rattle.call_check.specs.Parts.{Has, field_made, names_of}
 use Rattle.expression_check.specs.declared.fault.ScriptFault.{ScriptFault}
 use Rattle.expression_check.specs.Answers.{Refuses}
 use Rattle.call_check.proofs.PartLemmas.{behind, then_more, part_made, part_refused}
@@ -27,28 +31,6 @@ use Rattle.call_check.proofs.PartLemmas.{behind, then_more, part_made, part_refu
 -- the same names are among both
 abbrev pub SameNames : List Bytes → List Bytes → Type 0
 SameNames given others = (name : Bytes) → list_any (bytes_eq name) given ≡ list_any (bytes_eq name) others
-
-abbrev pub has_name : Bytes → FieldValue → Bool
-has_name name field = bytes_eq name field.name
-
--- a name among those of fields
-pub given_names : (name : Bytes) (fields : List FieldValue) → list_any (bytes_eq name) (names_of (map field_of fields)) ≡ list_any (has_name name) fields
-given_names name [] = refl
-given_names name (f ∷ fs) = ap (λ b. bytes_eq name f.name || b) (given_names name fs)
-
--- among those from place i on
-pub named_at : (name : Bytes) (fields : List FieldValue) (i : ℕ) (field : FieldValue) → i < length fields → field ≡ get_or fields i field → list_any (has_name name) (drop i fields) ≡ (bytes_eq name field.name || list_any (has_name name) (drop (i + 1) fields))
-named_at name fields i field lt is =
-    let next : drop i fields ≡ field ∷ drop (i + 1) fields = rw (drop-cons fields i field lt, ← is, add-one) refl in
-    ap (list_any (has_name name)) next
-
-pub shown : (one rest here whole : Bool) → here ≡ (one || rest) → here ≡ whole → one ≡ true → true ≡ whole
-shown true rest here whole e h is = sym e ∙ h
-shown false rest here whole e h is = absurd cc
-
-pub not_yet : (one rest here whole : Bool) → here ≡ (one || rest) → here ≡ whole → one ≡ false → rest ≡ whole
-not_yet false rest here whole e h is = sym e ∙ h
-not_yet true rest here whole e h is = absurd cc
 
 -- of the names given before it counts only which they are
 pub same_fields : (s : Setting) (scope : Scope) (declared : List FieldCode) (given others : List Bytes) (at : ℕ) (fields : List (Bytes × Expression)) → SameNames given others → fields_of s scope declared given at fields ≡ fields_of s scope declared others at fields
@@ -87,6 +69,22 @@ one_name_more fields i field lt is name =
     ∙ ap (λ xs. list_any (bytes_eq name) (names_of xs)) (map-append field_of (take i fields) (field ∷ []))
     ∙ ap (list_any (bytes_eq name)) (map-append (λ f. f.0) (map field_of (take i fields)) (field_of field ∷ []))
     ∙ list_any-append (bytes_eq name) (names_of (map field_of (take i fields))) (field.name ∷ []))
+
+some_or : (o : Option ℕ) (b : Bool) (place : ℕ) → is_some (option_or o (if b then Some place else None)) ≡ (b || is_some o)
+some_or (Some x) true place = refl
+some_or (Some x) false place = refl
+some_or None true place = refl
+some_or None false place = refl
+
+-- an index of the names before a field, and behind it
+pub given_next : (old new : Places) (fields : List FieldValue) (i : ℕ) (field : FieldValue) → i < length fields → field ≡ get_or fields i field → Has old (names_of (map field_of (take i fields)))
+    → ((name : Bytes) → place_in new name ≡ option_or (place_in old name) (only_at field.name i name)) → Has new (names_of (map field_of (take (i + 1) fields)))
+given_next old new fields i field lt is has noted name =
+    ap is_some (noted name)
+    ∙ some_or (place_in old name) (bytes_eq field.name name) i
+    ∙ ap (λ b. b || is_some (place_in old name)) (nat_list_eq_equiv.symm field.name name)
+    ∙ ap (λ b. bytes_eq name field.name || b) (has name)
+    ∙ one_name_more fields i field lt is name
 
 pub fields_next : (s : Setting) (scope : Scope) (declared : List FieldCode) (at : ℕ) (fields : List FieldValue) (i : ℕ) (field : FieldValue) → i < length fields → field ≡ get_or fields i field → fields_of s scope declared (names_of (map field_of (take i fields))) at (map field_of (drop i fields)) ≡ then_more (field_made s scope declared (names_of (map field_of (take i fields))) at (field_of field)) (fields_of s scope declared (names_of (map field_of (take (i + 1) fields))) (at + 3 + tokens_in (tree_of field.value)) (map field_of (drop (i + 1) fields)))
 fields_next s scope declared at fields i field lt is =
@@ -132,3 +130,23 @@ tokens_of_fire name x service fields =
     let all : length (spell_expression x ++ (spell_service service ++ spell_fields fields)) ≡ tokens_in x + length (spell_service service ++ spell_fields fields) = length-append (spell_expression x) (spell_service service ++ spell_fields fields) in
     let behind : length (spell_service service ++ spell_fields fields) ≡ length (spell_service service) + length (spell_fields fields) = length-append (spell_service service) (spell_fields fields) in
     omega (arith, all, behind)
+
+-- where there are fields, all of them have brackets
+pub all_tokens : (fields : List FieldValue) (i : ℕ) → i < length fields → length (spell_fields (map field_of fields)) ≡ tokens_to_the_end fields
+all_tokens [] i lt = let none : ⊥ = omega (arith, lt) in absurd none
+all_tokens (field ∷ fields) i lt = refl
+
+-- behind the last field stands a bracket
+pub last_token : (fields : List FieldValue) (i here at : ℕ) → length fields ≤ i → here + tokens_to_the_end (drop i fields) ≡ at + tokens_to_the_end fields → here + 1 ≡ at + tokens_to_the_end fields
+last_token fields i here at end place = let none : drop i fields ≡ [] = drop_all i fields end in subst (λ rest. here + tokens_to_the_end rest ≡ at + tokens_to_the_end fields) none place
+
+some_token : (fields : List FieldValue) → 1 ≤ tokens_to_the_end fields
+some_token [] = omega arith
+some_token (field ∷ fields) = omega arith
+
+-- the tokens of all fields, behind the last
+pub tokens_behind : (fields : List FieldValue) (i here at : ℕ) → length fields ≤ i → here + tokens_to_the_end (drop i fields) ≡ at + tokens_to_the_end fields → length (spell_fields (map field_of fields)) ≡ if (here - at) == 0 then 0 else (here - at) + 1
+tokens_behind fields i here at end place =
+    let last = last_token fields i here at end place in
+    let some = some_token fields in
+    brackets_round fields (here - at) (omega (arith, last, some))

@@ -1,3 +1,4 @@
 pub mod PartLemmas
 pub mod ArgumentLemmas
 pub mod FieldLemmas
+mod LookupLemmas

@@ -1,8 +1,10 @@
 -- One argument of a call and one field of a `fire`, with what is checked of it.
-use Rattle.std.specs.Prelude.{ℕ, ◌+◌, List, map, not, bytes_eq, Option, Ok}
+use Rattle.std.specs.Prelude.{◌≡◌, ℕ, ◌+◌, List, map, not, bytes_eq, Option, Ok, is_some}
 use Rattle.std.specs.List.{list_any}
 use Rattle.script_types.specs.declared.misuse.CheckBad.TheVariants as bad
 use Rattle.script_types.specs.declared.codes.FieldCode.{FieldCode}
+use Rattle.script_types.specs.declared.places.Places.{Places}
+use Rattle.script_types.specs.Places.{place_in}
 use Rattle.script_types.specs.Codes.{kind_in}
 use Rattle.script_types.specs.CodesOf.{method_of_code}
 use Rattle.script_types.specs.TypingResult.{Checked, ◌>>=◌, tested, known}
@@ -37,3 +39,7 @@ field_made s scope declared given at field = do
   _ ← tested bad.Count at (not (list_any (bytes_eq field.0) given))
   term ← asked_of s scope kind (at + 2) field.1
   Ok (field.0, term)
+
+-- an index of these names
+abbrev pub Has : Places → List Bytes → Type 0
+Has places names = (name : Bytes) → is_some (place_in places name) ≡ list_any (bytes_eq name) names

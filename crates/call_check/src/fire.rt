@@ -53,13 +53,14 @@ pub fn check_fire(
     ensures tokens { IfOk result (λ r. r.tokens ≡ length (spell_on_activities (tree.Fire name.now (tree_of x.now) service.now (map field_of fields.now)))) }
 {
     let event = check_event(setting, name, at + 1)?;
-    let declared = event.fields.as_slice();
+    let declared = &event.fields;
     let activity = check_part(setting, scope, Kind::Activity, at + 3, x)?;
     check_service(setting, at + 4 + activity.tokens, service)?;
     let for_service = tokens_in_service(service);
     let behind = at + 4 + activity.tokens + for_service;
     let given = check_fields(setting, scope, declared, behind, fields)?;
-    check_test(CheckBad::Count, at + 1, are_all_given(declared, fields))?;
+    let all = are_all_given(declared.as_slice(), fields, &given.given);
+    check_test(CheckBad::Count, at + 1, all)?;
     check_not_on_remove(setting, at)?;
     let event = name.text().copy(setting.alloc)?;
     let service = copy_service(setting.alloc, service)?;

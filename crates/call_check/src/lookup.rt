@@ -12,7 +12,7 @@ ghost use Rattle.call_check.specs.Parts.{method_at_of};
 
 use expression_check::{ScriptFault, Setting, check_known, check_test, event_named};
 use script_tree::{Identifier, Literal};
-use script_types::{CheckBad, EventCode, MethodCode, Misuse};
+use script_types::{CheckBad, EventCode, MethodCode, Misuse, NamedList};
 use slee_value::Name;
 
 /// A method with its number in its block.
@@ -23,15 +23,13 @@ pub struct MethodAt<'a> {
 }
 
 /// The method of that name.
-fn method_named<'a>(methods: &'a [MethodCode], name: &[u8]) -> Option<MethodAt<'a>>
+#[tactic(auto, using(crate::proofs::LookupLemmas::method_is))]
+fn method_named<'a>(methods: &'a NamedList<MethodCode>, name: &[u8]) -> Option<MethodAt<'a>>
     ensures { option_map method_at_of result ≡ method_from 0 name.now (map method_of_code methods.now) }
 {
-    'methods: for (number, method) in methods.iter().enumerate() {
-        if method.name.as_bytes() == name {
-            return Some(MethodAt { number, method });
-        }
-    }
-    None
+    let number = methods.place_of(name)?;
+    let method = methods.find(name)?;
+    Some(MethodAt { number, method })
 }
 
 /// The method of that name in the block with that number.
@@ -40,7 +38,7 @@ fn method_in<'a>(setting: &Setting<'a>, block: u32, name: &[u8]) -> Option<Metho
 {
     let blocks = setting.codes.blocks.as_slice();
     let code = blocks.get(block as usize)?;
-    method_named(code.methods.as_slice(), name)
+    method_named(&code.methods, name)
 }
 
 /// A method of the block with that number.
@@ -73,15 +71,10 @@ pub fn check_event<'a>(
 }
 
 /// Whether it is the key of a service.
-fn is_service(services: &[Name], key: &[u8]) -> bool
+fn is_service(services: &NamedList<Name>, key: &[u8]) -> bool
     ensures { result ≡ list_any (bytes_eq key.now) services.now }
 {
-    'services: for service in services {
-        if key == service.as_bytes() {
-            return true;
-        }
-    }
-    false
+    services.find(key).is_some()
 }
 
 /// The service that alone gets an event, where one is named.
@@ -95,7 +88,7 @@ pub fn check_service(
     let Some(key) = service else {
         return Ok(());
     };
-    let services = setting.codes.services.as_slice();
+    let services = &setting.codes.services;
     check_test(
         CheckBad::Name,
         at,

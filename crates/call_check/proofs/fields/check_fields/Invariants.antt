@@ -3,7 +3,7 @@ use Rattle.script_tree.specs.Tree.{field_of}
 use Rattle.script_types.specs.ElaborationOfStatements.{fields_of}
 use Rattle.script_types.specs.ProgramOf.{field_term_of}
 use Rattle.expression_check.specs.SettingOf.{setting_of}
-use Rattle.call_check.specs.Parts.{names_of}
+use Rattle.call_check.specs.Parts.{Has, names_of}
 use Rattle.call_check.proofs.PartLemmas.{behind}
 use Rattle.call_check.proofs.FieldLemmas.{tokens_to_the_end}
 use Rattle.call_check.proofs.fields.check_fields.Given as goal
@@ -12,5 +12,6 @@ use Rattle.call_check.proofs.fields.check_fields.Given as goal
 abbrev pub invariant-fields : goal.invariant-fields
 invariant-fields l = record {
   made : behind (map field_term_of l.terms.items) (fields_of (setting_of l.setting) l.scope l.declared (names_of (map field_of (take l.i l.fields))) l.here (map field_of (drop l.i l.fields))) ≡ fields_of (setting_of l.setting) l.scope l.declared [] l.at (map field_of l.fields);
+  given : Has l.given (names_of (map field_of (take l.i l.fields)));
   place : l.here + tokens_to_the_end (drop l.i l.fields) ≡ l.at + tokens_to_the_end l.fields;
 }
