@@ -1,6 +1,6 @@
 -- What names of methods and keys of services stand for.
-use Rattle.std.proofs.Common.{◌≡◌, ℕ, ◌+◌, Bool, true, false, cond, ◌||◌, List, [], ◌∷◌, Option, Some, refl, true≢false, bytes_eq, position, find, map}
-use Rattle.std.specs.Prelude.{is_some, option_map, option_and_then}
+use Rattle.std.proofs.Common.{◌≡◌, ℕ, ◌+◌, Bool, true, false, cond, ◌||◌, List, [], ◌∷◌, Option, Some, None, Bor, refl, true≢false, bytes_eq, position, find, map}
+use Rattle.std.specs.Prelude.{is_some, option_copied, option_map, option_and_then}
 use Rattle.std.specs.List.{list_any, position_from}
 use Rattle.std.specs.Cmp.Lexicographic.{nat_list_eq_equiv}
 use Rattle.std.proofs.lemmas.Iterator.Adapters.{position_from-zero}
@@ -37,3 +37,8 @@ service_or_later key name names false true e h = absurd cc
 pub service_is : (key : Bytes) (names : List Bytes) → is_some (find (λ x. bytes_eq x key) names) ≡ list_any (bytes_eq key) names
 service_is key [] = refl
 service_is key (name ∷ names) = service_or_later key name names (bytes_eq name key) (bytes_eq key name) (nat_list_eq_equiv.symm name key) (service_is key names)
+
+-- what is lent is there exactly where its copy is
+pub some_copied : {A : Type 0} → (o : Option (Bor A)) → is_some o ≡ is_some (option_copied o)
+some_copied None = refl
+some_copied (Some x) = refl

@@ -71,7 +71,6 @@ pub fn check_event<'a>(
 }
 
 /// Whether it is the key of a service.
-#[tactic(auto, using(crate::proofs::LookupLemmas::service_is))]
 fn is_service(services: &NamedList<Name>, key: &[u8]) -> bool
     ensures { result ≡ list_any (bytes_eq key.now) services.now }
 {
