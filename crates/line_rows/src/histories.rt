@@ -19,7 +19,10 @@ fn entry(alloc: Global, choice: &Choice, heading: &str) -> Result<Entry, NoMemor
 
 // The text of so many entries.
 fn text_of(alloc: Global, history: &History, entries: u64) -> Result<Text, NoMemory> {
-    Ok(Text::from_str(alloc, str::from_utf8(history.text(entries)).unwrap_or("no text"))?)
+    Ok(Text::from_str(
+        alloc,
+        str::from_utf8(history.text(entries)).unwrap_or("no text"),
+    )?)
 }
 
 #[test]

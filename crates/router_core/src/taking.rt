@@ -161,7 +161,12 @@ fn fired(
 
 /// What a line does that isn't refused.
 #[tactic(auto, using(crate::proofs::TakingLemmas::start_drafted, crate::proofs::TakingLemmas::end_drafted, crate::proofs::TakingLemmas::fire_drafted, crate::proofs::TakingLemmas::given_where_it_stands))]
-fn obeyed(alloc: Global, stores: &Stores, heading: &Text, signal: &Signal) -> Result<Draft, NoMemory>
+fn obeyed(
+    alloc: Global,
+    stores: &Stores,
+    heading: &Text,
+    signal: &Signal,
+) -> Result<Draft, NoMemory>
     requires heading { heading.now ≡ input_heading (spelled signal.now) }
     requires taken { IsTrue (is_routed signal.now) }
     requires stands { refusal stores.now.parts signal.now ≡ None }

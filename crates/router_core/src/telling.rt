@@ -60,8 +60,11 @@ pub fn initial_new(
     ensures { IfOk result (λ line. line ≡ initial_heading activity.0 event.0 (codes "prepaid") entity.0 (codes "new")) }
 {
     let mut line = empty_line(alloc)?;
-    write!(line, "initial a{} v{} prepaid e{} new",
-        activity.0, event.0, entity.0)?;
+    write!(
+        line,
+        "initial a{} v{} prepaid e{} new",
+        activity.0, event.0, entity.0
+    )?;
     Ok(Text::from(line))
 }
 
@@ -74,8 +77,11 @@ pub fn initial_old(
     ensures { IfOk result (λ line. line ≡ initial_heading activity.0 event.0 (codes "prepaid") entity.0 (codes "old")) }
 {
     let mut line = empty_line(alloc)?;
-    write!(line, "initial a{} v{} prepaid e{} old",
-        activity.0, event.0, entity.0)?;
+    write!(
+        line,
+        "initial a{} v{} prepaid e{} old",
+        activity.0, event.0, entity.0
+    )?;
     Ok(Text::from(line))
 }
 
@@ -88,7 +94,11 @@ pub fn deliver(
     ensures { IfOk result (λ line. line ≡ deliver_heading activity.0 event.0 entity.0 (codes "fine")) }
 {
     let mut line = empty_line(alloc)?;
-    write!(line, "deliver a{} v{} e{} fine", activity.0, event.0, entity.0)?;
+    write!(
+        line,
+        "deliver a{} v{} e{} fine",
+        activity.0, event.0, entity.0
+    )?;
     Ok(Text::from(line))
 }
 

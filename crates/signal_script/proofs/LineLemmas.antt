@@ -46,7 +46,7 @@ newline_found bs i is = first_line_cut bs i is.0.high (λ k lt at. is.0.before k
 nothing_left : (bs : List ℕ) → drop (length bs) bs ≡ []
 nothing_left bs = drop_of_length-le bs (omega arith)
 
-pub newline_missing : (bs : List ℕ) → 0 < length bs → Nowhere (Passes (is_byte 10) bs) 0 (length bs) 
+pub newline_missing : (bs : List ℕ) → 0 < length bs → Nowhere (Passes (is_byte 10) bs) 0 (length bs)
     → lines_of bs ≡ bs ∷ lines_of (take (length bs - length bs) (drop (length bs) bs))
 newline_missing bs some is = rw (take_rest bs (length bs), nothing_left bs) (only_line_of bs some (λ k lt at. is k (omega arith) lt (eq-eqb _ 10 at)))
 

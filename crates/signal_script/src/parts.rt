@@ -29,8 +29,7 @@ pub fn read_name(alloc: Global, word: &str) -> Result<Name, LineFault>
 fn is_event(word: &str) -> bool
     ensures { result ≡ is_event word.now }
 {
-    Name::is_name(word.as_bytes())
-        || BuiltInEvent::named(word.as_bytes()).is_some()
+    Name::is_name(word.as_bytes()) || BuiltInEvent::named(word.as_bytes()).is_some()
 }
 
 fn read_event_name(alloc: Global, word: &str) -> Result<Text, LineFault>

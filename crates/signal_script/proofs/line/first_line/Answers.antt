@@ -1,6 +1,3 @@
-
-
-
 use Rattle.signal_script.proofs.LineLemmas.{newline_found, newline_missing}
 use Rattle.signal_script.proofs.line.first_line.Goals as goal
 
