@@ -9,8 +9,8 @@ use trace_history::{Choice, Entry, History, Lines};
 
 fn entry(alloc: Global, choice: &Choice, heading: &str) -> Result<Entry, NoMemory> {
     let mut lines = Lines::new(alloc);
-    lines.push(Text::from_str(alloc, heading)?)?;
-    lines.push(Text::from_str(alloc, "  first")?)?;
+    lines.push(&Text::from_str(alloc, heading)?)?;
+    lines.push(&Text::from_str(alloc, "  first")?)?;
     Ok(Entry {
         choice: choice.copy(alloc)?,
         lines,
