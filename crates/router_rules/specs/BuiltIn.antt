@@ -2,6 +2,8 @@
 -- A service, a block and an event type are looked up here as in any deployment.
 use Rattle.std.specs.Prelude.{ℕ, ℤ, pos, Bool, ◌||◌, if◌then◌else◌, List, [], ◌∷◌, ◌++◌, codes, Some, None, Option}
 use Rattle.std.specs.Str.{bytes_eq}
+use Rattle.built_in_events.specs.declared.built_in.BuiltInEvent.TheVariants as built_in_events
+use Rattle.built_in_events.specs.BuiltIn.{name_of as built_in_name}
 use Rattle.slee_value.specs.declared.value.Value.{Value}
 use Rattle.slee_value.specs.declared.value.Value.TheVariants as values
 
@@ -11,7 +13,7 @@ invite = codes "invite"
 
 -- the event that ends an activity; each activity has it, and nobody fires it
 abbrev pub activity_end : List ℕ
-activity_end = codes "activity-end"
+activity_end = built_in_name built_in_events.ActivityEnd
 
 -- the field of an invite
 abbrev pub addr : List ℕ

@@ -1,6 +1,8 @@
 -- The events that wait on activities, the marks beside head events, and suspensions: what is read of them, and how they change.
-use Rattle.std.specs.Prelude.{ℕ, nat_lt, Bool, ◌==◌, not, if◌then◌else◌, List, [], ◌∷◌, Option, option_map, filter, find, map, is_some, codes}
+use Rattle.std.specs.Prelude.{ℕ, nat_lt, Bool, ◌==◌, not, if◌then◌else◌, List, [], ◌∷◌, Option, option_map, filter, find, map, is_some}
 use Rattle.std.specs.List.{list_any, list_all}
+use Rattle.built_in_events.specs.declared.built_in.BuiltInEvent.TheVariants as built_in_events
+use Rattle.built_in_events.specs.BuiltIn.{name_of as built_in_name}
 use Rattle.slee_state.specs.Orders.{put, pair_before, same_pair}
 use Rattle.slee_state.specs.declared.rows.Event.{Event}
 use Rattle.slee_state.specs.declared.rows.Queued.{Queued}
@@ -10,7 +12,7 @@ use Rattle.slee_state.specs.declared.rows.Suspension.{Suspension}
 
 -- the event that ends an activity; each activity has it, and nobody fires it (JSR 240, 7.6)
 abbrev pub activity_end : List ℕ
-activity_end = codes "activity-end"
+activity_end = built_in_name built_in_events.ActivityEnd
 
 -- by activity, then by number
 abbrev pub queued_before : Queued → Queued → Bool

@@ -1,7 +1,9 @@
 -- What a line is about: everything that it names is looked up once, and the first reason for which it is refused stands in its place.
-use Rattle.std.specs.Prelude.{ℕ, Bool, true, false, not, nat_lt, if◌then◌else◌, is_some, is_none, List, [], ◌∷◌, codes, Some, None, Option, Result, Ok, Err, slice_get}
+use Rattle.std.specs.Prelude.{ℕ, Bool, true, false, not, nat_lt, if◌then◌else◌, is_some, is_none, List, [], ◌∷◌, Some, None, Option, Result, Ok, Err, slice_get}
 use Rattle.std.specs.List.{list_any}
 use Rattle.std.specs.Option.{option_map_or}
+use Rattle.built_in_events.specs.declared.built_in.BuiltInEvent.TheVariants as built_in_events
+use Rattle.built_in_events.specs.BuiltIn.{name_of as built_in_name}
 use Rattle.slee_value.specs.declared.value.Value.{Value}
 use Rattle.script_types.specs.Codes.{named}
 use Rattle.script_types.specs.declared.codes.EventCode.{EventCode}
@@ -107,18 +109,18 @@ table_of_name s name = there_or refusals.UnknownTable (table_named s.deployment 
 abbrev pub adding : State → ℕ → List ℕ → List (List ℕ × List ℕ) → Result Action Refusal
 adding s table row words =
     if is_some (row_at s.rows table row) then Err refusals.RowExists
-    else and_then (row_values s table row words) (λ values. Ok (ChangeRow table row (codes "profile-added") (changes.AddRow table row values)))
+    else and_then (row_values s table row words) (λ values. Ok (ChangeRow table row (built_in_name built_in_events.ProfileAdded) (changes.AddRow table row values)))
 
 -- other values for a row
 abbrev pub updating : State → ℕ → List ℕ → List (List ℕ × List ℕ) → Result Action Refusal
 updating s table row words =
     if is_none (row_at s.rows table row) then Err refusals.NoRow
-    else and_then (row_values s table row words) (λ values. Ok (ChangeRow table row (codes "profile-updated") (changes.UpdateRow table row values)))
+    else and_then (row_values s table row words) (λ values. Ok (ChangeRow table row (built_in_name built_in_events.ProfileUpdated) (changes.UpdateRow table row values)))
 
 -- a row that goes
 abbrev pub removing : State → ℕ → List ℕ → Result Action Refusal
 removing s table row =
-    refused_if (is_none (row_at s.rows table row)) refusals.NoRow (ChangeRow table row (codes "profile-removed") (changes.RemoveRow table row))
+    refused_if (is_none (row_at s.rows table row)) refusals.NoRow (ChangeRow table row (built_in_name built_in_events.ProfileRemoved) (changes.RemoveRow table row))
 
 -- what the line does, or the first reason for which it is refused
 abbrev pub action_of : State → Signal → Result Action Refusal

@@ -1,5 +1,7 @@
 -- Taking a line: the state after what it does, before closing, and its lines.
 use Rattle.std.specs.Prelude.{ℕ, ◌==◌, if◌then◌else◌, List, [], ◌∷◌, ◌++◌, codes, Some, None, Result, Ok, Err}
+use Rattle.built_in_events.specs.declared.built_in.BuiltInEvent.TheVariants as built_in_events
+use Rattle.built_in_events.specs.BuiltIn.{name_of as built_in_name}
 use Rattle.slee_value.specs.declared.value.Value.{Value}
 use Rattle.slee_value.specs.declared.value.Value.TheVariants as values
 use Rattle.deployment_parts.specs.Deployed.{service_key}
@@ -29,7 +31,7 @@ lines_of_all_resumed (row ∷ rows) s = lines_of_resumed s row.activity.0 ++ lin
 
 -- an occurrence of a timer is queued on its activity, with the timer
 abbrev pub occurred : Occurrence → State → State
-occurred x s = queued s x.activity (codes "timer") ((codes "which", values.Timer (record { 0 = x.timer })) ∷ []) None
+occurred x s = queued s x.activity (built_in_name built_in_events.Timer) ((codes "which", values.Timer (record { 0 = x.timer })) ∷ []) None
 
 -- the same of several occurrences, one after another
 abbrev pub all_occurred : List Occurrence → State → State
@@ -39,7 +41,7 @@ all_occurred (x ∷ xs) s = all_occurred xs (occurred x s)
 -- their lines
 abbrev pub lines_of_all_occurred : List Occurrence → State → List (List ℕ)
 lines_of_all_occurred [] s = []
-lines_of_all_occurred (x ∷ xs) s = lines_of_queued s x.activity (codes "timer") ++ lines_of_all_occurred xs (occurred x s)
+lines_of_all_occurred (x ∷ xs) s = lines_of_queued s x.activity (built_in_name built_in_events.Timer) ++ lines_of_all_occurred xs (occurred x s)
 
 -- The clock stands at the moment, these suspensions have ended, due occurrences are used up, and these are queued.
 abbrev pub clocked : ℕ → List Suspension → List Occurrence → State → State
@@ -49,14 +51,14 @@ clocked to suspensions occurrences s =
 -- The service is Active, with a new activity, on which its start waits for it alone (JSR 240, chapter 9).
 abbrev pub activated : ℕ → State → State
 activated n s =
-    queued (with_service (after_change (changes.Start (kinds.Service n)) s) n states.Active s.next_activity) s.next_activity (codes "service-started") [] (Some n)
+    queued (with_service (after_change (changes.Start (kinds.Service n)) s) n states.Active s.next_activity) s.next_activity (built_in_name built_in_events.ServiceStarted) [] (Some n)
 
 -- its lines
 abbrev pub lines_of_activated : ℕ → State → List (List ℕ)
 lines_of_activated n s =
     service_line (service_key s.deployment n) (codes "active")
     ∷ started_line s.next_activity (codes "service " ++ service_key s.deployment n)
-    ∷ lines_of_queued s s.next_activity (codes "service-started")
+    ∷ lines_of_queued s s.next_activity (built_in_name built_in_events.ServiceStarted)
 
 -- the activity of this number ends, where there is one
 abbrev pub ended_if : ℕ → State → State
