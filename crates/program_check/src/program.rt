@@ -40,16 +40,27 @@ impl<'a> Making<BlockCode, BlockSteps> for BlockMaking<'a> {
     }
 }
 
-/// What all scripts are made into, block by block, or the first fault with the script in which it stands.
+/// What all scripts are made into, block by block, where these are the fields of the built-in events.
 #[tactic(auto, using(crate::proofs::Lists::blocks_are))]
+fn check_blocks(
+    alloc: Global,
+    codes: &Codes,
+    fields: &BuiltInFields,
+) -> Result<CodeList<BlockSteps>, CodeFault>
+    ensures { Builds (λ l. map block_program_of l) result (program_of (codes_of codes.now)) }
+{
+    let making = BlockMaking {
+        alloc,
+        codes,
+        fields,
+    };
+    make_each(alloc, &making, codes.blocks.as_slice())
+}
+
+/// What all scripts are made into, block by block, or the first fault with the script in which it stands.
 pub fn check_codes(alloc: Global, codes: &Codes) -> Result<CodeList<BlockSteps>, CodeFault>
     ensures { Builds (λ l. map block_program_of l) result (program_of (codes_of codes.now)) }
 {
     let fields = BuiltInFields::new(alloc)?;
-    let making = BlockMaking {
-        alloc,
-        codes,
-        fields: &fields,
-    };
-    make_each(alloc, &making, codes.blocks.as_slice())
+    check_blocks(alloc, codes, &fields)
 }
