@@ -10,7 +10,7 @@ use Rattle.slee_descriptor.proofs.deployment.Deployment.event_named.Goals as goa
 pub number_at-requires : goal.number_at-requires
 number_at-requires c =
     let parts = c.args.self.now.parts in
-    let few : length (map event_of parts.events) < 2 ^ 32 = rw (length-map event_of parts.events) c.args.self.now.numbered.events in
+    let few : length (map event_of parts.events) < 2 ^ 32 = rw (length-map parts.events event_of) c.args.self.now.numbered.events in
     let at : c.place_of.result ≡ position (λ (x : EventCode). bytes_eq x.name c.as_bytes.result.now) (map event_of parts.events) = c.place_of.ensures ∙ ap (λ (k : Codes). position (λ (x : EventCode). bytes_eq x.name c.as_bytes.result.now) k.events) c.args.self.now.coded in
     subst (λ o. IfSome o (λ i. i < 2 ^ 32)) (sym at) (within (λ (x : EventCode). bytes_eq x.name c.as_bytes.result.now) (map event_of parts.events) (2 ^ 32) few)
 

@@ -13,7 +13,7 @@ use Rattle.slee_descriptor.proofs.deployment.Deployment.service_named.Goals as g
 pub number_at-requires : goal.number_at-requires
 number_at-requires c =
     let parts = c.args.self.now.parts in
-    let few : length (map (λ (s : Service). s.key) parts.services) < 2 ^ 32 = rw (length-map (λ (s : Service). s.key) parts.services) c.args.self.now.numbered.services in
+    let few : length (map (λ (s : Service). s.key) parts.services) < 2 ^ 32 = rw (length-map parts.services (λ (s : Service). s.key)) c.args.self.now.numbered.services in
     let at : c.place_of.result ≡ position (λ x. bytes_eq x c.as_bytes.result.now) (map (λ (s : Service). s.key) parts.services) = c.place_of.ensures ∙ ap (λ (k : Codes). position (λ x. bytes_eq x c.as_bytes.result.now) k.services) c.args.self.now.coded in
     subst (λ o. IfSome o (λ i. i < 2 ^ 32)) (sym at) (within (λ x. bytes_eq x c.as_bytes.result.now) (map (λ (s : Service). s.key) parts.services) (2 ^ 32) few)
 

@@ -15,7 +15,7 @@ pub number_at-requires : goal.number_at-requires
 number_at-requires c =
     let parts = c.args.self.now.parts in
     let made = table_code (key_number (λ (p : ProfileSpec). p.key) parts.profiles) parts.profiles in
-    let few : length (map made parts.tables) < 2 ^ 32 = rw (length-map made parts.tables) c.args.self.now.numbered.tables in
+    let few : length (map made parts.tables) < 2 ^ 32 = rw (length-map parts.tables made) c.args.self.now.numbered.tables in
     let at : c.place_of.result ≡ position (λ (x : TableCode). bytes_eq x.name c.as_bytes.result.now) (map made parts.tables) = c.place_of.ensures ∙ ap (λ (k : Codes). position (λ (x : TableCode). bytes_eq x.name c.as_bytes.result.now) k.tables) c.args.self.now.coded in
     subst (λ o. IfSome o (λ i. i < 2 ^ 32)) (sym at) (within (λ (x : TableCode). bytes_eq x.name c.as_bytes.result.now) (map made parts.tables) (2 ^ 32) few)
 
