@@ -17,8 +17,11 @@ fn entry(alloc: Global, choice: &Choice, heading: &str) -> Result<Entry, NoMemor
     })
 }
 
-// The text of so many entries.
+// The text of so many entries, where there are so many.
 fn text_of(alloc: Global, history: &History, entries: u64) -> Result<Text, NoMemory> {
+    if history.len() < entries {
+        return Ok(Text::from_str(alloc, "too few")?);
+    }
     Ok(Text::from_str(
         alloc,
         str::from_utf8(history.text(entries)).unwrap_or("no text"),
