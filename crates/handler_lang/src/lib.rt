@@ -2,7 +2,6 @@
 #![tactic(auto)]
 
 mod reading;
-mod statement;
 
 pub use crate::reading::parse;
 pub use script_print::{one_spelling_one_tree, print, printed_is_read_as_itself};

@@ -5,11 +5,11 @@ ghost use Rattle.script_tree.specs.Lexer.{lexemes_of};
 ghost use Rattle.script_tree.specs.Reading.{script_read, IsFault, Writes};
 ghost use Rattle.script_tree.specs.Script.{tree_of_script};
 ghost use Rattle.script_tree.specs.Tree.{statements_of};
-ghost use Rattle.handler_lang.specs.Parts.{IsMisfit, IsWhole, Refuses};
+ghost use Rattle.handler_lang.specs.Refusals.{Refuses};
 
-use crate::statement::statements;
-use script_expression::{ReadError, unexpected};
-use script_tree::{Lexemes, Misfit, Script, Stmt, SyntaxFault, fault_in, lexemes, place_of_token};
+use expression_parser::ReadError;
+use script_parser::script;
+use script_tree::{Misfit, Script, Stmt, SyntaxFault, fault_in, lexemes, place_of_token};
 use slee_value::{NoMemory, Text};
 use std::alloc::Global;
 
@@ -56,16 +56,4 @@ fn misfit_in(alloc: Global, text: &str, count: usize, misfit: Misfit) -> SyntaxF
         Ok(place) => fault_in(place, misfit.kind),
         Err(NoMemory) => SyntaxFault::NoMemory,
     }
-}
-
-/// The statements of the script that tokens are.
-#[tactic(auto, using(crate::proofs::Whole::script_fine, crate::proofs::Whole::script_left, crate::proofs::Whole::script_fails))]
-fn script(alloc: Global, ts: Lexemes) -> Result<Vec<Stmt>, ReadError>
-    ensures { MatchResult result (λ x. IsWhole ts.now (statements_of x.items)) (IsMisfit (script_of ts.now)) }
-{
-    let (list, rest) = statements(alloc, ts, 0)?;
-    if !rest.is_empty() {
-        return Err(unexpected(rest));
-    }
-    Ok(list)
 }

@@ -99,7 +99,7 @@ prefix_stays : (op : Prefix) → turn (prefix_token op) ≡ Stays
 prefix_stays prefixes.Negative = refl
 prefix_stays prefixes.Not = refl
 
-prefixed_by : (m : ℕ) (ps : List Part) (is : List Item) (d : ℕ) (op : Prefix) (ts : List Lexeme) → suc m ≡ prefix_level op → verdict (Level (suc m) ∷ ps) is d (prefix_token op ∷ ts) ≡ verdict (Level (suc m - 1) ∷ Make (Prefixing op) ∷ More (suc m) ∷ ps) is d ts
+pub prefixed_by : (m : ℕ) (ps : List Part) (is : List Item) (d : ℕ) (op : Prefix) (ts : List Lexeme) → suc m ≡ prefix_level op → verdict (Level (suc m) ∷ ps) is d (prefix_token op ∷ ts) ≡ verdict (Level (suc m - 1) ∷ Make (Prefixing op) ∷ More (suc m) ∷ ps) is d ts
 unfolding verdict
 prefixed_by m ps is d op ts h = rw (same_prefix (suc m) op (level_after m (prefix_token op)) h, prefix_stays op) refl
 
@@ -142,7 +142,7 @@ prefixed (suc n) op a ps is d ts rest le h reads =
 
 -- ---- operators
 
-operates : (n : ℕ) (ps : List Part) (is : List Item) (d : ℕ) (op : Operator) (ts : List Lexeme) → level_of op ≡ n → verdict (More n ∷ ps) is d (t.Symbol (s.Operator op) ∷ ts) ≡ verdict (Level (n - 1) ∷ Make (Operating op) ∷ (again n ++ ps)) is d ts
+pub operates : (n : ℕ) (ps : List Part) (is : List Item) (d : ℕ) (op : Operator) (ts : List Lexeme) → level_of op ≡ n → verdict (More n ∷ ps) is d (t.Symbol (s.Operator op) ∷ ts) ≡ verdict (Level (n - 1) ∷ Make (Operating op) ∷ (again n ++ ps)) is d ts
 unfolding verdict
 operates n ps is d op ts h =
     let e : (level_of op == n) ≡ true = grind (arith, nat_tests, h) in

@@ -8,7 +8,7 @@ use Rattle.script_tree.specs.declared.lexeme.Lexeme.{Lexeme}
 use Rattle.script_tree.specs.declared.tree.Over.{Over}
 use Rattle.script_tree.specs.declared.tree.Over.TheVariants as v
 use Rattle.script_tree.specs.Words.{is_identifier}
-use Rattle.script_tree.specs.Numbers.{is_fixed}
+use Rattle.script_tree.specs.Grammar.{is_fixed}
 use Rattle.script_tree.specs.Tree as tree
 use Rattle.script_tree.specs.Tree.{Bytes, Expression, Statement, Statements, add}
 use Rattle.script_tree.specs.Spelling.{fixed, spell_expression, braced, spell_statement, spell_statements, fits, over_fits, statement_fits, statements_fit, is_script}
@@ -19,7 +19,7 @@ use Rattle.script_print.proofs.Activities.{on_activities, timer_again, doing, us
 
 -- ---- statements behind others
 
-abbrev joined : Statements → Statements → Statements
+abbrev pub joined : Statements → Statements → Statements
 joined b tree.Nothing = b
 joined b (tree.Then y ys) = joined (add b y) ys
 
@@ -27,7 +27,7 @@ joined_first : (y : Statement) (b ys : Statements) → joined (tree.Then y b) ys
 joined_first y b tree.Nothing = refl
 joined_first y b (tree.Then z ys) = joined_first y (add b z) ys
 
-joined_all : (ys : Statements) → joined tree.Nothing ys ≡ ys
+pub joined_all : (ys : Statements) → joined tree.Nothing ys ≡ ys
 joined_all tree.Nothing = refl
 joined_all (tree.Then y ys) = joined_first y tree.Nothing ys ∙ ap (tree.Then y) (joined_all ys)
 

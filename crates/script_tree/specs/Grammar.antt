@@ -25,7 +25,8 @@ use Rattle.script_tree.specs.declared.tree.Who.{Who as WhoTree}
 use Rattle.script_tree.specs.declared.tree.Who.TheVariants as w
 use Rattle.script_tree.specs.declared.tree.Over.{Over as OverTree}
 use Rattle.script_tree.specs.declared.tree.Over.TheVariants as v
-use Rattle.script_tree.specs.Numbers.{is_fixed}
+use denote.Enum.Bare.{sameb}
+use Rattle.script_tree.specs.contracts.symbol.Fixed.{the_type}
 use Rattle.script_tree.specs.Tree as tree
 use Rattle.script_tree.specs.Tree.{Bytes, Expression, Statement, Statements, add}
 
@@ -337,6 +338,15 @@ pub data Next : Type 0 where
 abbrev pub then_parts : Next → List Part → Next
 then_parts Stops ps = Stops
 then_parts (Goes qs is) ps = Goes (qs ++ ps) is
+
+-- whether a token is this word or sign
+abbrev pub is_fixed_symbol : Fixed → Symbol → Bool
+is_fixed_symbol y (s.Fixed z) = sameb the_type z y
+is_fixed_symbol y _ = false
+
+abbrev pub is_fixed : Fixed → Lexeme → Bool
+is_fixed y (t.Symbol z) = is_fixed_symbol y z
+is_fixed y _ = false
 
 -- what begins with this word or sign, with these parts behind it
 abbrev pub opening : Fixed → List Part → List Item → Lexeme → Next

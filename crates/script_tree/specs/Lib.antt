@@ -1,6 +1,5 @@
 pub mod Words
 pub mod Tree
-pub mod Numbers
 pub mod Grammar
 pub mod Spelling
 pub mod Lexer

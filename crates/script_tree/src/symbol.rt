@@ -1,7 +1,6 @@
 //! The fixed words and signs of the language, each with its spelling.
 ghost use Rattle.std.specs.Prelude.{◌≡◌};
 ghost use Rattle.script_tree.specs.Grammar.{level_of};
-ghost use Rattle.script_tree.specs.Numbers.{fixed_number};
 ghost use Rattle.script_tree.specs.Words.{operator_text, constant_text, function_text, verb_text, fixed_text, symbol_text};
 
 /// A sign or word between two operands.
@@ -274,65 +273,6 @@ impl Fixed {
             Fixed::Profile => b"profile",
             Fixed::HasProfile => b"has_profile",
             Fixed::Count => b"count",
-        }
-    }
-}
-
-impl Fixed {
-    /// Its place among the fixed words and signs.
-    pub fn number(self) -> u8
-        ensures { result ≡ fixed_number self }
-    {
-        match self {
-            Fixed::OpenRound => 0,
-            Fixed::CloseRound => 1,
-            Fixed::OpenCurly => 2,
-            Fixed::CloseCurly => 3,
-            Fixed::Dot => 4,
-            Fixed::Comma => 5,
-            Fixed::Colon => 6,
-            Fixed::Semicolon => 7,
-            Fixed::Assign => 8,
-            Fixed::Let => 9,
-            Fixed::Own => 10,
-            Fixed::Attr => 11,
-            Fixed::If => 12,
-            Fixed::Else => 13,
-            Fixed::While => 14,
-            Fixed::For => 15,
-            Fixed::In => 16,
-            Fixed::Activities => 17,
-            Fixed::Create => 18,
-            Fixed::As => 19,
-            Fixed::Priority => 20,
-            Fixed::Remove => 21,
-            Fixed::Attach => 22,
-            Fixed::To => 23,
-            Fixed::Detach => 24,
-            Fixed::From => 25,
-            Fixed::Mask => 26,
-            Fixed::On => 27,
-            Fixed::Unmask => 28,
-            Fixed::Fire => 29,
-            Fixed::Null => 30,
-            Fixed::Timer => 31,
-            Fixed::At => 32,
-            Fixed::Every => 33,
-            Fixed::Times => 34,
-            Fixed::Keep => 35,
-            Fixed::All => 36,
-            Fixed::Last => 37,
-            Fixed::Bind => 38,
-            Fixed::Usage => 39,
-            Fixed::Call => 40,
-            Fixed::Rollback => 41,
-            Fixed::Not => 42,
-            Fixed::Event => 43,
-            Fixed::Masked => 44,
-            Fixed::Table => 45,
-            Fixed::Profile => 46,
-            Fixed::HasProfile => 47,
-            Fixed::Count => 48,
         }
     }
 }

@@ -1,0 +1,5 @@
+pub mod Takes
+pub mod Reads
+pub mod Levels
+pub mod Queries
+pub mod Lists

@@ -1,0 +1,95 @@
+//! Lists of expressions: the arguments of a call, and the fields of an event that is fired.
+ghost use Rattle.std.specs.Prelude.{◌≡◌, ◌≤◌, ◌<◌, ◌+◌, ◌∷◌, ◌++◌, ◌&&◌, [], length, true, map, MatchResult};
+ghost use Rattle.std.specs.List.{list_all};
+ghost use Rattle.script_tree.specs.Grammar as g;
+ghost use Rattle.script_tree.specs.Grammar.{Arguments, One, Level, Make, WithArgument, NextArgument, MoreFields, NextField, WithField};
+ghost use Rattle.script_tree.specs.Spelling.{fixed, spell_arguments, spell_fields, fits, field_fits};
+ghost use Rattle.script_tree.specs.Tree.{tree_of, field_of};
+ghost use Rattle.expression_parser.specs.Takes.{Fails, TookAll, FailsAll};
+ghost use Rattle.expression_parser.specs.Lists.{TookField, has_some, spell_list, with_arguments, with_fields};
+
+use crate::levels::expression;
+use crate::refusal::{ReadError, too_deep};
+use crate::take::{behind as behind_word, close, name, want};
+use script_tree::{Expr, FieldValue, Fixed, Lexemes};
+use std::alloc::Global;
+
+/// The arguments of a call, and the bracket behind them.
+pub fn arguments(alloc: Global, ts: Lexemes, depth: u32) -> Result<(Vec<Expr>, Lexemes), ReadError>
+    requires { depth < 64 }
+    ensures { MatchResult result (λ x. TookAll (Arguments ∷ One Fixed.CloseRound ∷ []) [] (depth + 1) depth ts.now (spell_arguments (map tree_of x.0.items) ++ fixed Fixed.CloseRound ∷ []) (with_arguments (map tree_of x.0.items)) (list_all (fits (depth + 1)) (map tree_of x.0.items)) x.1.now) (λ e. FailsAll (Arguments ∷ One Fixed.CloseRound ∷ []) (depth + 1) ts.now e) }
+{
+    let Some(after) = behind_word(ts, Fixed::CloseRound) else {
+        let (list, rest) = argument_list(alloc, ts, depth + 1)?;
+        let last = close(rest, Fixed::CloseRound, depth)?;
+        return Ok((list, last));
+    };
+    Ok((Vec::new(alloc), after))
+}
+
+/// An argument and more of them, each behind a comma.
+fn argument_list(alloc: Global, ts: Lexemes, depth: u32) -> Result<(Vec<Expr>, Lexemes), ReadError>
+    requires { depth ≤ 64 }
+    ensures { MatchResult result (λ x. TookAll (Level 8 ∷ Make WithArgument ∷ NextArgument ∷ []) [] depth depth ts.now (spell_arguments (map tree_of x.0.items)) (with_arguments (map tree_of x.0.items)) (has_some (map tree_of x.0.items) && list_all (fits depth) (map tree_of x.0.items)) x.1.now) (λ e. FailsAll (Level 8 ∷ Make WithArgument ∷ NextArgument ∷ []) depth ts.now e) }
+{
+    let (first, mut rest) = expression(alloc, ts, depth)?;
+    let mut list = Vec::new(alloc);
+    list.push(first)?;
+    'more: while let Some(behind) = behind_word(rest, Fixed::Comma) {
+        let (next, after) = expression(alloc, behind, depth)?;
+        list.push(next)?;
+        rest = after;
+    }
+    Ok((list, rest))
+}
+
+/// `{ NAME: e, .. }`, where it comes.
+pub fn fields(
+    alloc: Global,
+    ts: Lexemes,
+    depth: u32,
+) -> Result<(Vec<FieldValue>, Lexemes), ReadError>
+    requires { depth ≤ 64 }
+    ensures { MatchResult result (λ x. TookAll (MoreFields ∷ []) [] depth depth ts.now (spell_fields (map field_of x.0.items)) (with_fields (map field_of x.0.items)) (list_all (field_fits (depth + 1)) (map field_of x.0.items)) x.1.now) (λ e. Fails MoreFields depth ts.now e) }
+{
+    let Some(inner) = behind_word(ts, Fixed::OpenCurly) else {
+        return Ok((Vec::new(alloc), ts));
+    };
+    if depth == 64 {
+        return Err(too_deep(ts));
+    }
+    let (list, rest) = field_list(alloc, inner, depth + 1)?;
+    let last = close(rest, Fixed::CloseCurly, depth)?;
+    Ok((list, last))
+}
+
+/// A field and more of them, each behind a comma.
+fn field_list(
+    alloc: Global,
+    ts: Lexemes,
+    depth: u32,
+) -> Result<(Vec<FieldValue>, Lexemes), ReadError>
+    requires { depth ≤ 64 }
+    ensures { MatchResult result (λ x. TookAll (g.Name ∷ One Fixed.Colon ∷ Level 8 ∷ Make WithField ∷ NextField ∷ []) [] depth depth ts.now (spell_list (map field_of x.0.items)) (with_fields (map field_of x.0.items)) (has_some (map field_of x.0.items) && list_all (field_fits depth) (map field_of x.0.items)) x.1.now) (λ e. FailsAll (g.Name ∷ One Fixed.Colon ∷ Level 8 ∷ Make WithField ∷ NextField ∷ []) depth ts.now e) }
+{
+    let (first, mut rest) = field(alloc, ts, depth)?;
+    let mut list = Vec::new(alloc);
+    list.push(first)?;
+    'more: while let Some(behind) = behind_word(rest, Fixed::Comma) {
+        let (next, after) = field(alloc, behind, depth)?;
+        list.push(next)?;
+        rest = after;
+    }
+    Ok((list, rest))
+}
+
+/// `NAME: e`
+fn field(alloc: Global, ts: Lexemes, depth: u32) -> Result<(FieldValue, Lexemes), ReadError>
+    requires { depth ≤ 64 }
+    ensures { MatchResult result (λ x. TookField depth ts.now (field_of x.0) (field_fits depth (field_of x.0)) x.1.now) (λ e. FailsAll (g.Name ∷ One Fixed.Colon ∷ Level 8 ∷ Make WithField ∷ []) depth ts.now e) }
+{
+    let (name, rest) = name(alloc, ts, depth)?;
+    let rest = want(rest, Fixed::Colon, depth)?;
+    let (value, rest) = expression(alloc, rest, depth)?;
+    Ok((FieldValue { name, value }, rest))
+}

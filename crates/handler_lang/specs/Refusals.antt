@@ -1,0 +1,10 @@
+-- Why a text is no script.
+use Rattle.script_tree.specs.declared.fault.SyntaxFault.{SyntaxFault}
+use Rattle.script_tree.specs.declared.fault.SyntaxFault.TheVariants as faults
+use Rattle.script_tree.specs.Tree.{Bytes, Statements}
+use Rattle.script_tree.specs.Reading.{Writes}
+
+-- a text that writes no script; or memory ran out
+abbrev pub Refuses : Bytes → SyntaxFault → Type 0
+Refuses text faults.NoMemory = Unit {0}
+Refuses text (faults.At line column kind) = (script : Statements) → Writes text script → ⊥

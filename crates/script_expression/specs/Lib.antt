@@ -1,3 +1,0 @@
-pub mod Takes
-pub mod Levels
-pub mod Queries

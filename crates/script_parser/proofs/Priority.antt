@@ -1,0 +1,17 @@
+-- The priority of a child that is created, which may be left out.
+use Rattle.std.proofs.Common.{◌≡◌, ℕ, List, [], ◌∷◌, false, refl, ap}
+use Rattle.script_tree.specs.declared.symbol.Fixed.TheVariants as x
+use Rattle.script_tree.specs.declared.symbol.Symbol.TheVariants as s
+use Rattle.script_tree.specs.declared.lexeme.Lexeme.{Lexeme}
+use Rattle.script_tree.specs.declared.lexeme.Lexeme.TheVariants as t
+use Rattle.script_tree.specs.Grammar.{Part, Item, Make, Level, MorePriority, WithPriority, verdict}
+use Rattle.expression_parser.specs.Takes.{starts}
+
+pub skip_priority : (ps : List Part) (is : List Item) (d : ℕ) (ts : List Lexeme) → starts x.Priority ts ≡ false → verdict (MorePriority ∷ ps) is d ts ≡ verdict ps is d ts
+unfolding verdict
+skip_priority ps is d [] h = refl
+skip_priority ps is d (token ∷ ts) h = rw h refl
+
+pub more_priority : (ps : List Part) (is : List Item) (d : ℕ) (ts rest : List Lexeme) → ts ≡ t.Symbol (s.Fixed x.Priority) ∷ rest → verdict (MorePriority ∷ ps) is d ts ≡ verdict (Level 8 ∷ Make WithPriority ∷ ps) is d rest
+unfolding verdict
+more_priority ps is d ts rest h = ap (verdict (MorePriority ∷ ps) is d) h

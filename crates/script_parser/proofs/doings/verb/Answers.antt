@@ -1,0 +1,14 @@
+use Rattle.std.proofs.Common.{arith, ◌∙◌, append_assoc}
+use Rattle.script_parser.proofs.Exits.{stops_making}
+use Rattle.script_parser.proofs.doings.verb.Goals as goal
+
+pub returns-in_err-e : goal.returns-in_err-e
+returns-in_err-e c = stops_making _ _ _ _ _ _ _ _ _ _ (λ ps i. c.requires.begun.goes_on ps i) c.from_residual.ensures.1 c.in_err-e.ensures
+
+pub returns : goal.returns
+returns c = record {
+  shorter = omega (arith, c.requires.begun.shorter, c.in_ok-e.ensures.shorter);
+  spelled = rw (c.requires.begun.spelled, c.in_ok-e.ensures.spelled) (simp append_assoc);
+  good_one = c.in_ok-e.ensures.good_one;
+  goes_on = λ ps i. c.requires.begun.goes_on ps i ∙ c.in_ok-e.ensures.makes _ _ _;
+}

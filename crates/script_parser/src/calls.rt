@@ -1,0 +1,53 @@
+//! `call`: a method of a child with its arguments, and the name for what it returns.
+ghost use Rattle.std.specs.Prelude.{◌≡◌, ◌≤◌, ◌<◌, ◌+◌, ◌∷◌, [], length, true, MatchResult};
+ghost use Rattle.script_tree.specs.Grammar.{Stmt as AStmt, AStatement, MoreResult};
+ghost use Rattle.script_tree.specs.Spelling.{fixed, spell_result, statement_fits, option_fits};
+ghost use Rattle.script_parser.specs.Reads.{ReadsStatement};
+ghost use Rattle.expression_parser.specs.Takes.{Begun, Took, Fails, TookAll};
+ghost use Rattle.script_parser.specs.Options.{result_set};
+ghost use Rattle.script_tree.specs.Tree.{statement_of};
+ghost use Rattle.script_tree.specs.Words.{is_identifier};
+
+use expression_parser::{ReadError, arguments, behind as behind_word, name, open, want};
+use script_tree::{EntityStmt, Expr, Fixed, Identifier, Lexemes, Stmt};
+use std::alloc::Global;
+
+/// `call CHILD.METHOD(e, ..) as NAME;`
+pub fn call<'a>(
+    alloc: Global,
+    ts: Lexemes<'a>,
+    behind: Lexemes<'a>,
+    depth: u32,
+) -> Result<(Stmt, Lexemes<'a>), ReadError>
+    requires deep { depth ≤ 64 }
+    requires begun { Begun AStmt (fixed Fixed.Call) depth ts.now behind.now }
+    ensures { ReadsStatement depth ts.now result }
+{
+    let (child, rest) = name(alloc, behind, depth)?;
+    let rest = want(rest, Fixed::Dot, depth)?;
+    let (method, rest) = name(alloc, rest, depth)?;
+    let inner = open(rest, Fixed::OpenRound, depth)?;
+    let (list, rest) = arguments(alloc, inner, depth)?;
+    let (result, rest) = returned(alloc, rest, depth)?;
+    let rest = want(rest, Fixed::Semicolon, depth)?;
+    Ok((
+        Stmt::Entity(EntityStmt::Call(child, method, list, result)),
+        rest,
+    ))
+}
+
+/// `as NAME`, where it comes.
+fn returned(
+    alloc: Global,
+    ts: Lexemes,
+    depth: u32,
+) -> Result<(Option<Identifier>, Lexemes), ReadError>
+    requires { depth ≤ 64 }
+    ensures { MatchResult result (λ x. TookAll (MoreResult ∷ []) [] depth depth ts.now (spell_result x.0) (result_set x.0) (option_fits is_identifier x.0) x.1.now) (λ e. Fails MoreResult depth ts.now e) }
+{
+    let Some(behind) = behind_word(ts, Fixed::As) else {
+        return Ok((None, ts));
+    };
+    let (result, rest) = name(alloc, behind, depth)?;
+    Ok((Some(result), rest))
+}

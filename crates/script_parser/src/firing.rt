@@ -1,0 +1,48 @@
+//! `fire`: an event with the service that receives it and its fields.
+ghost use Rattle.std.specs.Prelude.{◌≡◌, ◌≤◌, ◌<◌, ◌+◌, ◌∷◌, [], length, true, MatchResult};
+ghost use Rattle.script_tree.specs.Grammar.{Stmt as AStmt, AStatement, MoreService};
+ghost use Rattle.script_tree.specs.Spelling.{fixed, spell_service, statement_fits, option_fits};
+ghost use Rattle.script_parser.specs.Reads.{ReadsStatement};
+ghost use Rattle.expression_parser.specs.Takes.{Begun, Took, Fails, TookAll};
+ghost use Rattle.script_parser.specs.Options.{with_service};
+ghost use Rattle.script_tree.specs.Tree.{statement_of};
+ghost use Rattle.script_tree.specs.Words.{is_literal};
+
+use expression_parser::{ReadError, behind as behind_word, expression, fields, name, text, want};
+use script_tree::{ActivityStmt, FieldValue, Fixed, Lexemes, Literal, Stmt};
+use std::alloc::Global;
+
+/// `fire TEXT on a for TEXT { NAME: e, .. };`
+pub fn fire<'a>(
+    alloc: Global,
+    ts: Lexemes<'a>,
+    behind: Lexemes<'a>,
+    depth: u32,
+) -> Result<(Stmt, Lexemes<'a>), ReadError>
+    requires deep { depth ≤ 64 }
+    requires begun { Begun AStmt (fixed Fixed.Fire) depth ts.now behind.now }
+    ensures { ReadsStatement depth ts.now result }
+{
+    let (event, rest) = text(alloc, behind, depth)?;
+    let rest = want(rest, Fixed::On, depth)?;
+    let (e, rest) = expression(alloc, rest, depth)?;
+    let (service, rest) = service(alloc, rest, depth)?;
+    let (list, rest) = fields(alloc, rest, depth)?;
+    let rest = want(rest, Fixed::Semicolon, depth)?;
+    Ok((
+        Stmt::Activity(ActivityStmt::Fire(event, e, service, list)),
+        rest,
+    ))
+}
+
+/// `for TEXT`, where it comes.
+fn service(alloc: Global, ts: Lexemes, depth: u32) -> Result<(Option<Literal>, Lexemes), ReadError>
+    requires { depth ≤ 64 }
+    ensures { MatchResult result (λ x. TookAll (MoreService ∷ []) [] depth depth ts.now (spell_service x.0) (with_service x.0) (option_fits is_literal x.0) x.1.now) (λ e. Fails MoreService depth ts.now e) }
+{
+    let Some(behind) = behind_word(ts, Fixed::For) else {
+        return Ok((None, ts));
+    };
+    let (service, rest) = text(alloc, behind, depth)?;
+    Ok((Some(service), rest))
+}

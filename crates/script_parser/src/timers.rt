@@ -1,0 +1,129 @@
+//! `timer`: the time at which it is due, its repetition, and what is kept of missed occurrences.
+ghost use Rattle.std.specs.Prelude.{◌≡◌, ◌≢◌, ◌≤◌, ◌<◌, ◌+◌, ◌∷◌, [], length, true, Err, MatchResult, MatchOption, IfOk};
+ghost use Rattle.script_tree.specs.declared.lexeme.Lexeme.{Lexeme as ALexeme};
+ghost use Rattle.script_tree.specs.Grammar.{Stmt as AStmt, AStatement, MoreRepeat, MoreKeep, KeepWord};
+ghost use Rattle.script_tree.specs.Spelling.{fixed, spell_repeat, spell_keep, keep_token, statement_fits, option_fits, repeat_fits};
+ghost use Rattle.script_parser.specs.Options.{keep_in};
+ghost use Rattle.script_parser.specs.Reads.{ReadsStatement};
+ghost use Rattle.expression_parser.specs.Takes.{Begun, Took, Fails, TookAll};
+ghost use Rattle.script_parser.specs.Options.{repeat_set, keep_set, keep_at, repeat_in};
+ghost use Rattle.script_tree.specs.Tree.{statement_of, repeat_of, tree_of};
+
+use expression_parser::{
+    ReadError, behind as behind_word, boxed, boxed_before, name, unexpected, want,
+};
+use script_tree::{Constant, Expr, Fixed, Lexeme, Lexemes, Repeat, Stmt, Symbol, TimerStmt};
+use slee_value::{Keep, NoMemory};
+use std::alloc::Global;
+
+/// `timer NAME on a at e every e times e keep ..;`
+pub fn timer<'a>(
+    alloc: Global,
+    ts: Lexemes<'a>,
+    behind: Lexemes<'a>,
+    depth: u32,
+) -> Result<(Stmt, Lexemes<'a>), ReadError>
+    requires deep { depth ≤ 64 }
+    requires begun { Begun AStmt (fixed Fixed.Timer) depth ts.now behind.now }
+    ensures { ReadsStatement depth ts.now result }
+{
+    let (name, rest) = name(alloc, behind, depth)?;
+    let rest = want(rest, Fixed::On, depth)?;
+    let (activity, rest) = boxed_before(alloc, rest, Fixed::At, depth)?;
+    let (start, rest) = boxed(alloc, rest, depth)?;
+    let (repeat, rest) = repeat(alloc, rest, depth)?;
+    let (keep, rest) = keep(rest, depth)?;
+    let rest = want(rest, Fixed::Semicolon, depth)?;
+    let timer = TimerStmt {
+        name,
+        activity: Box::into_inner(activity),
+        start: Box::into_inner(start),
+        repeat: unboxed(repeat),
+        keep,
+    };
+    Ok((Stmt::Timer(Box::new(alloc, timer)?), rest))
+}
+
+/// `every e times e`, where it comes.
+fn repeat(
+    alloc: Global,
+    ts: Lexemes,
+    depth: u32,
+) -> Result<(Option<Box<Repeat>>, Lexemes), ReadError>
+    requires { depth ≤ 64 }
+    ensures { MatchResult result (λ x. TookAll (MoreRepeat ∷ []) [] depth depth ts.now (spell_repeat (repeat_in x.0)) (repeat_set (repeat_in x.0)) (option_fits (repeat_fits depth) (repeat_in x.0)) x.1.now) (λ e. Fails MoreRepeat depth ts.now e) }
+{
+    let Some(behind) = behind_word(ts, Fixed::Every) else {
+        return Ok((None, ts));
+    };
+    let (period, rest) = boxed_before(alloc, behind, Fixed::Times, depth)?;
+    let (times, last) = boxed(alloc, rest, depth)?;
+    let repeat = repeated(alloc, period, times)?;
+    Ok((Some(repeat), last))
+}
+
+fn repeated(alloc: Global, period: Box<Expr>, times: Box<Expr>) -> Result<Box<Repeat>, NoMemory>
+    ensures { IfOk result (λ r. repeat_in (Some r) ≡ Some (tree_of period.value, tree_of times.value)) }
+{
+    let repeat = Repeat {
+        period: Box::into_inner(period),
+        times: Box::into_inner(times),
+    };
+    Ok(Box::new(alloc, repeat)?)
+}
+
+fn unboxed(repeat: Option<Box<Repeat>>) -> Option<Repeat>
+    ensures { repeat_of result ≡ repeat_in repeat }
+{
+    match repeat {
+        Some(repeat) => Some(Box::into_inner(repeat)),
+        None => None,
+    }
+}
+
+/// `keep` and its word, where it comes.
+fn keep(ts: Lexemes, depth: u32) -> Result<(Option<Keep>, Lexemes), ReadError>
+    requires { depth ≤ 64 }
+    ensures read { MatchResult result (λ x. TookAll (MoreKeep ∷ []) [] depth depth ts.now (spell_keep x.0) (keep_set x.0) true x.1.now) (λ e. Fails MoreKeep depth ts.now e) }
+    ensures memory { result ≢ Err ReadError.NoMemory }
+{
+    let Some(behind) = behind_word(ts, Fixed::Keep) else {
+        return Ok((None, ts));
+    };
+    let (keep, rest) = keep_word(behind, depth)?;
+    Ok((Some(keep), rest))
+}
+
+/// `all`, `last` or `none`.
+fn keep_word(ts: Lexemes, depth: u32) -> Result<(Keep, Lexemes), ReadError>
+    requires { depth ≤ 64 }
+    ensures read { MatchResult result (λ x. TookAll (KeepWord ∷ []) [] depth depth ts.now (keep_token x.0 ∷ []) (keep_set (Some x.0)) true x.1.now) (λ e. Fails KeepWord depth ts.now e) }
+    ensures memory { result ≢ Err ReadError.NoMemory }
+{
+    let Some((keep, rest)) = keep_in(ts) else {
+        return Err(unexpected(ts));
+    };
+    Ok((keep, rest))
+}
+
+/// The word behind `keep`, and what follows it.
+fn keep_in(ts: Lexemes) -> Option<(Keep, Lexemes)>
+    ensures { MatchOption result (keep_in ts.now ≡ None) (λ x. (keep_in ts.now ≡ Some x.0) × ((first : ALexeme) × (ts.now ≡ first ∷ x.1.now))) }
+{
+    let [first, rest @ ..] = ts else {
+        return None;
+    };
+    let keep = keep_of(first)?;
+    Some((keep, rest))
+}
+
+fn keep_of(token: &Lexeme) -> Option<Keep>
+    ensures { result ≡ keep_at token.now }
+{
+    match token {
+        Lexeme::Symbol(Symbol::Fixed(Fixed::All)) => Some(Keep::All),
+        Lexeme::Symbol(Symbol::Fixed(Fixed::Last)) => Some(Keep::Last),
+        Lexeme::Symbol(Symbol::Constant(Constant::Nothing)) => Some(Keep::NoneMissed),
+        _ => None,
+    }
+}
