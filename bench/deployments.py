@@ -26,7 +26,11 @@ def world(folder=None):
         return None
     sys.path.insert(0, folder)
     import rundefs
+    from antt import words
 
+    # whether two values of an enum without fields are one: a word of the kit that the tool may not know
+    words.TEMPLATES.setdefault("sameb", (3, "({1} == {2})"))
+    words.NEEDED.setdefault("sameb", {1, 2})
     return rundefs.load(TOP)
 
 

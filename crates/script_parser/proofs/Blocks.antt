@@ -20,7 +20,7 @@ use Rattle.expression_parser.specs.Takes.{Fails, kind_at, Begun, Took, Turned, s
 use Rattle.script_parser.specs.declared.statement.BlockWord.{BlockWord}
 use Rattle.script_parser.specs.declared.statement.BlockWord.TheVariants as words
 use Rattle.script_parser.specs.Bodies.{TookStmts, FailStmts, TookBlock, FailsBlock, starts_stmt, block_word_at, block_word_in, fixed_of}
-use Rattle.script_parser.specs.Plain.{starts_block, opens_block}
+use Rattle.script_parser.specs.Simple.{starts_block, opens_block}
 use Rattle.script_tree.proofs.Rows.{while_tree, if_tree, for_tree, if_else_tree}
 use Rattle.expression_parser.proofs.Machine.{made, stmt_begun}
 use Rattle.script_parser.proofs.Steps.{skip_else, more_else, more_stmts, skip_stmts, block_opens, block_deep, block_refused}

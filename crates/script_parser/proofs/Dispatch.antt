@@ -9,7 +9,7 @@ use Rattle.script_tree.specs.Grammar.{Stops, Stmt as AStmt, stmt_fixed}
 use Rattle.expression_parser.specs.declared.refusal.ReadError.TheVariants as errors
 use Rattle.expression_parser.specs.Takes.{Fails, kind_at}
 use Rattle.expression_parser.proofs.Machine.{refuse}
-use Rattle.script_parser.specs.Plain.{has_block}
+use Rattle.script_parser.specs.Simple.{has_block}
 
 -- words with which no statement begins
 pub no_stmt : (y : Fixed) → has_block y ≡ false → (y ≡ x.Let → ⊥) → (y ≡ x.Own → ⊥) → (y ≡ x.Attr → ⊥) → (y ≡ x.Create → ⊥) → (y ≡ x.Remove → ⊥) → (y ≡ x.Priority → ⊥) → (y ≡ x.Call → ⊥) → (y ≡ x.Attach → ⊥) → (y ≡ x.Detach → ⊥) → (y ≡ x.Mask → ⊥) → (y ≡ x.Unmask → ⊥) → (y ≡ x.Fire → ⊥) → (y ≡ x.Null → ⊥) → (y ≡ x.Bind → ⊥) → (y ≡ x.Timer → ⊥) → (y ≡ x.Usage → ⊥) → (y ≡ x.Rollback → ⊥) → stmt_fixed y ≡ Stops

@@ -1,5 +1,5 @@
 pub mod Reads
 pub mod Options
-pub mod Plain
+pub mod Simple
 pub mod Bodies
 pub mod Whole

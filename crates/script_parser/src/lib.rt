@@ -4,10 +4,10 @@
 mod activities;
 mod assignments;
 mod calls;
-mod doings;
+mod commands;
 mod entities;
-mod firing;
-mod plain;
+mod events;
+mod simple;
 mod statement;
 mod timers;
 

@@ -10,7 +10,7 @@ ghost use Rattle.script_tree.specs.Tree.{statement_of, statements_of};
 ghost use Rattle.script_tree.specs.Grammar.{script_of};
 ghost use Rattle.script_parser.specs.Whole.{IsMisfit, IsWhole};
 
-use crate::plain::plain_statement;
+use crate::simple::simple_statement;
 use expression_parser::{
     ReadError, behind as behind_word, close, expression, name, over, too_deep, unexpected, want,
 };
@@ -122,7 +122,7 @@ fn statement(alloc: Global, ts: Lexemes, depth: u32) -> Result<(Stmt, Lexemes), 
     ensures { ReadsStatement depth ts.now result }
 {
     let Some((word, behind)) = block_word(ts) else {
-        return plain_statement(alloc, ts, depth);
+        return simple_statement(alloc, ts, depth);
     };
     match word {
         BlockWord::If => branch(alloc, ts, behind, depth),

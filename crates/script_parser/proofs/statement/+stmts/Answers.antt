@@ -6,8 +6,8 @@ use Rattle.std.specs.Prelude.{Some}
 use Rattle.script_parser.proofs.Exits.{stops, stops_block}
 use Rattle.script_parser.proofs.statement.+stmts.Goals as goal
 
-pub statement-plain_statement-requires : goal.statement-plain_statement-requires
-statement-plain_statement-requires m c = record { deep = c.requires; plain = no_block_word _ c.in_default.ensures }
+pub statement-simple_statement-requires : goal.statement-simple_statement-requires
+statement-simple_statement-requires m c = record { deep = c.requires; simple = no_block_word _ c.in_default.ensures }
 
 pub statement-branch-alloc-requires : goal.statement-branch-alloc-requires
 statement-branch-alloc-requires m c = (search rules, (c.requires, word_begun words.If _ _ _ _ (c.in-Some.ensures.0 ∙ ap Some c.in-If.is) c.in-Some.ensures.1.1))

@@ -3,7 +3,7 @@ use Rattle.script_tree.specs.Grammar.{verdict}
 use Rattle.expression_parser.proofs.Machine.{made}
 use Rattle.script_parser.proofs.Options.{fired_with_all}
 use Rattle.script_parser.proofs.Exits.{stops}
-use Rattle.script_parser.proofs.firing.fire.Goals as goal
+use Rattle.script_parser.proofs.events.fire.Goals as goal
 
 pub returns-in_err-event : goal.returns-in_err-event
 returns-in_err-event c = stops _ _ _ _ _ _ _ _ _ (λ ps i. c.requires.begun.goes_on ps i) c.from_residual.ensures.1 c.in_err-event.ensures

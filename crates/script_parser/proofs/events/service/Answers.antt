@@ -5,7 +5,7 @@ use Rattle.script_parser.specs.Options.{with_service}
 use Rattle.script_parser.proofs.Options.{skip_service}
 use Rattle.expression_parser.proofs.ListReaders.{left_out}
 use Rattle.script_parser.proofs.Parts.{service_took, service_fails}
-use Rattle.script_parser.proofs.firing.service.Goals as goal
+use Rattle.script_parser.proofs.events.service.Goals as goal
 
 pub returns-in_default : goal.returns-in_default
 returns-in_default c = left_out MoreService _ _ [] (with_service None) true (λ ps i. skip_service ps i c.args.depth c.args.ts.now c.in_default.ensures) (λ i. refl) refl refl

@@ -1,4 +1,4 @@
-//! Statements of one word and an expression, `usage`, and `rollback`.
+//! Commands: a verb and its expression, `usage`, and `rollback`.
 ghost use Rattle.std.specs.Prelude.{◌≡◌, ◌≢◌, ◌≤◌, ◌<◌, ◌+◌, ◌∷◌, [], length, true, Err, MatchResult};
 ghost use Rattle.script_tree.specs.declared.symbol.Symbol.TheVariants as s;
 ghost use Rattle.script_tree.specs.declared.lexeme.Lexeme.TheVariants as t;

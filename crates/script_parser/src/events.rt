@@ -1,4 +1,4 @@
-//! `fire`: an event with the service that receives it and its fields.
+//! `fire`: an event, the service that receives it, and its fields.
 ghost use Rattle.std.specs.Prelude.{◌≡◌, ◌≤◌, ◌<◌, ◌+◌, ◌∷◌, [], length, true, MatchResult};
 ghost use Rattle.script_tree.specs.Grammar.{Stmt as AStmt, AStatement, MoreService};
 ghost use Rattle.script_tree.specs.Spelling.{fixed, spell_service, statement_fits, option_fits};

@@ -4,7 +4,7 @@ use Rattle.script_tree.specs.declared.symbol.Symbol.TheVariants as s
 use Rattle.script_tree.specs.declared.symbol.Fixed.TheVariants as x
 use Rattle.expression_parser.proofs.Machine.{stmt_begun}
 use Rattle.script_parser.proofs.Dispatch.{no_stmt, refuse_stmt}
-use Rattle.script_parser.proofs.plain.worded.Goals as goal
+use Rattle.script_parser.proofs.simple.worded.Goals as goal
 
 pub new_variable-requires : goal.new_variable-requires
 new_variable-requires c = record { deep = c.requires.deep; begun = stmt_begun (t.Symbol (s.Fixed x.Let)) c.args.depth c.args.ts.now c.args.behind.now (c.requires.first ∙ ap (λ y. t.Symbol (s.Fixed y) ∷ c.args.behind.now) c.in-Let.is) refl refl }
@@ -61,4 +61,4 @@ pub returns-in_default : goal.returns-in_default
 returns-in_default c =
     rw c.unexpected.ensures
     (refuse_stmt c.args.depth c.args.word c.args.ts.now c.args.behind.now c.requires.first
-    (no_stmt c.args.word c.requires.plain c.in_default.not-Let c.in_default.not-Own c.in_default.not-Attr c.in_default.not-Create c.in_default.not-Remove c.in_default.not-Priority c.in_default.not-Call c.in_default.not-Attach c.in_default.not-Detach c.in_default.not-Mask c.in_default.not-Unmask c.in_default.not-Fire c.in_default.not-Null c.in_default.not-Bind c.in_default.not-Timer c.in_default.not-Usage c.in_default.not-Rollback))
+    (no_stmt c.args.word c.requires.simple c.in_default.not-Let c.in_default.not-Own c.in_default.not-Attr c.in_default.not-Create c.in_default.not-Remove c.in_default.not-Priority c.in_default.not-Call c.in_default.not-Attach c.in_default.not-Detach c.in_default.not-Mask c.in_default.not-Unmask c.in_default.not-Fire c.in_default.not-Null c.in_default.not-Bind c.in_default.not-Timer c.in_default.not-Usage c.in_default.not-Rollback))

@@ -1,6 +1,6 @@
 use Rattle.std.proofs.Common.{arith, refl, ◌∙◌, append_assoc}
 use Rattle.script_parser.proofs.Exits.{stops, stops_making}
-use Rattle.script_parser.proofs.doings.usage.Goals as goal
+use Rattle.script_parser.proofs.commands.usage.Goals as goal
 
 pub returns-in_err-name : goal.returns-in_err-name
 returns-in_err-name c = stops _ _ _ _ _ _ _ _ _ (λ ps i. c.requires.begun.goes_on ps i) c.from_residual.ensures.1 c.in_err-name.ensures

@@ -1,4 +1,4 @@
-//! All statements that hold no block, chosen by their first word.
+//! Simple statements, those that hold no block, chosen by their first word.
 ghost use Rattle.std.specs.Prelude.{◌≡◌, ◌≤◌, ◌∷◌, [], false, MatchResult};
 ghost use Rattle.script_tree.specs.declared.symbol.Symbol.TheVariants as s;
 ghost use Rattle.script_tree.specs.declared.lexeme.Lexeme.TheVariants as t;
@@ -6,22 +6,22 @@ ghost use Rattle.script_tree.specs.Grammar.{Stmt as AStmt, AStatement};
 ghost use Rattle.script_tree.specs.Spelling.{statement_fits};
 ghost use Rattle.script_parser.specs.Reads.{ReadsStatement};
 ghost use Rattle.expression_parser.specs.Takes.{Took, Fails};
-ghost use Rattle.script_parser.specs.Plain.{has_block, starts_block};
+ghost use Rattle.script_parser.specs.Simple.{has_block, starts_block};
 ghost use Rattle.script_tree.specs.Tree.{statement_of};
 
 use crate::calls::call;
-use crate::firing::fire;
+use crate::events::fire;
 use crate::timers::timer;
-use crate::{activities, assignments, doings, entities};
+use crate::{activities, assignments, commands, entities};
 use expression_parser::{ReadError, unexpected};
 use script_tree::{Fixed, Lexeme, Lexemes, Stmt, Symbol};
 use std::alloc::Global;
 
 /// A statement without a block, and what follows it.
 #[tactic(auto, unfolding(script_tree::specs::Grammar::verdict))]
-pub fn plain_statement(alloc: Global, ts: Lexemes, depth: u32) -> Result<(Stmt, Lexemes), ReadError>
+pub fn simple_statement(alloc: Global, ts: Lexemes, depth: u32) -> Result<(Stmt, Lexemes), ReadError>
     requires deep { depth ≤ 64 }
-    requires plain { starts_block ts.now ≡ false }
+    requires simple { starts_block ts.now ≡ false }
     ensures { ReadsStatement depth ts.now result }
 {
     let [first, behind @ ..] = ts else {
@@ -29,7 +29,7 @@ pub fn plain_statement(alloc: Global, ts: Lexemes, depth: u32) -> Result<(Stmt, 
     };
     match first {
         Lexeme::Name(name) => assignments::variable(alloc, ts, name, behind, depth),
-        Lexeme::Symbol(Symbol::Verb(verb)) => doings::verb(alloc, ts, *verb, behind, depth),
+        Lexeme::Symbol(Symbol::Verb(verb)) => commands::verb(alloc, ts, *verb, behind, depth),
         Lexeme::Symbol(Symbol::Fixed(word)) => worded(alloc, ts, *word, behind, depth),
         Lexeme::Int(_) | Lexeme::Text(_) | Lexeme::Symbol(_) | Lexeme::Bad => Err(unexpected(ts)),
     }
@@ -45,7 +45,7 @@ fn worded<'a>(
 ) -> Result<(Stmt, Lexemes<'a>), ReadError>
     requires deep { depth ≤ 64 }
     requires first { ts.now ≡ t.Symbol (s.Fixed word) ∷ behind.now }
-    requires plain { has_block word ≡ false }
+    requires simple { has_block word ≡ false }
     ensures { ReadsStatement depth ts.now result }
 {
     match word {
@@ -64,8 +64,8 @@ fn worded<'a>(
         Fixed::Null => activities::null(alloc, ts, behind, depth),
         Fixed::Bind => activities::bind(alloc, ts, behind, depth),
         Fixed::Timer => timer(alloc, ts, behind, depth),
-        Fixed::Usage => doings::usage(alloc, ts, behind, depth),
-        Fixed::Rollback => doings::rollback(ts, behind, depth),
+        Fixed::Usage => commands::usage(alloc, ts, behind, depth),
+        Fixed::Rollback => commands::rollback(ts, behind, depth),
         _ => Err(unexpected(ts)),
     }
 }
