@@ -1,10 +1,9 @@
 //! Statements on activities: they are attached, masked, begun and bound.
-ghost use Rattle.std.specs.Prelude.{◌≡◌, ◌≤◌, ◌<◌, ◌+◌, ◌∷◌, [], length, true, MatchResult};
-ghost use Rattle.script_tree.specs.Grammar.{Stmt as AStmt, AStatement};
-ghost use Rattle.script_tree.specs.Spelling.{fixed, statement_fits};
+ghost use Rattle.std.specs.Prelude.{◌≤◌};
+ghost use Rattle.script_tree.specs.Grammar.{Stmt as AStmt};
+ghost use Rattle.script_tree.specs.Spelling.{fixed};
 ghost use Rattle.script_parser.specs.Reads.{ReadsStatement};
-ghost use Rattle.expression_parser.specs.Takes.{Begun, Took, Fails};
-ghost use Rattle.script_tree.specs.Tree.{statement_of};
+ghost use Rattle.expression_parser.specs.Takes.{Begun};
 
 use expression_parser::{ReadError, before, boxed_before, name, text, want, who};
 use script_tree::{ActivityStmt, Fixed, Lexemes, Stmt};

@@ -1,11 +1,10 @@
 //! Statements that give a variable, a field or an attribute its value.
-ghost use Rattle.std.specs.Prelude.{◌≡◌, ◌≤◌, ◌<◌, ◌+◌, ◌∷◌, [], length, true, MatchResult};
+ghost use Rattle.std.specs.Prelude.{◌≤◌};
 ghost use Rattle.script_tree.specs.declared.lexeme.Lexeme.TheVariants as t;
-ghost use Rattle.script_tree.specs.Grammar.{Stmt as AStmt, AStatement, stmt_after};
-ghost use Rattle.script_tree.specs.Spelling.{fixed, statement_fits};
+ghost use Rattle.script_tree.specs.Grammar.{Stmt as AStmt};
+ghost use Rattle.script_tree.specs.Spelling.{fixed};
 ghost use Rattle.script_parser.specs.Reads.{ReadsStatement};
-ghost use Rattle.expression_parser.specs.Takes.{Begun, Took, Fails};
-ghost use Rattle.script_tree.specs.Tree.{statement_of};
+ghost use Rattle.expression_parser.specs.Takes.{Begun};
 
 use expression_parser::{ReadError, before, boxed_before, close, name, open, want};
 use script_tree::{Assignment, Fixed, Lexemes, NameRef, Stmt};

@@ -1,11 +1,10 @@
 //! `call`: a method of a child with its arguments, and the name for what it returns.
-ghost use Rattle.std.specs.Prelude.{◌≡◌, ◌≤◌, ◌<◌, ◌+◌, ◌∷◌, [], length, true, MatchResult};
-ghost use Rattle.script_tree.specs.Grammar.{Stmt as AStmt, AStatement, MoreResult};
-ghost use Rattle.script_tree.specs.Spelling.{fixed, spell_result, statement_fits, option_fits};
+ghost use Rattle.std.specs.Prelude.{◌≤◌, ◌∷◌, [], MatchResult};
+ghost use Rattle.script_tree.specs.Grammar.{Stmt as AStmt, MoreResult};
+ghost use Rattle.script_tree.specs.Spelling.{fixed, spell_result, option_fits};
 ghost use Rattle.script_parser.specs.Reads.{ReadsStatement};
-ghost use Rattle.expression_parser.specs.Takes.{Begun, Took, Fails, TookAll};
+ghost use Rattle.expression_parser.specs.Takes.{Begun, Fails, TookAll};
 ghost use Rattle.script_parser.specs.Options.{result_set};
-ghost use Rattle.script_tree.specs.Tree.{statement_of};
 ghost use Rattle.script_tree.specs.Words.{is_identifier};
 
 use expression_parser::{ReadError, arguments, behind as behind_word, name, open, want};

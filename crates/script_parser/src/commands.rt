@@ -1,12 +1,11 @@
 //! Commands: a verb and its expression, `usage`, and `rollback`.
-ghost use Rattle.std.specs.Prelude.{◌≡◌, ◌≢◌, ◌≤◌, ◌<◌, ◌+◌, ◌∷◌, [], length, true, Err, MatchResult};
+ghost use Rattle.std.specs.Prelude.{◌≢◌, ◌≤◌, Err};
 ghost use Rattle.script_tree.specs.declared.symbol.Symbol.TheVariants as s;
 ghost use Rattle.script_tree.specs.declared.lexeme.Lexeme.TheVariants as t;
-ghost use Rattle.script_tree.specs.Grammar.{Stmt as AStmt, AStatement, stmt_symbol};
-ghost use Rattle.script_tree.specs.Spelling.{fixed, statement_fits};
+ghost use Rattle.script_tree.specs.Grammar.{Stmt as AStmt};
+ghost use Rattle.script_tree.specs.Spelling.{fixed};
 ghost use Rattle.script_parser.specs.Reads.{ReadsStatement};
-ghost use Rattle.expression_parser.specs.Takes.{Begun, Took, Fails};
-ghost use Rattle.script_tree.specs.Tree.{statement_of};
+ghost use Rattle.expression_parser.specs.Takes.{Begun};
 
 use expression_parser::{ReadError, before, name, want};
 use script_tree::{Fixed, Lexemes, Stmt, Verb};

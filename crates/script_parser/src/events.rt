@@ -1,11 +1,10 @@
 //! `fire`: an event, the service that receives it, and its fields.
-ghost use Rattle.std.specs.Prelude.{◌≡◌, ◌≤◌, ◌<◌, ◌+◌, ◌∷◌, [], length, true, MatchResult};
-ghost use Rattle.script_tree.specs.Grammar.{Stmt as AStmt, AStatement, MoreService};
-ghost use Rattle.script_tree.specs.Spelling.{fixed, spell_service, statement_fits, option_fits};
+ghost use Rattle.std.specs.Prelude.{◌≤◌, ◌∷◌, [], MatchResult};
+ghost use Rattle.script_tree.specs.Grammar.{Stmt as AStmt, MoreService};
+ghost use Rattle.script_tree.specs.Spelling.{fixed, spell_service, option_fits};
 ghost use Rattle.script_parser.specs.Reads.{ReadsStatement};
-ghost use Rattle.expression_parser.specs.Takes.{Begun, Took, Fails, TookAll};
+ghost use Rattle.expression_parser.specs.Takes.{Begun, Fails, TookAll};
 ghost use Rattle.script_parser.specs.Options.{with_service};
-ghost use Rattle.script_tree.specs.Tree.{statement_of};
 ghost use Rattle.script_tree.specs.Words.{is_literal};
 
 use expression_parser::{ReadError, behind as behind_word, expression, fields, name, text, want};

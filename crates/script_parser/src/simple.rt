@@ -1,13 +1,9 @@
 //! Simple statements, those that hold no block, chosen by their first word.
-ghost use Rattle.std.specs.Prelude.{◌≡◌, ◌≤◌, ◌∷◌, [], false, MatchResult};
+ghost use Rattle.std.specs.Prelude.{◌≡◌, ◌≤◌, ◌∷◌, false};
 ghost use Rattle.script_tree.specs.declared.symbol.Symbol.TheVariants as s;
 ghost use Rattle.script_tree.specs.declared.lexeme.Lexeme.TheVariants as t;
-ghost use Rattle.script_tree.specs.Grammar.{Stmt as AStmt, AStatement};
-ghost use Rattle.script_tree.specs.Spelling.{statement_fits};
 ghost use Rattle.script_parser.specs.Reads.{ReadsStatement};
-ghost use Rattle.expression_parser.specs.Takes.{Took, Fails};
 ghost use Rattle.script_parser.specs.Simple.{has_block, starts_block};
-ghost use Rattle.script_tree.specs.Tree.{statement_of};
 
 use crate::calls::call;
 use crate::events::fire;

@@ -1,13 +1,12 @@
 //! Statements and blocks read from tokens, each with what is left behind it.
-ghost use Rattle.std.specs.Prelude.{◌≡◌, ◌≤◌, ◌<◌, ◌+◌, ◌∷◌, [], length, true, MatchResult, MatchOption};
+ghost use Rattle.std.specs.Prelude.{◌≡◌, ◌≤◌, ◌+◌, ◌∷◌, [], MatchResult, MatchOption};
 ghost use Rattle.script_tree.specs.declared.lexeme.Lexeme.{Lexeme as ALexeme};
-ghost use Rattle.script_tree.specs.Grammar.{Stmt as AStmt, AStatement, stmt_fixed, stmt_after};
-ghost use Rattle.script_tree.specs.Spelling.{fixed, statement_fits, statements_fit};
+ghost use Rattle.script_tree.specs.Grammar.{Stmt as AStmt, stmt_fixed, stmt_after, script_of};
+ghost use Rattle.script_tree.specs.Spelling.{fixed, statements_fit};
 ghost use Rattle.script_parser.specs.Reads.{ReadsStatement};
-ghost use Rattle.expression_parser.specs.Takes.{Begun, Took, Fails, begins};
+ghost use Rattle.expression_parser.specs.Takes.{Begun, begins};
 ghost use Rattle.script_parser.specs.Bodies.{TookStmts, FailStmts, TookBlock, FailsBlock, starts_stmt, block_word_at, block_word_in};
-ghost use Rattle.script_tree.specs.Tree.{statement_of, statements_of};
-ghost use Rattle.script_tree.specs.Grammar.{script_of};
+ghost use Rattle.script_tree.specs.Tree.{statements_of};
 ghost use Rattle.script_parser.specs.Whole.{IsMisfit, IsWhole};
 
 use crate::simple::simple_statement;

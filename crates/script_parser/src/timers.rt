@@ -1,13 +1,12 @@
 //! `timer`: the time at which it is due, its repetition, and what is kept of missed occurrences.
-ghost use Rattle.std.specs.Prelude.{◌≡◌, ◌≢◌, ◌≤◌, ◌<◌, ◌+◌, ◌∷◌, [], length, true, Err, MatchResult, MatchOption, IfOk};
+ghost use Rattle.std.specs.Prelude.{◌≡◌, ◌≢◌, ◌≤◌, ◌∷◌, [], true, Err, MatchResult, MatchOption, IfOk};
 ghost use Rattle.script_tree.specs.declared.lexeme.Lexeme.{Lexeme as ALexeme};
-ghost use Rattle.script_tree.specs.Grammar.{Stmt as AStmt, AStatement, MoreRepeat, MoreKeep, KeepWord};
-ghost use Rattle.script_tree.specs.Spelling.{fixed, spell_repeat, spell_keep, keep_token, statement_fits, option_fits, repeat_fits};
-ghost use Rattle.script_parser.specs.Options.{keep_in};
+ghost use Rattle.script_tree.specs.Grammar.{Stmt as AStmt, MoreRepeat, MoreKeep, KeepWord};
+ghost use Rattle.script_tree.specs.Spelling.{fixed, spell_repeat, spell_keep, keep_token, option_fits, repeat_fits};
 ghost use Rattle.script_parser.specs.Reads.{ReadsStatement};
-ghost use Rattle.expression_parser.specs.Takes.{Begun, Took, Fails, TookAll};
-ghost use Rattle.script_parser.specs.Options.{repeat_set, keep_set, keep_at, repeat_in};
-ghost use Rattle.script_tree.specs.Tree.{statement_of, repeat_of, tree_of};
+ghost use Rattle.expression_parser.specs.Takes.{Begun, Fails, TookAll};
+ghost use Rattle.script_parser.specs.Options.{repeat_set, keep_set, keep_at, keep_in, repeat_in};
+ghost use Rattle.script_tree.specs.Tree.{repeat_of, tree_of};
 
 use expression_parser::{
     ReadError, behind as behind_word, boxed, boxed_before, name, unexpected, want,
