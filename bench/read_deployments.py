@@ -76,6 +76,23 @@ def names(n):
     return {"blocks": [item("b", fields={f"f{i}": "int" for i in range(n)}, exception=[f"self.f{i} = 1;" for i in range(n)])]}
 
 
+def variables(n):
+    """One script with many variables, each of which is named once: what a look-up costs."""
+    return {"blocks": [item("b", remove=["let v0 = 0;"] + [f"let v{i} = v{i - 1};" for i in range(1, n)])]}
+
+
+def parameters(n):
+    """A method with many parameters, each of which is named once."""
+    made = [{"name": f"p{i}", "type": "int"} for i in range(n)]
+    return {"blocks": [item("b", methods={"m": {"params": made, "do": [f"emit text(p{i});" for i in range(n)]}})]}
+
+
+def nested(n):
+    """One script with many variables, whose names stand again in blocks within blocks once those before them ended."""
+    inner = ["if true { let x = v; if x < 9 { let y = x; while y > 0 { let z = y; y = z - 1; } } }", "if true { let z = v; let y = z; let x = y; v = x; }"]
+    return {"blocks": [item("b", remove=["let v = 0;"] + [line for i in range(n) for line in [f"let v{i} = v;", *inner]])]}
+
+
 def with_scripts(scripts):
     """Scripts of one block that may name what those above name."""
     numbers = ("first", "second", "third", "fourth", "limit", "total")
@@ -108,7 +125,7 @@ def expressions(n):
     return with_scripts([EXPRESSIONS * n])
 
 
-MAKES = (events, blocks, handlers, script, profiles, names, calls, call, statements, expressions)
+MAKES = (events, blocks, handlers, script, profiles, names, variables, parameters, nested, calls, call, statements, expressions)
 OF_SCRIPTS = (calls, call, statements, expressions)
 
 

@@ -9,7 +9,7 @@ ghost use Rattle.expression_check.specs.Answers.{Gives};
 ghost use Rattle.expression_check.specs.SettingOf.{setting_of};
 ghost use Rattle.call_check.specs.Parts.{argument_made};
 
-use expression_check::{Local, ScriptFault, Setting, check_test, expr_as_kind, expr_serves};
+use expression_check::{Locals, ScriptFault, Setting, check_test, expr_as_kind, expr_serves};
 use script_tree::Expr;
 use script_types::{CheckBad, FieldCode, Term};
 use slee_value::Kind;
@@ -45,7 +45,7 @@ fn argument_of(parameter: Option<&FieldCode>, x: &Expr, term: Term) -> Term
 /// One argument against its parameter; `at` tokens stand before it.
 fn check_argument(
     setting: &Setting,
-    scope: &[Local],
+    scope: &Locals,
     parameter: Option<&FieldCode>,
     at: usize,
     x: &Expr,
@@ -76,7 +76,7 @@ pub struct Arguments {
 /// Each argument against its parameter; `at` tokens stand before the first.
 pub fn check_arguments(
     setting: &Setting,
-    scope: &[Local],
+    scope: &Locals,
     parameters: &[FieldCode],
     at: usize,
     arguments: &[Expr],

@@ -13,7 +13,7 @@ ghost use Rattle.statement_check.specs.Made.{Makes};
 use crate::arguments::check_arguments;
 use crate::lookup::check_method;
 use expression_check::{
-    Local, ScriptFault, Setting, check_child, check_new, check_not_on_remove, check_test,
+    Locals, ScriptFault, Setting, check_child, check_new, check_not_on_remove, check_test,
 };
 use script_tree::{Expr, Identifier};
 use script_types::{Call, CheckBad, Misuse, Step};
@@ -22,12 +22,12 @@ use statement_check::{MadeStep, add_value};
 
 /// `as NAME`, the variable that the result becomes; behind a method without a result it isn't allowed, whatever the name.
 fn check_result<'a>(
-    scope: &mut Vec<Local<'a>>,
+    scope: &mut Locals<'a>,
     kind: Option<Kind>,
     at: usize,
     variable: &'a Option<Identifier>,
 ) -> Result<(), ScriptFault>
-    ensures { Gives (λ _. scope.new.items) result (check_result scope.old.items kind at variable.now) }
+    ensures { Gives (λ _. scope.new) result (check_result scope.old kind at variable.now) }
 {
     let Some(name) = variable else {
         return Ok(());
@@ -56,7 +56,7 @@ fn tokens_in_result(variable: &Option<Identifier>) -> usize
 /// `call CHILD.METHOD(e, ..) as NAME;`, which `at` tokens stand before.
 pub fn check_call<'a>(
     setting: &Setting,
-    scope: &mut Vec<Local<'a>>,
+    scope: &mut Locals<'a>,
     at: usize,
     child: &Identifier,
     name: &Identifier,
@@ -64,7 +64,7 @@ pub fn check_call<'a>(
     variable: &'a Option<Identifier>,
 ) -> Result<MadeStep, ScriptFault>
     requires { at + length (spell_on_entities (tree.Call child.now name.now (map tree_of arguments.now) variable.now)) < usize.MAX }
-    ensures made { Makes result scope.new.items (on_entities_of (setting_of setting.now) scope.old.items at (tree.Call child.now name.now (map tree_of arguments.now) variable.now)) }
+    ensures made { Makes result scope.new (on_entities_of (setting_of setting.now) scope.old at (tree.Call child.now name.now (map tree_of arguments.now) variable.now)) }
     ensures tokens { IfOk result (λ r. r.tokens ≡ length (spell_on_entities (tree.Call child.now name.now (map tree_of arguments.now) variable.now))) }
 {
     let found = check_child(scope, child.as_bytes(), at + 1)?;

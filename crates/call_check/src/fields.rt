@@ -12,7 +12,7 @@ ghost use Rattle.expression_check.specs.SettingOf.{setting_of};
 ghost use Rattle.call_check.specs.Parts.{Has, field_made, names_of};
 
 use expression_check::{
-    Local, ScriptFault, Setting, check_known, check_test, kind_of_field, name_of,
+    Locals, ScriptFault, Setting, check_known, check_test, kind_of_field, name_of,
 };
 use script_tree::FieldValue;
 use script_types::{CheckBad, FieldCode, FieldTerm, NamedList, Places};
@@ -42,7 +42,7 @@ struct FieldPart {
 /// One field of an event, which isn't among those before it, whose names are given; `at` tokens stand before its name.
 fn check_field(
     setting: &Setting,
-    scope: &[Local],
+    scope: &Locals,
     declared: &NamedList<FieldCode>,
     before: &[FieldValue],
     given: &Places,
@@ -81,7 +81,7 @@ pub struct Fields {
 /// Each is a field of the event, and none stands twice; `at` tokens stand before the first name.
 pub fn check_fields(
     setting: &Setting,
-    scope: &[Local],
+    scope: &Locals,
     declared: &NamedList<FieldCode>,
     at: usize,
     fields: &[FieldValue],

@@ -10,7 +10,7 @@ ghost use Rattle.statement_check.specs.Made.{Makes};
 
 use crate::fields::{are_all_given, check_fields};
 use crate::lookup::{check_event, check_service};
-use expression_check::{Local, ScriptFault, Setting, check_not_on_remove, check_test};
+use expression_check::{Locals, ScriptFault, Setting, check_not_on_remove, check_test};
 use script_tree::{Expr, FieldValue, Literal};
 use script_types::{CheckBad, OnActivities, Step};
 use slee_value::{Kind, NoMemory, Text};
@@ -41,7 +41,7 @@ fn tokens_in_service(service: &Option<Literal>) -> usize
 /// `fire TEXT on a for TEXT {NAME: e, ..};`, which `at` tokens stand before.
 pub fn check_fire(
     setting: &Setting,
-    scope: &[Local],
+    scope: &Locals,
     at: usize,
     name: &Literal,
     x: &Expr,

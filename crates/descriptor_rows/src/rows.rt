@@ -7,16 +7,42 @@ use deployment_parts::DeployFault;
 use serde_json::Value;
 use slee_descriptor::Deployment;
 use std::alloc::Global;
+use std::time::Instant;
 use std::{env, io};
 
-/// Builds each row, or reads it and no more.
+/// Builds each row; or reads it and no more; or says how long building it takes.
 pub(crate) fn play(rt: &HostRuntime) -> Result<(), Trouble> {
     let text = io::read_to_string(rt.alloc(), rt.reader())?;
-    if env::args(rt)?.nth(1).is_some() {
-        return read_all(rt.alloc(), &text);
+    match env::args(rt)?.nth(1) {
+        None => play_all(rt, &text),
+        Some(word) => {
+            if word.as_str() == "time" {
+                time_all(rt, &text)
+            } else {
+                read_all(rt.alloc(), &text)
+            }
+        }
     }
+}
+
+fn play_all(rt: &HostRuntime, text: &str) -> Result<(), Trouble> {
     for line in text.lines() {
         play_row(rt, line)?;
+    }
+    Ok(())
+}
+
+/// Prints for each row the nanoseconds of building alone.
+fn time_all(rt: &HostRuntime, text: &str) -> Result<(), Trouble> {
+    for line in text.lines() {
+        let parts = parts_of(rt.alloc(), &row_of(rt.alloc(), line)?)?;
+        let begun = Instant::now(rt)?;
+        let built = Deployment::build(rt.alloc(), parts);
+        let took = begun.elapsed(rt)?;
+        match built {
+            Ok(_deployment) => println!(rt; "{}", took.as_nanos())?,
+            Err(fault) => print_fault(rt, &fault)?,
+        }
     }
     Ok(())
 }

@@ -3,3 +3,4 @@ pub mod ChainLemmas
 pub mod MakingLemmas
 pub mod LinkLemmas
 pub mod Depths
+mod LocalLemmas

@@ -4,3 +4,4 @@ pub mod SettingOf
 pub mod TypedTerms
 pub mod Rules
 pub mod Links
+pub mod KeptPlaces

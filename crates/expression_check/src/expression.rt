@@ -18,7 +18,7 @@ use crate::query::{
     check_asking, check_query_place, is_query_known, operand_kind, takes, tokens_before,
     tokens_behind,
 };
-use crate::{Local, ScriptFault, Setting, behind, check_test};
+use crate::{Locals, ScriptFault, Setting, behind, check_test};
 use script_tree::{Expr, Operator, Prefix, Query};
 use script_types::{CheckBad, Question, Term};
 use slee_value::Kind;
@@ -64,7 +64,7 @@ fn question_before(op: Prefix) -> Question
 #[cycle(exprs)]
 pub fn check_expression(
     setting: &Setting,
-    scope: &[Local],
+    scope: &Locals,
     at: usize,
     x: &Expr,
 ) -> Result<TypedTerm, ScriptFault>
@@ -115,7 +115,7 @@ pub fn check_expression(
 #[cycle(exprs)]
 fn check_ask(
     setting: &Setting,
-    scope: &[Local],
+    scope: &Locals,
     at: usize,
     parts: &(Query, Expr),
 ) -> Result<TypedTerm, ScriptFault>
@@ -145,7 +145,7 @@ fn check_ask(
 #[cycle(exprs)]
 fn check_pair(
     setting: &Setting,
-    scope: &[Local],
+    scope: &Locals,
     at: usize,
     first: &(Expr, Operator, Expr),
 ) -> Result<TypedTerm, ScriptFault>
@@ -169,7 +169,7 @@ fn check_pair(
 #[cycle(exprs)]
 fn check_links(
     setting: &Setting,
-    scope: &[Local],
+    scope: &Locals,
     at: usize,
     links: &[(Operator, Expr)],
     first: TypedTerm,
@@ -194,7 +194,7 @@ fn check_links(
 /// The term of an expression where that type is asked for.
 pub fn check_asked(
     setting: &Setting,
-    scope: &[Local],
+    scope: &Locals,
     asked: Kind,
     at: usize,
     x: &Expr,

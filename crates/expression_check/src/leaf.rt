@@ -9,7 +9,7 @@ ghost use Rattle.expression_check.specs.TypedTerms.{typed_atom_of};
 
 use crate::lookup::{kind_of_field, name_of, place_of_table, relation_named};
 use crate::{
-    Local, Role, ScriptFault, Setting, behind, check_child, check_known, check_not_on_remove,
+    Locals, Role, ScriptFault, Setting, behind, check_child, check_known, check_not_on_remove,
     check_value,
 };
 use script_tree::{Constant, Identifier, Leaf};
@@ -37,7 +37,7 @@ pub fn tokens_of_leaf(leaf: &Leaf) -> usize
 /// The type and the atom of an expression without parts; `at` tokens stand before it.
 pub fn check_leaf(
     setting: &Setting,
-    scope: &[Local],
+    scope: &Locals,
     at: usize,
     leaf: &Leaf,
 ) -> Result<TypedAtom, ScriptFault>

@@ -1,11 +1,11 @@
-//! The variables that are visible at a place of a script. Clauses see a list of them as a `Scope`.
-ghost use Rattle.std.specs.Prelude.{◌≡◌, bytes_eq, is_some, option_map, position};
+//! What the names of variables stand for at a place of a script.
+ghost use Rattle.std.specs.Prelude.{◌≡◌, bytes_eq, is_some, option_map};
 ghost use Rattle.script_types.specs.Elaboration.{variable_named, value_named, child_named};
 ghost use Rattle.script_types.specs.Scopes.{visible, check_new};
 ghost use Rattle.expression_check.specs.Answers.{Gives};
 ghost use Rattle.expression_check.specs.ScopeOf.{holding_of, found_of, value_at_of, child_at_of};
 
-use crate::{ScriptFault, check_known, check_test};
+use crate::{Locals, ScriptFault, check_known, check_test};
 use script_types::{CheckBad, Misuse};
 use slee_value::Kind;
 use std::marker::Model;
@@ -53,13 +53,6 @@ impl<'a> Local<'a> {
     }
 }
 
-/// The place of the visible variable of that name.
-fn place_of(scope: &[Local], name: &[u8]) -> Option<usize>
-    ensures { result ≡ position (λ x. bytes_eq x.name name.now) scope.now }
-{
-    scope.iter().position(|local| local.is_named(name))
-}
-
 /// A variable by its place in the scope, with what it holds.
 #[derive(Drop)]
 struct Found {
@@ -67,10 +60,10 @@ struct Found {
     holds: Holding,
 }
 
-fn variable_named(scope: &[Local], name: &[u8]) -> Option<Found>
+fn variable_named(scope: &Locals, name: &[u8]) -> Option<Found>
     ensures { option_map found_of result ≡ variable_named scope.now name.now }
 {
-    let place = place_of(scope, name)?;
+    let place = scope.place_of(name)?;
     let local = scope.get(place)?;
     Some(Found {
         place,
@@ -79,19 +72,15 @@ fn variable_named(scope: &[Local], name: &[u8]) -> Option<Found>
 }
 
 /// Whether a variable of that name is visible.
-pub fn is_visible(scope: &[Local], name: &[u8]) -> bool
+#[tactic(auto, using(crate::proofs::LocalLemmas::visible_is))]
+pub fn is_visible(scope: &Locals, name: &[u8]) -> bool
     ensures { result ≡ is_some (visible scope.now name.now) }
 {
-    'locals: for local in scope {
-        if local.is_named(name) {
-            return true;
-        }
-    }
-    false
+    scope.place_of(name).is_some()
 }
 
 /// A new name must not be visible.
-pub fn check_new(scope: &[Local], name: &[u8], at: usize) -> Result<(), ScriptFault>
+pub fn check_new(scope: &Locals, name: &[u8], at: usize) -> Result<(), ScriptFault>
     ensures { Gives (λ x. x) result (check_new scope.now name.now at) }
 {
     check_test(CheckBad::Name, at, !is_visible(scope, name))
@@ -112,7 +101,7 @@ pub struct ChildAt {
 }
 
 /// A variable where a value is wanted.
-pub fn check_value(scope: &[Local], name: &[u8], at: usize) -> Result<ValueAt, ScriptFault>
+pub fn check_value(scope: &Locals, name: &[u8], at: usize) -> Result<ValueAt, ScriptFault>
     ensures { Gives value_at_of result (value_named scope.now name.now at) }
 {
     let found = check_known(at, variable_named(scope, name))?;
@@ -129,7 +118,7 @@ pub fn check_value(scope: &[Local], name: &[u8], at: usize) -> Result<ValueAt, S
 }
 
 /// A variable where a child is wanted.
-pub fn check_child(scope: &[Local], name: &[u8], at: usize) -> Result<ChildAt, ScriptFault>
+pub fn check_child(scope: &Locals, name: &[u8], at: usize) -> Result<ChildAt, ScriptFault>
     ensures { Gives child_at_of result (child_named scope.now name.now at) }
 {
     let found = check_known(at, variable_named(scope, name))?;

@@ -11,7 +11,7 @@ use crate::events::BuiltInFields;
 use crate::fault::CodeFault;
 use crate::making::{Making, item_number, make_each};
 use crate::task::{Home, check_callback, check_part, parameters_in_scope};
-use expression_check::Role;
+use expression_check::{Locals, Role};
 use script_types::{
     BlockSteps, CodeList, CodePart, HandlerCode, HandlerSteps, MethodCode, MethodSteps,
 };
@@ -38,7 +38,7 @@ impl<'a> Making<HandlerCode, HandlerSteps> for HandlerMaking<'a> {
                 .fields_of(self.home.codes, item.event.as_bytes()),
         );
         let part = CodePart::Handler(item_number(number)?);
-        let scope = Vec::new(self.home.alloc);
+        let scope = Locals::new(self.home.alloc);
         let steps = check_part(self.home, part, role, scope, &item.script)?;
         Ok(HandlerSteps {
             event: item.event.copy(self.home.alloc)?,

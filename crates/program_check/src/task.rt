@@ -9,7 +9,7 @@ ghost use Rattle.expression_check.specs.SettingOf.{role_of};
 ghost use Rattle.program_check.specs.Building.{Builds};
 
 use crate::fault::CodeFault;
-use expression_check::{Holding, Local, Role, ScriptFault, Setting};
+use expression_check::{Holding, Locals, Role, ScriptFault, Setting};
 use script_check::check_script;
 use script_tree::Script;
 use script_types::{BlockCode, CodeList, CodePart, CodePlace, Codes, FieldCode, Step};
@@ -29,12 +29,12 @@ pub(crate) struct Home<'a> {
 pub(crate) fn parameters_in_scope<'a>(
     alloc: Global,
     fields: &'a [FieldCode],
-) -> Result<Vec<Local<'a>>, NoMemory>
-    ensures { IfOk result (λ v. v.items ≡ parameters_in_scope fields.now) }
+) -> Result<Locals<'a>, NoMemory>
+    ensures { IfOk result (λ l. l ≡ parameters_in_scope fields.now) }
 {
-    let mut scope = Vec::new(alloc);
+    let mut scope = Locals::new(alloc);
     'fields: for field in fields {
-        scope.push(Local::new(field.name.as_bytes(), Holding::Value(field.kind)))?;
+        scope.add(field.name.as_bytes(), Holding::Value(field.kind))?;
     }
     Ok(scope)
 }
@@ -44,10 +44,10 @@ pub(crate) fn check_part<'a>(
     home: &Home<'a>,
     part: CodePart,
     role: Role<'a>,
-    scope: Vec<Local<'a>>,
+    scope: Locals<'a>,
     script: &'a Script,
 ) -> Result<CodeList<Step>, CodeFault>
-    ensures { Builds steps_of result (steps_built (codes_of home.now.codes.now) (block_of_code home.now.block.now) (place_of home.now.number part) (record { role = role_of role.entry; scope = scope.entry.items; script = tree_of_script script.now })) }
+    ensures { Builds steps_of result (steps_built (codes_of home.now.codes.now) (block_of_code home.now.block.now) (place_of home.now.number part) (record { role = role_of role.entry; scope = scope.entry; script = tree_of_script script.now })) }
 {
     let setting = Setting {
         alloc: home.alloc,
@@ -80,7 +80,7 @@ pub(crate) fn check_callback<'a>(
     match script {
         None => Ok(None),
         Some(script) => {
-            let steps = check_part(home, part, role, Vec::new(home.alloc), script)?;
+            let steps = check_part(home, part, role, Locals::new(home.alloc), script)?;
             Ok(Some(steps))
         }
     }

@@ -14,7 +14,7 @@ use crate::plain::{
     check_asking_rollback, check_assigning, check_counting, check_do, check_on_activities,
     check_on_entities, check_setting_timer,
 };
-use expression_check::{Local, ScriptFault, Setting, check_new, check_not_on_remove};
+use expression_check::{Locals, ScriptFault, Setting, check_new, check_not_on_remove};
 use script_tree::{Expr, Identifier, Over, Stmt};
 use script_types::Step;
 use slee_value::Kind;
@@ -32,12 +32,12 @@ pub struct MadeSteps {
 #[cycle(blocks)]
 fn check_statement<'a>(
     setting: &Setting,
-    scope: &mut Vec<Local<'a>>,
+    scope: &mut Locals<'a>,
     at: usize,
     x: &'a Stmt,
 ) -> Result<MadeStep, ScriptFault>
     requires { at + tokens_in_statement (statement_of x.now) ≤ usize.MAX }
-    ensures made { Makes result scope.new.items (statement_made (setting_of setting.now) scope.old.items at (statement_of x.now)) }
+    ensures made { Makes result scope.new (statement_made (setting_of setting.now) scope.old at (statement_of x.now)) }
     ensures tokens { IfOk result (λ r. r.tokens ≡ tokens_in_statement (statement_of x.now)) }
 {
     match x {
@@ -60,12 +60,12 @@ fn check_statement<'a>(
 #[tactic(auto, using(crate::proofs::Tokens::tokens_from))]
 pub fn check_statements<'a>(
     setting: &Setting,
-    scope: &mut Vec<Local<'a>>,
+    scope: &mut Locals<'a>,
     at: usize,
     body: &'a [Stmt],
 ) -> Result<MadeSteps, ScriptFault>
     requires { at + tokens_in_statements (statements_of body.now) ≤ usize.MAX }
-    ensures made { MakesAll result scope.new.items (statements_made (setting_of setting.now) scope.old.items at (statements_of body.now)) }
+    ensures made { MakesAll result scope.new (statements_made (setting_of setting.now) scope.old at (statements_of body.now)) }
     ensures tokens { IfOk result (λ r. r.tokens ≡ tokens_in_statements (statements_of body.now)) }
 {
     let mut steps = Vec::new(setting.alloc);
@@ -86,13 +86,13 @@ pub fn check_statements<'a>(
 #[tactic(auto, using(crate::proofs::BlockLemmas::cut_back))]
 fn check_block<'a>(
     setting: &Setting,
-    scope: &mut Vec<Local<'a>>,
+    scope: &mut Locals<'a>,
     at: usize,
     body: &'a [Stmt],
 ) -> Result<MadeSteps, ScriptFault>
     requires { at + tokens_in_statements (statements_of body.now) ≤ usize.MAX }
-    ensures made { MakesSteps (λ r. steps_of r.steps.items) result (statements_made (setting_of setting.now) scope.old.items at (statements_of body.now)) }
-    ensures scope { OnOk result (scope.new.items ≡ scope.old.items) }
+    ensures made { MakesSteps (λ r. steps_of r.steps.items) result (statements_made (setting_of setting.now) scope.old at (statements_of body.now)) }
+    ensures scope { OnOk result (scope.new ≡ scope.old) }
     ensures tokens { IfOk result (λ r. r.tokens ≡ tokens_in_statements (statements_of body.now)) }
 {
     let outer = scope.len();
@@ -106,13 +106,13 @@ fn check_block<'a>(
 #[tactic(auto, using(crate::proofs::Tokens::tokens_if, script_types::proofs::ProgramRows::if_step))]
 fn check_if<'a>(
     setting: &Setting,
-    scope: &mut Vec<Local<'a>>,
+    scope: &mut Locals<'a>,
     at: usize,
     body: &'a [Stmt],
     x: &Expr,
 ) -> Result<MadeStep, ScriptFault>
     requires { at + tokens_in_statement (tree.If (tree_of x.now) (statements_of body.now)) ≤ usize.MAX }
-    ensures made { Makes result scope.new.items (statement_made (setting_of setting.now) scope.old.items at (tree.If (tree_of x.now) (statements_of body.now))) }
+    ensures made { Makes result scope.new (statement_made (setting_of setting.now) scope.old at (tree.If (tree_of x.now) (statements_of body.now))) }
     ensures tokens { IfOk result (λ r. r.tokens ≡ tokens_in_statement (tree.If (tree_of x.now) (statements_of body.now))) }
 {
     let test = check_part(setting, scope, Kind::Bool, at + 1, x)?;
@@ -128,14 +128,14 @@ fn check_if<'a>(
 #[tactic(auto, using(crate::proofs::Tokens::tokens_if_else, script_types::proofs::ProgramRows::if_step))]
 fn check_if_else<'a>(
     setting: &Setting,
-    scope: &mut Vec<Local<'a>>,
+    scope: &mut Locals<'a>,
     at: usize,
     body: &'a [Stmt],
     other: &'a [Stmt],
     x: &Expr,
 ) -> Result<MadeStep, ScriptFault>
     requires { at + tokens_in_statement (tree.IfElse (tree_of x.now) (statements_of body.now) (statements_of other.now)) ≤ usize.MAX }
-    ensures made { Makes result scope.new.items (statement_made (setting_of setting.now) scope.old.items at (tree.IfElse (tree_of x.now) (statements_of body.now) (statements_of other.now))) }
+    ensures made { Makes result scope.new (statement_made (setting_of setting.now) scope.old at (tree.IfElse (tree_of x.now) (statements_of body.now) (statements_of other.now))) }
     ensures tokens { IfOk result (λ r. r.tokens ≡ tokens_in_statement (tree.IfElse (tree_of x.now) (statements_of body.now) (statements_of other.now))) }
 {
     let test = check_part(setting, scope, Kind::Bool, at + 1, x)?;
@@ -153,13 +153,13 @@ fn check_if_else<'a>(
 #[tactic(auto, using(crate::proofs::Tokens::tokens_while, script_types::proofs::ProgramRows::while_step))]
 fn check_while<'a>(
     setting: &Setting,
-    scope: &mut Vec<Local<'a>>,
+    scope: &mut Locals<'a>,
     at: usize,
     body: &'a [Stmt],
     x: &Expr,
 ) -> Result<MadeStep, ScriptFault>
     requires { at + tokens_in_statement (tree.While (tree_of x.now) (statements_of body.now)) ≤ usize.MAX }
-    ensures made { Makes result scope.new.items (statement_made (setting_of setting.now) scope.old.items at (tree.While (tree_of x.now) (statements_of body.now))) }
+    ensures made { Makes result scope.new (statement_made (setting_of setting.now) scope.old at (tree.While (tree_of x.now) (statements_of body.now))) }
     ensures tokens { IfOk result (λ r. r.tokens ≡ tokens_in_statement (tree.While (tree_of x.now) (statements_of body.now))) }
 {
     let test = check_part(setting, scope, Kind::Bool, at + 1, x)?;
@@ -175,14 +175,14 @@ fn check_while<'a>(
 #[tactic(auto, using(crate::proofs::Tokens::tokens_for))]
 fn check_for<'a>(
     setting: &Setting,
-    scope: &mut Vec<Local<'a>>,
+    scope: &mut Locals<'a>,
     at: usize,
     body: &'a [Stmt],
     name: &'a Identifier,
     over: &Over,
 ) -> Result<MadeStep, ScriptFault>
     requires { at + tokens_in_statement (tree.For name.now over.now (statements_of body.now)) ≤ usize.MAX }
-    ensures made { Makes result scope.new.items (statement_made (setting_of setting.now) scope.old.items at (tree.For name.now over.now (statements_of body.now))) }
+    ensures made { Makes result scope.new (statement_made (setting_of setting.now) scope.old at (tree.For name.now over.now (statements_of body.now))) }
     ensures tokens { IfOk result (λ r. r.tokens ≡ tokens_in_statement (tree.For name.now over.now (statements_of body.now))) }
 {
     check_new(scope, name.as_bytes(), at + 1)?;

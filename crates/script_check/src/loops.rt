@@ -5,7 +5,7 @@ ghost use Rattle.script_types.specs.Scopes.{Variable};
 ghost use Rattle.expression_check.specs.SettingOf.{setting_of};
 ghost use Rattle.script_check.specs.Loops.{Goes};
 
-use expression_check::{Local, ScriptFault, Setting, name_of, relation_named};
+use expression_check::{Locals, ScriptFault, Setting, name_of, relation_named};
 use script_tree::{Identifier, Over};
 use script_types::{CheckBad, Misuse, Range};
 use slee_value::Kind;
@@ -14,13 +14,13 @@ use statement_check::{add_child, add_value};
 /// A variable for an activity, or for a child of the relation; `at` tokens stand before what the loop goes over.
 pub fn add_loop_variable<'a>(
     setting: &Setting,
-    scope: &mut Vec<Local<'a>>,
+    scope: &mut Locals<'a>,
     name: &'a Identifier,
     at: usize,
     over: &Over,
 ) -> Result<Range, ScriptFault>
-    ensures made { Goes result scope.new.items (loop_of (setting_of setting.now) scope.old.items name.now at over.now) }
-    ensures one { OnOk result ((new : Variable) × (scope.new.items ≡ scope.old.items ++ new ∷ [])) }
+    ensures made { Goes result scope.new (loop_of (setting_of setting.now) scope.old name.now at over.now) }
+    ensures one { OnOk result ((new : Variable) × (scope.new ≡ scope.old ++ new ∷ [])) }
 {
     match over {
         Over::Activities => {

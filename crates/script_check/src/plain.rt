@@ -9,7 +9,7 @@ ghost use Rattle.expression_check.specs.SettingOf.{setting_of};
 ghost use Rattle.statement_check.specs.Made.{Makes};
 
 use call_check::{check_call, check_fire};
-use expression_check::{Local, ScriptFault, Setting};
+use expression_check::{Locals, ScriptFault, Setting};
 use script_tree::{ActivityStmt, Assignment, EntityStmt, Expr, Identifier, TimerStmt, Verb};
 use statement_check::{
     MadeStep, check_assignment, check_attach, check_bind, check_create, check_detach, check_mask,
@@ -29,12 +29,12 @@ fn ended(made: MadeStep) -> MadeStep
 /// An assignment.
 pub fn check_assigning<'a>(
     setting: &Setting,
-    scope: &mut Vec<Local<'a>>,
+    scope: &mut Locals<'a>,
     at: usize,
     x: &'a Assignment,
 ) -> Result<MadeStep, ScriptFault>
     requires { at + tokens_in_statement (tree.Assign (assigning_of x.now)) ≤ usize.MAX }
-    ensures made { Makes result scope.new.items (statement_made (setting_of setting.now) scope.old.items at (tree.Assign (assigning_of x.now))) }
+    ensures made { Makes result scope.new (statement_made (setting_of setting.now) scope.old at (tree.Assign (assigning_of x.now))) }
     ensures tokens { IfOk result (λ r. r.tokens ≡ tokens_in_statement (tree.Assign (assigning_of x.now))) }
 {
     let made = check_assignment(setting, scope, at, x)?;
@@ -44,12 +44,12 @@ pub fn check_assigning<'a>(
 /// What stands before the semicolon of a statement on child entities.
 fn check_entity<'a>(
     setting: &Setting,
-    scope: &mut Vec<Local<'a>>,
+    scope: &mut Locals<'a>,
     at: usize,
     x: &'a EntityStmt,
 ) -> Result<MadeStep, ScriptFault>
     requires { at + length (spell_on_entities (on_entities_of x.now)) < usize.MAX }
-    ensures made { Makes result scope.new.items (entities_made (setting_of setting.now) scope.old.items at (on_entities_of x.now)) }
+    ensures made { Makes result scope.new (entities_made (setting_of setting.now) scope.old at (on_entities_of x.now)) }
     ensures tokens { IfOk result (λ r. r.tokens ≡ length (spell_on_entities (on_entities_of x.now))) }
 {
     match x {
@@ -67,12 +67,12 @@ fn check_entity<'a>(
 /// A statement on child entities.
 pub fn check_on_entities<'a>(
     setting: &Setting,
-    scope: &mut Vec<Local<'a>>,
+    scope: &mut Locals<'a>,
     at: usize,
     x: &'a EntityStmt,
 ) -> Result<MadeStep, ScriptFault>
     requires { at + tokens_in_statement (tree.Entity (on_entities_of x.now)) ≤ usize.MAX }
-    ensures made { Makes result scope.new.items (statement_made (setting_of setting.now) scope.old.items at (tree.Entity (on_entities_of x.now))) }
+    ensures made { Makes result scope.new (statement_made (setting_of setting.now) scope.old at (tree.Entity (on_entities_of x.now))) }
     ensures tokens { IfOk result (λ r. r.tokens ≡ tokens_in_statement (tree.Entity (on_entities_of x.now))) }
 {
     let made = check_entity(setting, scope, at, x)?;
@@ -82,12 +82,12 @@ pub fn check_on_entities<'a>(
 /// What stands before the semicolon of a statement on activities.
 fn check_activity<'a>(
     setting: &Setting,
-    scope: &mut Vec<Local<'a>>,
+    scope: &mut Locals<'a>,
     at: usize,
     x: &'a ActivityStmt,
 ) -> Result<MadeStep, ScriptFault>
     requires { at + length (spell_on_activities (on_activities_of x.now)) < usize.MAX }
-    ensures made { Makes result scope.new.items (activities_made (setting_of setting.now) scope.old.items at (on_activities_of x.now)) }
+    ensures made { Makes result scope.new (activities_made (setting_of setting.now) scope.old at (on_activities_of x.now)) }
     ensures tokens { IfOk result (λ r. r.tokens ≡ length (spell_on_activities (on_activities_of x.now))) }
 {
     match x {
@@ -106,12 +106,12 @@ fn check_activity<'a>(
 /// A statement on activities.
 pub fn check_on_activities<'a>(
     setting: &Setting,
-    scope: &mut Vec<Local<'a>>,
+    scope: &mut Locals<'a>,
     at: usize,
     x: &'a ActivityStmt,
 ) -> Result<MadeStep, ScriptFault>
     requires { at + tokens_in_statement (tree.Activity (on_activities_of x.now)) ≤ usize.MAX }
-    ensures made { Makes result scope.new.items (statement_made (setting_of setting.now) scope.old.items at (tree.Activity (on_activities_of x.now))) }
+    ensures made { Makes result scope.new (statement_made (setting_of setting.now) scope.old at (tree.Activity (on_activities_of x.now))) }
     ensures tokens { IfOk result (λ r. r.tokens ≡ tokens_in_statement (tree.Activity (on_activities_of x.now))) }
 {
     let made = check_activity(setting, scope, at, x)?;
@@ -121,12 +121,12 @@ pub fn check_on_activities<'a>(
 /// A timer that is set.
 pub fn check_setting_timer<'a>(
     setting: &Setting,
-    scope: &mut Vec<Local<'a>>,
+    scope: &mut Locals<'a>,
     at: usize,
     x: &'a TimerStmt,
 ) -> Result<MadeStep, ScriptFault>
     requires { at + tokens_in_statement (tree.Timer (timer_statement_of x.now)) ≤ usize.MAX }
-    ensures made { Makes result scope.new.items (statement_made (setting_of setting.now) scope.old.items at (tree.Timer (timer_statement_of x.now))) }
+    ensures made { Makes result scope.new (statement_made (setting_of setting.now) scope.old at (tree.Timer (timer_statement_of x.now))) }
     ensures tokens { IfOk result (λ r. r.tokens ≡ tokens_in_statement (tree.Timer (timer_statement_of x.now))) }
 {
     let made = check_timer(setting, scope, at, x)?;
@@ -136,7 +136,7 @@ pub fn check_setting_timer<'a>(
 /// `emit e;` and its kin.
 pub fn check_do(
     setting: &Setting,
-    scope: &[Local],
+    scope: &Locals,
     at: usize,
     verb: Verb,
     x: &Expr,
@@ -152,7 +152,7 @@ pub fn check_do(
 /// `usage NAME e;`
 pub fn check_counting(
     setting: &Setting,
-    scope: &[Local],
+    scope: &Locals,
     at: usize,
     name: &Identifier,
     x: &Expr,
@@ -168,7 +168,7 @@ pub fn check_counting(
 /// `rollback;`
 pub fn check_asking_rollback(
     setting: &Setting,
-    scope: &[Local],
+    scope: &Locals,
     at: usize,
 ) -> Result<MadeStep, ScriptFault>
     ensures made { Makes result scope.now (statement_made (setting_of setting.now) scope.now at tree.Rollback) }

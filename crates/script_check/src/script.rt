@@ -6,17 +6,17 @@ ghost use Rattle.expression_check.specs.SettingOf.{setting_of};
 ghost use Rattle.script_check.specs.Blocks.{MakesSteps};
 
 use crate::blocks::check_statements;
-use expression_check::{Local, ScriptFault, Setting};
+use expression_check::{Locals, ScriptFault, Setting};
 use script_tree::Script;
 use script_types::{CodeList, Step};
 
 /// The steps of a script at whose start those variables are visible.
 pub fn check_script<'a>(
     setting: &Setting,
-    scope: Vec<Local<'a>>,
+    scope: Locals<'a>,
     script: &'a Script,
 ) -> Result<CodeList<Step>, ScriptFault>
-    ensures { MakesSteps steps_of result (statements_made (setting_of setting.now) scope.entry.items 0 (tree_of_script script.now)) }
+    ensures { MakesSteps steps_of result (statements_made (setting_of setting.now) scope.entry 0 (tree_of_script script.now)) }
 {
     let _bytes = script.text().len();
     let mut visible = scope;

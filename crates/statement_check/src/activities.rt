@@ -12,13 +12,13 @@ use crate::lookup::check_any_event;
 use crate::made::MadeStep;
 use crate::new_variable::add_value;
 use crate::part::check_part;
-use expression_check::{Local, ScriptFault, Setting, check_child, check_new, check_not_on_remove};
+use expression_check::{Locals, ScriptFault, Setting, check_child, check_new, check_not_on_remove};
 use script_tree::{Expr, Identifier, Literal, Who as NamedWho};
 use script_types::{OnActivities, Step, Who};
 use slee_value::Kind;
 
 /// The entity itself or a child; `at` tokens stand before it.
-fn check_who(scope: &[Local], at: usize, who: &NamedWho) -> Result<Who, ScriptFault>
+fn check_who(scope: &Locals, at: usize, who: &NamedWho) -> Result<Who, ScriptFault>
     ensures { Gives (λ w. w) result (who_of scope.now at who.now) }
 {
     match who {
@@ -34,7 +34,7 @@ fn check_who(scope: &[Local], at: usize, who: &NamedWho) -> Result<Who, ScriptFa
 #[tactic(auto, using(crate::proofs::Counts::who_is_one))]
 pub fn check_attach(
     setting: &Setting,
-    scope: &[Local],
+    scope: &Locals,
     at: usize,
     who: &NamedWho,
     x: &Expr,
@@ -56,7 +56,7 @@ pub fn check_attach(
 #[tactic(auto, using(crate::proofs::Counts::who_is_one))]
 pub fn check_detach(
     setting: &Setting,
-    scope: &[Local],
+    scope: &Locals,
     at: usize,
     who: &NamedWho,
     x: &Expr,
@@ -77,7 +77,7 @@ pub fn check_detach(
 /// `mask TEXT on a;`
 pub fn check_mask(
     setting: &Setting,
-    scope: &[Local],
+    scope: &Locals,
     at: usize,
     event: &Literal,
     x: &Expr,
@@ -99,7 +99,7 @@ pub fn check_mask(
 /// `unmask TEXT on a;`
 pub fn check_unmask(
     setting: &Setting,
-    scope: &[Local],
+    scope: &Locals,
     at: usize,
     event: &Literal,
     x: &Expr,
@@ -121,12 +121,12 @@ pub fn check_unmask(
 /// `null as NAME;`
 pub fn check_null<'a>(
     setting: &Setting,
-    scope: &mut Vec<Local<'a>>,
+    scope: &mut Locals<'a>,
     at: usize,
     name: &'a Identifier,
 ) -> Result<MadeStep, ScriptFault>
     requires { at + length (spell_on_activities (tree.Null name.now)) < usize.MAX }
-    ensures made { Makes result scope.new.items (on_activities_of (setting_of setting.now) scope.old.items at (tree.Null name.now)) }
+    ensures made { Makes result scope.new (on_activities_of (setting_of setting.now) scope.old at (tree.Null name.now)) }
     ensures tokens { IfOk result (λ r. r.tokens ≡ length (spell_on_activities (tree.Null name.now))) }
 {
     check_new(scope, name.as_bytes(), at + 2)?;
@@ -138,7 +138,7 @@ pub fn check_null<'a>(
 /// `bind e to a;`
 pub fn check_bind(
     setting: &Setting,
-    scope: &[Local],
+    scope: &Locals,
     at: usize,
     x: &Expr,
     y: &Expr,

@@ -12,7 +12,7 @@ use crate::made::MadeStep;
 use crate::new_variable::add_value;
 use crate::part::{check_part, check_typed_part};
 use expression_check::{
-    Local, ScriptFault, Setting, check_new, check_not_on_remove, check_value, name_of,
+    Locals, ScriptFault, Setting, check_new, check_not_on_remove, check_value, name_of,
 };
 use script_tree::{Assignment, Expr, Identifier};
 use script_types::{Assigning, Step};
@@ -21,12 +21,12 @@ use slee_value::Kind;
 /// A statement that gives a value to something; `at` tokens stand before it.
 pub fn check_assignment<'a>(
     setting: &Setting,
-    scope: &mut Vec<Local<'a>>,
+    scope: &mut Locals<'a>,
     at: usize,
     x: &'a Assignment,
 ) -> Result<MadeStep, ScriptFault>
     requires { at + length (spell_assigning (assignment_of x.now)) < usize.MAX }
-    ensures made { Makes result scope.new.items (assigning_of (setting_of setting.now) scope.old.items at (assignment_of x.now)) }
+    ensures made { Makes result scope.new (assigning_of (setting_of setting.now) scope.old at (assignment_of x.now)) }
     ensures tokens { IfOk result (λ r. r.tokens ≡ length (spell_assigning (assignment_of x.now))) }
 {
     match x {
@@ -52,7 +52,7 @@ pub fn check_assignment<'a>(
 /// `self.NAME = e;`
 fn check_set_field(
     setting: &Setting,
-    scope: &[Local],
+    scope: &Locals,
     at: usize,
     name: &Identifier,
     x: &Expr,
@@ -74,7 +74,7 @@ fn check_set_field(
 /// `attr(a, NAME) = e;`
 fn check_set_attribute(
     setting: &Setting,
-    scope: &[Local],
+    scope: &Locals,
     at: usize,
     x: &Expr,
     name: &Identifier,

@@ -14,7 +14,7 @@ use crate::made::MadeStep;
 use crate::new_variable::add_child;
 use crate::part::check_part;
 use expression_check::{
-    Local, ScriptFault, Setting, check_child, check_new, check_not_on_remove, name_of,
+    Locals, ScriptFault, Setting, check_child, check_new, check_not_on_remove, name_of,
 };
 use script_tree::{Expr, Identifier};
 use script_types::{OnEntities, Rank, RelationCode, Step};
@@ -30,7 +30,7 @@ struct RankPart {
 /// `priority e`, or the relation's priority; `at` tokens stand before the expression.
 fn check_rank(
     setting: &Setting,
-    scope: &[Local],
+    scope: &Locals,
     relation: &RelationCode,
     at: usize,
     priority: &Option<Expr>,
@@ -57,14 +57,14 @@ fn check_rank(
 /// `create RELATION as NAME priority e;`
 pub fn check_create<'a>(
     setting: &Setting,
-    scope: &mut Vec<Local<'a>>,
+    scope: &mut Locals<'a>,
     at: usize,
     relation: &Identifier,
     child: &'a Identifier,
     priority: &Option<Expr>,
 ) -> Result<MadeStep, ScriptFault>
     requires { at + length (spell_on_entities (tree.Create relation.now child.now (tree_of_some priority.now))) < usize.MAX }
-    ensures made { Makes result scope.new.items (on_entities_of (setting_of setting.now) scope.old.items at (tree.Create relation.now child.now (tree_of_some priority.now))) }
+    ensures made { Makes result scope.new (on_entities_of (setting_of setting.now) scope.old at (tree.Create relation.now child.now (tree_of_some priority.now))) }
     ensures tokens { IfOk result (λ r. r.tokens ≡ length (spell_on_entities (tree.Create relation.now child.now (tree_of_some priority.now)))) }
 {
     let found = check_relation(setting, relation, at + 1)?;
@@ -82,7 +82,7 @@ pub fn check_create<'a>(
 /// `remove NAME;`
 pub fn check_remove(
     setting: &Setting,
-    scope: &[Local],
+    scope: &Locals,
     at: usize,
     child: &Identifier,
 ) -> Result<MadeStep, ScriptFault>
@@ -98,7 +98,7 @@ pub fn check_remove(
 /// `priority NAME e;`
 pub fn check_priority(
     setting: &Setting,
-    scope: &[Local],
+    scope: &Locals,
     at: usize,
     child: &Identifier,
     x: &Expr,

@@ -7,7 +7,7 @@ ghost use Rattle.script_types.specs.TokenCounts.{tokens_in};
 ghost use Rattle.expression_check.specs.Answers.{Gives};
 ghost use Rattle.expression_check.specs.SettingOf.{setting_of};
 
-use expression_check::{Local, ScriptFault, Setting, check_asked, check_expression};
+use expression_check::{Locals, ScriptFault, Setting, check_asked, check_expression};
 use script_tree::Expr;
 use script_types::Term;
 use slee_value::Kind;
@@ -30,7 +30,7 @@ pub struct TypedPart {
 /// The term of an expression where that type is asked for.
 pub fn check_part(
     setting: &Setting,
-    scope: &[Local],
+    scope: &Locals,
     asked: Kind,
     at: usize,
     x: &Expr,
@@ -48,7 +48,7 @@ pub fn check_part(
 /// The type and the term of an expression.
 pub fn check_typed_part(
     setting: &Setting,
-    scope: &[Local],
+    scope: &Locals,
     at: usize,
     x: &Expr,
 ) -> Result<TypedPart, ScriptFault>

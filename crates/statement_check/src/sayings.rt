@@ -14,7 +14,7 @@ ghost use Rattle.statement_check.specs.Made.{Makes};
 
 use crate::made::MadeStep;
 use crate::part::{check_part, check_typed_part};
-use expression_check::{Local, Role, ScriptFault, Setting, check_not_on_remove, name_of};
+use expression_check::{Locals, Role, ScriptFault, Setting, check_not_on_remove, name_of};
 use script_tree::{Expr, Identifier, Verb};
 use script_types::{CheckBad, Misuse, OnActivities, OnTimers, Saying, Step};
 use slee_value::{Kind, Name, NoMemory, Text};
@@ -43,7 +43,7 @@ fn check_handler(role: &Role, at: usize) -> Result<(), ScriptFault>
 /// `return e;`, which is for methods that return, with that type.
 fn check_return(
     setting: &Setting,
-    scope: &[Local],
+    scope: &Locals,
     at: usize,
     x: &Expr,
 ) -> Result<MadeStep, ScriptFault>
@@ -66,7 +66,7 @@ fn check_return(
 /// `emit e;` and its kin; `at` tokens stand before it.
 pub fn check_verb(
     setting: &Setting,
-    scope: &[Local],
+    scope: &Locals,
     at: usize,
     verb: Verb,
     x: &Expr,
@@ -140,7 +140,7 @@ fn usage_name(alloc: Global, block: &Name, name: &Identifier) -> Result<Text, No
 /// `usage NAME e;`
 pub fn check_usage(
     setting: &Setting,
-    scope: &[Local],
+    scope: &Locals,
     at: usize,
     name: &Identifier,
     x: &Expr,
@@ -159,11 +159,7 @@ pub fn check_usage(
 }
 
 /// `rollback;`
-pub fn check_rollback(
-    setting: &Setting,
-    scope: &[Local],
-    at: usize,
-) -> Result<MadeStep, ScriptFault>
+pub fn check_rollback(setting: &Setting, scope: &Locals, at: usize) -> Result<MadeStep, ScriptFault>
     ensures made { Makes result scope.now (statement_made (setting_of setting.now) scope.now at tree.Rollback) }
     ensures tokens { IfOk result (λ r. r.tokens ≡ 1) }
 {

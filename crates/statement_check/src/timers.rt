@@ -11,7 +11,7 @@ ghost use Rattle.statement_check.specs.Made.{Makes};
 use crate::made::MadeStep;
 use crate::new_variable::add_value;
 use crate::part::check_part;
-use expression_check::{Local, ScriptFault, Setting, check_new, check_not_on_remove};
+use expression_check::{Locals, ScriptFault, Setting, check_new, check_not_on_remove};
 use script_tree::{Repeat, TimerStmt};
 use script_types::{OnTimers, Recurrence, Step, TimerStart};
 use slee_value::{Keep, Kind};
@@ -26,7 +26,7 @@ struct RepeatPart {
 /// `every e times e`; `at` tokens stand before it.
 fn check_repeat(
     setting: &Setting,
-    scope: &[Local],
+    scope: &Locals,
     at: usize,
     repeat: &Option<Repeat>,
 ) -> Result<RepeatPart, ScriptFault>
@@ -82,12 +82,12 @@ fn tokens_in_keep(keep: Option<Keep>) -> usize
 /// `timer NAME on a at e every e times e keep ..;`
 pub fn check_timer<'a>(
     setting: &Setting,
-    scope: &mut Vec<Local<'a>>,
+    scope: &mut Locals<'a>,
     at: usize,
     x: &'a TimerStmt,
 ) -> Result<MadeStep, ScriptFault>
     requires { at + length (spell_timer (timer_statement_of x.now)) < usize.MAX }
-    ensures made { Makes result scope.new.items (timer_of (setting_of setting.now) scope.old.items at (timer_statement_of x.now)) }
+    ensures made { Makes result scope.new (timer_of (setting_of setting.now) scope.old at (timer_statement_of x.now)) }
     ensures tokens { IfOk result (λ r. r.tokens ≡ length (spell_timer (timer_statement_of x.now))) }
 {
     check_new(scope, x.name.as_bytes(), at + 1)?;

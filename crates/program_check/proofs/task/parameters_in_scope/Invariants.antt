@@ -4,4 +4,4 @@ use Rattle.program_check.proofs.task.parameters_in_scope.Given as goal
 
 -- the variables that the parameters so far are
 abbrev pub invariant-fields : goal.invariant-fields
-invariant-fields l = l.scope.items ≡ parameters_in_scope (take l.field-index l.fields)
+invariant-fields l = l.scope ≡ parameters_in_scope (take l.field-index l.fields)

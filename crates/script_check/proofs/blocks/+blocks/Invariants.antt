@@ -10,7 +10,7 @@ use Rattle.script_check.proofs.blocks.+blocks.Given as goal
 
 -- what the statements so far are made into stands in front of what the rest is made into; and where the rest begins
 abbrev pub invariant-check_statements-rest : goal.invariant-check_statements-rest
-invariant-check_statements-rest l = ((statements_made (setting_of l.setting) l.scope.items l.here (statements_of (drop l.x-index l.body)) >>= done l.steps.items) ≡ statements_made (setting_of l.setting) l.initial.scope.items l.fn.at (statements_of l.body)) × (l.here + tokens_in_statements (statements_of (drop l.x-index l.body)) ≡ l.fn.at + tokens_in_statements (statements_of l.body)) × (l.fn.at ≤ l.here)
+invariant-check_statements-rest l = ((statements_made (setting_of l.setting) l.scope l.here (statements_of (drop l.x-index l.body)) >>= done l.steps.items) ≡ statements_made (setting_of l.setting) l.initial.scope l.fn.at (statements_of l.body)) × (l.here + tokens_in_statements (statements_of (drop l.x-index l.body)) ≡ l.fn.at + tokens_in_statements (statements_of l.body)) × (l.fn.at ≤ l.here)
 
 abbrev pub decreases-check_statement : goal.decreases-check_statement
 decreases-check_statement l = 4 * tokens_in_statement (statement_of l.x.now) + 1
