@@ -15,7 +15,11 @@ use std::alloc::Global;
 
 /// A statement without a block, and what follows it.
 #[tactic(auto, unfolding(script_tree::specs::Grammar::verdict))]
-pub fn simple_statement(alloc: Global, ts: Lexemes, depth: u32) -> Result<(Stmt, Lexemes), ReadError>
+pub fn simple_statement(
+    alloc: Global,
+    ts: Lexemes,
+    depth: u32,
+) -> Result<(Stmt, Lexemes), ReadError>
     requires deep { depth ≤ 64 }
     requires simple { starts_block ts.now ≡ false }
     ensures { ReadsStatement depth ts.now result }
