@@ -6,7 +6,8 @@
     python3 bench/lines.py --small          a tenth of the lines
 
 Tables: `starts`, n, 2n and 4n lines of `start` (all activities stay alive); `calls`, calls of three lines one after
-another; `reading`, megabytes a second of reading, by runs of one entry; `memory`, the memory and the user time of 180,000
+another; `reading`, megabytes a second of reading alone, in processor time, by the program line_bench (build it first:
+cd crates/line_bench && rt run -- 1 < stdin), and in wall time by runs of one entry; `memory`, the memory and the user time of 180,000
 lines with 480,000 entries; `alive`, the cost of a step while 10, 1,000 and 10,000 calls are alive; `files`, entries a second over real files
 in the current folder, and how much of that is waiting for the disk; `opening`, the time of `show` as the journal grows.
 Times are the least of three runs. All but `files` run in a folder in memory where there is one, so that the journal's
@@ -14,6 +15,7 @@ syncs cost nothing there.
 """
 import argparse
 import os
+import resource
 import subprocess
 import sys
 import tempfile
@@ -21,6 +23,7 @@ import time
 
 
 MEMORY = "/dev/shm" if os.path.isdir("/dev/shm") else None
+LINE_BENCH = os.path.join(os.path.dirname(os.path.abspath(__file__)), "..", "crates", "line_bench", "out", "line_bench")
 
 
 def run(command, words, lines, where=MEMORY):
@@ -89,28 +92,45 @@ def user_seconds(command, words, lines):
     return min(found)
 
 
+KINDS = (
+    ("start", lambda i: b"start c%d\n" % i),
+    ("fire with one field", lambda i: b"fire c%d invite addr=tel:%d\n" % (i, i)),
+    ("fire with escapes", lambda i: b"fire c%d invite addr=%%20%%25%%20%%25%%20%%25%%20%%25\n" % i),
+    ("profile-add with ten fields", lambda i: b"profile-add t r%d " % i + b" ".join(b"f%d=%d" % (k, i) for k in range(10)) + b"\n"),
+    ("4,096 bytes each", lambda i: b"fire c1 invite addr=".ljust(4096, b"5") + b"\n"),
+)
+
+
+def lines_of(line_of, most):
+    """So many bytes of lines at most, and how many lines there are."""
+    lines, size = [], 0
+    while size < most:
+        lines.append(line_of(len(lines) + 1))
+        size += len(lines[-1])
+    return b"".join(lines[:-1]), len(lines) - 1
+
+
+def processor_seconds(whole, times):
+    """The processor time in which the lines are read so many times, the best of three runs."""
+    found = []
+    for _ in range(3):
+        begun = resource.getrusage(resource.RUSAGE_CHILDREN)
+        subprocess.run([LINE_BENCH, str(times)], input=whole, stdout=subprocess.DEVNULL, check=True)
+        ended = resource.getrusage(resource.RUSAGE_CHILDREN)
+        found.append(ended.ru_utime + ended.ru_stime - begun.ru_utime - begun.ru_stime)
+    return min(found)
+
+
 def reading(command, small):
-    print("reading: lines that are read whole, of which the first alone is played")
-    print(f"{'lines':>9} {'bytes':>10} {'ms':>9} {'MB/s':>9} {'KiB':>9}  of")
-    most = 1_600_000 if small else 16_000_000
-    kinds = (
-        ("start", lambda i: b"start c%d\n" % i),
-        ("fire with one field", lambda i: b"fire c%d invite addr=tel:%d\n" % (i, i)),
-        ("fire with escapes", lambda i: b"fire c%d invite addr=%%20%%25%%20%%25%%20%%25%%20%%25\n" % i),
-        ("profile-add with ten fields", lambda i: b"profile-add t r%d " % i + b" ".join(b"f%d=%d" % (k, i) for k in range(10)) + b"\n"),
-        ("4,096 bytes each", lambda i: b"fire c1 invite addr=".ljust(4096, b"5") + b"\n"),
-    )
-    for name, line_of in kinds:
-        lines, count = [], 0
-        size = 0
-        while size < most:
-            count += 1
-            lines.append(line_of(count))
-            size += len(lines[-1])
-        whole = b"".join(lines)[:16_777_216]
-        whole = whole[: whole.rindex(b"\n") + 1]
+    print("reading: lines that are read whole; alone, and in a run that plays the first of them")
+    print(f"{'lines':>9} {'bytes':>10} {'MB/s alone':>11} {'MB/s run':>9} {'KiB':>9}  of")
+    for name, line_of in KINDS:
+        whole, count = lines_of(line_of, 1_600_000 if small else 16_000_000)
+        alone = "-"
+        if os.path.exists(LINE_BENCH):
+            alone = f"{5 * len(whole) / (processor_seconds(whole, 6) - processor_seconds(whole, 1)) / 1e6:.1f}"
         took, memory, status, last = min((run(command, ["play", "1", "1"], whole) for _ in range(3)), key=lambda r: r[0])
-        print(f"{count:>9} {len(whole):>10} {took * 1e3:>9.1f} {len(whole) / took / 1e6:>9.1f} {memory:>9}  {name} ({last})")
+        print(f"{count:>9} {len(whole):>10} {alone:>11} {len(whole) / took / 1e6:>9.1f} {memory:>9}  {name} ({last})")
 
 
 def memory(command, small):
