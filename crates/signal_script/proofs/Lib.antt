@@ -7,4 +7,3 @@ pub mod SpellingLemmas
 pub mod GivenLemmas
 pub mod LawLemmas
 pub mod PrintLemmas
-pub mod FieldLemmas

@@ -14,10 +14,9 @@ mod signal;
 mod signals;
 mod unescaping;
 mod verb;
-mod word;
 
 pub use fault::{LineFault, SignalBad, SignalFault};
-pub use fields::{Fields, FieldsLeft};
+pub use fields::Fields;
 pub use laws::{length_alone_decides, printed_is_read, read_is_spelled};
 pub use line::LINE_LIMIT;
 pub use number::number_of;
@@ -27,4 +26,3 @@ pub use reading::{read_line, read_signals, read_unbounded};
 pub use signal::Signal;
 pub use signals::Signals;
 pub use unescaping::unescape;
-pub use word::Word;
