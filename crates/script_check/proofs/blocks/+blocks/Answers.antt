@@ -21,7 +21,7 @@ check_for-returns-clause-made t c =
     c.truncate.ensures
     ∙ ap (λ n. take n c.check_block.new.scope) c.len-visible.ensures
     ∙ cut_one scope c.check_block.new.scope c.in_ok-range.ensures.one.0 (c.in_ok-inner.ensures.scope ∙ c.in_ok-range.ensures.one.1) in
-    for_made (setting_of c.args.setting.now) scope _ made.0 c.args.at c.args.name.now c.args.over.now (statements_of c.args.body.now) c.in_ok-range.range (steps_of steps.items) (rw (c.deref.ensures.value, c.as_bytes.ensures.same) at c.in_ok-check_new.ensures) c.in_ok-range.ensures.made made.1 c.in_ok-check_not_on_remove.ensures
+    for_made (setting_of c.args.setting.now) scope _ made.0 c.args.at c.args.name.now c.args.over.now (statements_of c.args.body.now) c.in_ok-range.range (steps_of steps.items) (rw c.as_bytes.ensures.same at c.in_ok-check_new.ensures) c.in_ok-range.ensures.made made.1 c.in_ok-check_not_on_remove.ensures
     ∙ ap (λ z. gives z (p.For c.in_ok-range.range (steps_of steps.items))) (sym back)
     ∙ ap (gives c.truncate.new.self) (sym step)
 
