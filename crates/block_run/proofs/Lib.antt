@@ -1,0 +1,5 @@
+pub mod CallLemmas
+pub mod TidyLemmas
+pub mod FlagLemmas
+pub mod StepLemmas
+pub mod MethodLemmas

@@ -1,0 +1,3 @@
+pub mod Tidy
+pub mod Loops
+pub mod Stages

@@ -1,0 +1,21 @@
+//! Terms that decide which way a run goes.
+ghost use Rattle.std.specs.Prelude.{◌≡◌, ◌≤◌};
+ghost use Rattle.script_types.specs.ProgramOf.{term_of};
+ghost use Rattle.handler_meaning.specs.Terms.{eval};
+ghost use Rattle.script_machine.specs.Agreeing.{Agrees};
+ghost use Rattle.script_machine.specs.Settings.{setting_of};
+ghost use Rattle.block_run.specs.Loops.{flag_in};
+
+use script_machine::{Machine, Scene, Stop, flag_of};
+use script_types::Term;
+use term_run::eval;
+
+/// What a term gives that is a truth value.
+#[tactic(auto, using(script_machine::proofs::KindLemmas::no_flag_stays))]
+pub(crate) fn eval_flag(machine: &mut Machine, scene: &Scene, term: &Term) -> Result<bool, Stop>
+    ensures agrees { Agrees (flag_in (eval (setting_of scene.now) (term_of term.now))) machine.old machine.new result }
+    ensures spent { machine.new.left ≤ machine.old.left }
+{
+    let x = eval(machine, scene, term)?;
+    flag_of(&x)
+}

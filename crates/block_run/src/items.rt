@@ -1,0 +1,33 @@
+//! What loops go over.
+ghost use Rattle.std.specs.Prelude.{◌≡◌, ◌≤◌, map};
+ghost use Rattle.handler_meaning.specs.Steps.{items};
+ghost use Rattle.script_machine.specs.Agreeing.{AgreesAs};
+ghost use Rattle.script_machine.specs.Settings.{setting_of};
+ghost use Rattle.block_run.specs.Loops.{variable_in};
+
+use script_machine::{Machine, Scene, Stop, Variable};
+use script_reading::{attached_activities, children};
+use script_types::Range;
+use slee_effect::Ref;
+use term_run::activity_value;
+
+/// The variable of a loop for one of its items.
+pub fn loop_variable(range: &Range, item: Ref) -> Variable
+    ensures { result ≡ variable_in range.now item }
+{
+    match range {
+        Range::Activities => Variable::of_value(activity_value(item)),
+        Range::Children(_) => Variable::of_child(item),
+    }
+}
+
+/// What a loop goes over, as it is when the loop begins.
+pub fn read_items(machine: &mut Machine, scene: &Scene, range: &Range) -> Result<Vec<Ref>, Stop>
+    ensures agrees { AgreesAs (λ v. map (variable_in range.now) v.items) (items (setting_of scene.now) range.now) machine.old machine.new result }
+    ensures spent { machine.new.left ≤ machine.old.left }
+{
+    match range {
+        Range::Activities => attached_activities(machine, scene),
+        Range::Children(relation) => children(machine, scene, relation),
+    }
+}

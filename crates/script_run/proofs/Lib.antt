@@ -1,0 +1,2 @@
+pub mod TidyScripts
+pub mod RunLemmas

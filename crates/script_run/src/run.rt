@@ -1,0 +1,139 @@
+//! Whole runs.
+ghost use Rattle.std.specs.Prelude.{◌≡◌, ◌≤◌, length, map};
+ghost use Rattle.script_types.specs.ProgramOf.{steps_of, block_program_of};
+ghost use Rattle.handler_meaning.specs.Answers.{kept};
+ghost use Rattle.handler_meaning.specs.Running.{effect_limit};
+ghost use Rattle.handler_meaning.specs.Meaning.{start, meaning, report};
+ghost use Rattle.block_run.specs.Stages.{all_in, IsTidyStage};
+ghost use Rattle.block_run.specs.Tidy.{AreTidy, IsTidyProgram};
+ghost use Rattle.script_run.specs.declared.run.Unfinished.TheVariants as unfinished;
+ghost use Rattle.script_run.specs.Runs.{before_of, Means, ended, gone_through};
+
+use crate::scripts::script_in;
+use crate::words::word_of;
+use crate::{Before, Keys, Known};
+use block_run::{Stage, block_at, do_all};
+use handler_meaning::{Args, FailKind, Key, Outcome, Which};
+use script_machine::{Finished, Machine, Scene, Stop};
+use script_types::{BlockSteps, Step};
+use slee_effect::{Effects, Ref};
+use slee_value::{EntityId, NoMemory, Text};
+use std::alloc::Global;
+
+/// How deep calls of methods may be nested.
+const CALL_DEPTH: u32 = 8;
+
+/// What a run comes to.
+#[derive(Debug, Drop)]
+pub enum Run {
+    /// Its end: how it ended, the text of its failure, and its own effects and keys.
+    Done {
+        outcome: Outcome,
+        failure: Text,
+        effects: Effects,
+        keys: Keys,
+    },
+    /// The first key of which nothing is known.
+    Need(Key),
+}
+
+/// Why a run comes to nothing.
+#[derive(Debug, Clone, Copy, PartialEq, Eq)]
+pub enum Unfinished {
+    NoMemory,
+    /// No checked script comes here.
+    Unchecked,
+}
+
+impl From<NoMemory> for Unfinished {
+    ghost from_gives = { λ _ e. e ≡ unfinished.NoMemory };
+
+    fn from(_: NoMemory) -> Self {
+        Unfinished::NoMemory
+    }
+}
+
+/// A run that ended so.
+fn done(
+    alloc: Global,
+    finished: Finished,
+    outcome: Outcome,
+    failure: &str,
+) -> Result<Run, Unfinished>
+    ensures { Means (ended outcome failure.now finished) result }
+{
+    let failure = Text::from_str(alloc, failure)?;
+    Ok(Run::Done {
+        outcome,
+        failure,
+        effects: Effects::from_vec(finished.effects),
+        keys: Keys::from_vec(finished.keys),
+    })
+}
+
+/// A run that went through is fine, unless rollback was asked for.
+fn went_through(alloc: Global, finished: Finished) -> Result<Run, Unfinished>
+    ensures { Means (gone_through finished) result }
+{
+    if finished.is_asked {
+        return done(alloc, finished, Outcome::Asked, "asked");
+    }
+    done(alloc, finished, Outcome::Fine, "")
+}
+
+/// Runs steps from their start.
+fn run_steps(alloc: Global, stage: &Stage, steps: &[Step]) -> Result<Run, Unfinished>
+    requires stage { IsTidyStage stage.now }
+    requires steps { AreTidy (steps_of steps.now) }
+    ensures { Means (report (all_in stage.now 8 (steps_of steps.now) start)) result }
+{
+    let mut machine = Machine::new(alloc);
+    let end = do_all(&mut machine, stage, CALL_DEPTH, steps);
+    let finished = machine.finish();
+    match end {
+        Ok(_) => went_through(alloc, finished),
+        Err(Stop::Broken(kind)) => { done(alloc, finished, Outcome::Broken(kind), word_of(kind)) }
+        Err(Stop::Thrown(text)) => {
+            let outcome = Outcome::Broken(FailKind::Thrown);
+            done(alloc, finished, outcome, text.as_str())
+        }
+        Err(Stop::Need(key)) => Ok(Run::Need(key)),
+        Err(Stop::NoMemory) => Err(Unfinished::NoMemory),
+        Err(Stop::Unchecked) => Err(Unfinished::Unchecked),
+    }
+}
+
+/// What a script of a block means for an entity, over the answers that are known.
+pub fn run_in(
+    alloc: Global,
+    blocks: &[BlockSteps],
+    which: Which,
+    me: EntityId,
+    arguments: &Args,
+    before: &Before,
+    known: &Known,
+) -> Result<Run, Unfinished>
+    requires tidy { IsTidyProgram (map block_program_of blocks.now) }
+    requires effects { length before.now.effects ≤ effect_limit }
+    ensures { Means (meaning (kept known.now) (map block_program_of blocks.now) which me arguments.now (before_of before.now)) result }
+{
+    let Some(block) = block_at(blocks, which.block) else {
+        return Err(Unfinished::Unchecked);
+    };
+    let Some(steps) = script_in(block, which.part) else {
+        return Err(Unfinished::Unchecked);
+    };
+    let stage = Stage {
+        scene: Scene {
+            alloc,
+            known: known.as_slice(),
+            effects: before.effects.as_slice(),
+            keys: before.keys.as_slice(),
+            arguments,
+            me: Ref::Known(me.0),
+            masks: block.masks.as_slice(),
+        },
+        blocks,
+    };
+    run_steps(alloc, &stage, steps.as_slice())
+}
