@@ -1,0 +1,88 @@
+//! Answers of rows.
+
+use crate::numbers::{flag_of, integer_of, number_of};
+use crate::state_keys::key_of;
+use crate::trouble::Trouble;
+use crate::values::{name_of, text_of, value_of};
+use handler_meaning::{AcSeen, Ids, Seen};
+use script_run::Known;
+use slee_value::{ActivityId, Names, Payload};
+use std::alloc::Global;
+
+/// The words of a text, one blank between two.
+fn words_in<'a>(alloc: Global, text: &'a str) -> Result<Vec<&'a str>, Trouble> {
+    let mut words = Vec::new(alloc);
+    for word in text.split(' ') {
+        words.push(word)?;
+    }
+    Ok(words)
+}
+
+fn ids_of(alloc: Global, words: &[&str]) -> Result<Ids, Trouble> {
+    let mut ids = Ids::new(alloc);
+    for word in words {
+        ids.push(number_of(word)?)?;
+    }
+    Ok(ids)
+}
+
+fn names_of(alloc: Global, words: &[&str]) -> Result<Names, Trouble> {
+    let mut names = Names::new(alloc);
+    for word in words {
+        names.push(text_of(alloc, word)?)?;
+    }
+    Ok(names)
+}
+
+/// Names, types and values, three words for each.
+fn fields_of(alloc: Global, words: &[&str]) -> Result<Payload, Trouble> {
+    let mut fields = Payload::new(alloc);
+    let mut rest = words;
+    while let [name, kind, word, behind @ ..] = rest {
+        fields.push(name_of(alloc, name)?, value_of(alloc, kind, word)?)?;
+        rest = behind;
+    }
+    Ok(fields)
+}
+
+/// What is seen of an activity.
+fn activity_seen(words: &[&str]) -> Result<AcSeen, Trouble> {
+    match words {
+        [] => Ok(AcSeen { null: false, ending: false }),
+        ["null"] => Ok(AcSeen { null: true, ending: false }),
+        ["ending"] => Ok(AcSeen { null: false, ending: true }),
+        ["null", "ending"] => Ok(AcSeen { null: true, ending: true }),
+        _ => Err(Trouble::Words),
+    }
+}
+
+/// What is seen, by its words.
+fn seen_of(alloc: Global, words: &[&str]) -> Result<Seen, Trouble> {
+    match words {
+        ["held", "none"] => Ok(Seen::Held(None)),
+        ["held", kind, word] => Ok(Seen::Held(Some(value_of(alloc, kind, word)?))),
+        ["ids", numbers @ ..] => Ok(Seen::Ids(ids_of(alloc, numbers)?)),
+        ["number", word] => Ok(Seen::Number(integer_of(word)?)),
+        ["ac", "none"] => Ok(Seen::Ac(None)),
+        ["ac", words @ ..] => Ok(Seen::Ac(Some(activity_seen(words)?))),
+        ["flag", word] => Ok(Seen::Flag(flag_of(word)?)),
+        ["masks", "none"] => Ok(Seen::Masks(None)),
+        ["masks", "names", names @ ..] => Ok(Seen::Masks(Some(names_of(alloc, names)?))),
+        ["refers", "none"] => Ok(Seen::Refers(None)),
+        ["refers", word] => Ok(Seen::Refers(Some(ActivityId(number_of(word)?)))),
+        ["row", "none"] => Ok(Seen::Row(None)),
+        ["row", "values", values @ ..] => Ok(Seen::Row(Some(fields_of(alloc, values)?))),
+        _ => Err(Trouble::Words),
+    }
+}
+
+/// A line with a key and its answer is known.
+pub(crate) fn learn(alloc: Global, known: &mut Known, line: &str) -> Result<(), Trouble> {
+    let Some((key, answer)) = line.split_once(" = ") else {
+        return Err(Trouble::Words);
+    };
+    let key = key_of(alloc, words_in(alloc, key)?.as_slice())?;
+    let seen = seen_of(alloc, words_in(alloc, answer)?.as_slice())?;
+    known.push(key, seen)?;
+    Ok(())
+}
