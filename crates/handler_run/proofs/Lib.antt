@@ -1,0 +1,3 @@
+pub mod TidyStatements
+pub mod TidyPrograms
+pub mod RunLemmas
