@@ -5,7 +5,7 @@ use crate::state_keys::key_of;
 use crate::trouble::Trouble;
 use crate::values::{name_of, text_of, value_of};
 use handler_meaning::{AcSeen, Ids, Seen};
-use script_run::Known;
+use handler_run::Known;
 use slee_value::{ActivityId, Names, Payload};
 use std::alloc::Global;
 
@@ -48,10 +48,22 @@ fn fields_of(alloc: Global, words: &[&str]) -> Result<Payload, Trouble> {
 /// What is seen of an activity.
 fn activity_seen(words: &[&str]) -> Result<AcSeen, Trouble> {
     match words {
-        [] => Ok(AcSeen { null: false, ending: false }),
-        ["null"] => Ok(AcSeen { null: true, ending: false }),
-        ["ending"] => Ok(AcSeen { null: false, ending: true }),
-        ["null", "ending"] => Ok(AcSeen { null: true, ending: true }),
+        [] => Ok(AcSeen {
+            null: false,
+            ending: false,
+        }),
+        ["null"] => Ok(AcSeen {
+            null: true,
+            ending: false,
+        }),
+        ["ending"] => Ok(AcSeen {
+            null: false,
+            ending: true,
+        }),
+        ["null", "ending"] => Ok(AcSeen {
+            null: true,
+            ending: true,
+        }),
         _ => Err(Trouble::Words),
     }
 }

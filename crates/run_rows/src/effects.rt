@@ -77,31 +77,60 @@ fn write_fire(
 /// An effect on entities.
 fn write_on_entity(line: &mut String, effect: &Effect) -> Result<(), AllocError> {
     match effect {
-        Effect::SetField { entity: it, name, value } => {
+        Effect::SetField {
+            entity: it,
+            name,
+            value,
+        } => {
             write!(line, "set {}.{} ", entity(it), name.as_str())?;
             write_val(line, value)
         }
-        Effect::Create { parent, relation, priority } => {
-            write!(line, "create {}.{} {priority}", entity(parent), relation.as_str())
+        Effect::Create {
+            parent,
+            relation,
+            priority,
+        } => {
+            write!(
+                line,
+                "create {}.{} {priority}",
+                entity(parent),
+                relation.as_str()
+            )
         }
         Effect::Remove { entity: it } => write!(line, "remove {}", entity(it)),
-        Effect::SetPriority { entity: it, priority } => {
-            write!(line, "priority {} {priority}", entity(it))
-        }
-        Effect::Attach { entity: it, activity: on } => {
-            write!(line, "attach {} {}", entity(it), activity(on))
-        }
-        Effect::Detach { entity: it, activity: on } => {
-            write!(line, "detach {} {}", entity(it), activity(on))
-        }
-        Effect::SetMask { entity: it, activity: on, event, on: is_on } => {
+        Effect::SetPriority {
+            entity: it,
+            priority,
+        } => { write!(line, "priority {} {priority}", entity(it)) }
+        Effect::Attach {
+            entity: it,
+            activity: on,
+        } => { write!(line, "attach {} {}", entity(it), activity(on)) }
+        Effect::Detach {
+            entity: it,
+            activity: on,
+        } => { write!(line, "detach {} {}", entity(it), activity(on)) }
+        Effect::SetMask {
+            entity: it,
+            activity: on,
+            event,
+            on: is_on,
+        } => {
             let word = if *is_on { "on" } else { "off" };
-            write!(line, "mask {} {} {} {word}", entity(it), activity(on), event.as_str())
+            write!(
+                line,
+                "mask {} {} {} {word}",
+                entity(it),
+                activity(on),
+                event.as_str()
+            )
         }
         Effect::Emit { entity: it, text } => write!(line, "say {} {}", entity(it), text.as_str()),
-        Effect::Usage { entity: it, name, amount } => {
-            write!(line, "usage {} {} {amount}", entity(it), name.as_str())
-        }
+        Effect::Usage {
+            entity: it,
+            name,
+            amount,
+        } => { write!(line, "usage {} {} {amount}", entity(it), name.as_str()) }
         other => write_on_activity(line, other),
     }
 }
@@ -109,26 +138,45 @@ fn write_on_entity(line: &mut String, effect: &Effect) -> Result<(), AllocError>
 /// An effect on activities.
 fn write_on_activity(line: &mut String, effect: &Effect) -> Result<(), AllocError> {
     match effect {
-        Effect::SetAttr { activity: on, key, value } => {
+        Effect::SetAttr {
+            activity: on,
+            key,
+            value,
+        } => {
             write!(line, "attr {} {} ", activity(on), key.as_str())?;
             write_val(line, value)
         }
-        Effect::Fire { activity: on, event, service, fields } => {
-            write_fire(line, on, event, service, fields.as_slice())
-        }
+        Effect::Fire {
+            activity: on,
+            event,
+            service,
+            fields,
+        } => { write_fire(line, on, event, service, fields.as_slice()) }
         Effect::NewNull => write!(line, "null"),
         Effect::EndNull { activity: on } => write!(line, "end {}", activity(on)),
-        Effect::SetTimer { activity: on, start, period, times, keep } => {
-            write!(line, "timer {} {start} {period} {times} {}", activity(on), keep_word(*keep))
+        Effect::SetTimer {
+            activity: on,
+            start,
+            period,
+            times,
+            keep,
+        } => {
+            write!(
+                line,
+                "timer {} {start} {period} {times} {}",
+                activity(on),
+                keep_word(*keep)
+            )
         }
         Effect::CancelTimer { timer: it } => write!(line, "cancel {}", timer(it)),
         Effect::Bind { name, activity: on } => {
             write!(line, "bind {} {}", name.as_str(), activity(on))
         }
         Effect::Unbind { name } => write!(line, "unbind {}", name.as_str()),
-        Effect::Suspend { activity: on, until } => {
-            write!(line, "suspend {} {until}", activity(on))
-        }
+        Effect::Suspend {
+            activity: on,
+            until,
+        } => { write!(line, "suspend {} {until}", activity(on)) }
         Effect::Resume { activity: on } => write!(line, "resume {}", activity(on)),
         _ => Ok(()),
     }

@@ -4,7 +4,7 @@ use crate::effects::write_effects;
 use crate::state_keys::write_key;
 use crate::trouble::Trouble;
 use handler_meaning::{FailKind, Key, Outcome};
-use script_run::Run;
+use handler_run::Run;
 use slee_effect::Effect;
 use std::alloc::AllocError;
 

@@ -5,7 +5,7 @@ use crate::report::print_run;
 use crate::running::{Ground, run_exception, run_handler};
 use crate::trouble::Trouble;
 use deploy_json::{Checked, read_deployment};
-use script_run::{Known, Run};
+use handler_run::{Known, Run};
 use std::alloc::Global;
 use std::{env, io};
 
@@ -87,7 +87,7 @@ fn play_row<'a>(
     let known = known_by(rt.alloc(), answers)?;
     let ground = Ground {
         alloc: rt.alloc(),
-        codes: kept.checked.deployment().codes(),
+        checked: &kept.checked,
         known: &known,
     };
     print_run(rt, &run_of(&ground, what)?)?;
@@ -110,7 +110,7 @@ fn repeat(rt: &HostRuntime, text: &str, count: u32) -> Result<(), Trouble> {
     let known = known_by(rt.alloc(), answers)?;
     let ground = Ground {
         alloc: rt.alloc(),
-        codes: kept.checked.deployment().codes(),
+        checked: &kept.checked,
         known: &known,
     };
     for _ in 0..count {

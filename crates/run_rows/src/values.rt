@@ -11,8 +11,10 @@ fn push_piece(text: &mut String, piece: &str) -> Result<(), Trouble> {
     let [high, low, rest @ ..] = piece.as_bytes() else {
         return Err(Trouble::Words);
     };
-    let (Some(high), Some(low)) = (char::from(*high).to_digit(16), char::from(*low).to_digit(16))
-    else {
+    let (Some(high), Some(low)) = (
+        char::from(*high).to_digit(16),
+        char::from(*low).to_digit(16),
+    ) else {
         return Err(Trouble::Words);
     };
     let (Some(letter), Ok(rest)) = (char::from_u32(high * 16 + low), str::from_utf8(rest)) else {
