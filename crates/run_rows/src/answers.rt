@@ -26,22 +26,23 @@ fn ids_of(alloc: Global, words: &[&str]) -> Result<Ids, Trouble> {
     Ok(ids)
 }
 
+/// One name at most.
 fn names_of(alloc: Global, words: &[&str]) -> Result<Names, Trouble> {
     let mut names = Names::new(alloc);
-    for word in words {
-        names.push(text_of(alloc, word)?)?;
+    match words {
+        [] => Ok(names),
+        [word] => {
+            names.push(text_of(alloc, word)?)?;
+            Ok(names)
+        }
+        _ => Err(Trouble::Words),
     }
-    Ok(names)
 }
 
-/// Names, types and values, three words for each.
-fn fields_of(alloc: Global, words: &[&str]) -> Result<Payload, Trouble> {
+/// A value and its name.
+fn field_of(alloc: Global, name: &str, kind: &str, word: &str) -> Result<Payload, Trouble> {
     let mut fields = Payload::new(alloc);
-    let mut rest = words;
-    while let [name, kind, word, behind @ ..] = rest {
-        fields.push(name_of(alloc, name)?, value_of(alloc, kind, word)?)?;
-        rest = behind;
-    }
+    fields.push(name_of(alloc, name)?, value_of(alloc, kind, word)?)?;
     Ok(fields)
 }
 
@@ -83,7 +84,9 @@ fn seen_of(alloc: Global, words: &[&str]) -> Result<Seen, Trouble> {
         ["refers", "none"] => Ok(Seen::Refers(None)),
         ["refers", word] => Ok(Seen::Refers(Some(ActivityId(number_of(word)?)))),
         ["row", "none"] => Ok(Seen::Row(None)),
-        ["row", "values", values @ ..] => Ok(Seen::Row(Some(fields_of(alloc, values)?))),
+        ["row", "values", name, kind, word] => {
+            Ok(Seen::Row(Some(field_of(alloc, name, kind, word)?)))
+        }
         _ => Err(Trouble::Words),
     }
 }

@@ -74,7 +74,7 @@ fn write_fire(
     Ok(())
 }
 
-/// An effect on entities.
+/// An effect on an entity.
 fn write_on_entity(line: &mut String, effect: &Effect) -> Result<(), AllocError> {
     match effect {
         Effect::SetField {
@@ -86,14 +86,14 @@ fn write_on_entity(line: &mut String, effect: &Effect) -> Result<(), AllocError>
             write_val(line, value)
         }
         Effect::Create {
-            parent,
+            parent: it,
             relation,
             priority,
         } => {
             write!(
                 line,
                 "create {}.{} {priority}",
-                entity(parent),
+                entity(it),
                 relation.as_str()
             )
         }
@@ -102,6 +102,19 @@ fn write_on_entity(line: &mut String, effect: &Effect) -> Result<(), AllocError>
             entity: it,
             priority,
         } => { write!(line, "priority {} {priority}", entity(it)) }
+        Effect::Emit { entity: it, text } => write!(line, "say {} {}", entity(it), text.as_str()),
+        Effect::Usage {
+            entity: it,
+            name,
+            amount,
+        } => { write!(line, "usage {} {} {amount}", entity(it), name.as_str()) }
+        other => write_between(line, other),
+    }
+}
+
+/// An effect between an entity and an activity.
+fn write_between(line: &mut String, effect: &Effect) -> Result<(), AllocError> {
+    match effect {
         Effect::Attach {
             entity: it,
             activity: on,
@@ -116,26 +129,20 @@ fn write_on_entity(line: &mut String, effect: &Effect) -> Result<(), AllocError>
             event,
             on: is_on,
         } => {
-            let word = if *is_on { "on" } else { "off" };
             write!(
                 line,
-                "mask {} {} {} {word}",
+                "mask {} {} {}",
                 entity(it),
                 activity(on),
                 event.as_str()
-            )
+            )?;
+            write!(line, " {}", if *is_on { "on" } else { "off" })
         }
-        Effect::Emit { entity: it, text } => write!(line, "say {} {}", entity(it), text.as_str()),
-        Effect::Usage {
-            entity: it,
-            name,
-            amount,
-        } => { write!(line, "usage {} {} {amount}", entity(it), name.as_str()) }
         other => write_on_activity(line, other),
     }
 }
 
-/// An effect on activities.
+/// An effect on an activity.
 fn write_on_activity(line: &mut String, effect: &Effect) -> Result<(), AllocError> {
     match effect {
         Effect::SetAttr {
@@ -154,6 +161,18 @@ fn write_on_activity(line: &mut String, effect: &Effect) -> Result<(), AllocErro
         } => { write_fire(line, on, event, service, fields.as_slice()) }
         Effect::NewNull => write!(line, "null"),
         Effect::EndNull { activity: on } => write!(line, "end {}", activity(on)),
+        Effect::Suspend {
+            activity: on,
+            until,
+        } => { write!(line, "suspend {} {until}", activity(on)) }
+        Effect::Resume { activity: on } => write!(line, "resume {}", activity(on)),
+        other => write_naming(line, other),
+    }
+}
+
+/// An effect on a timer or a name.
+fn write_naming(line: &mut String, effect: &Effect) -> Result<(), AllocError> {
+    match effect {
         Effect::SetTimer {
             activity: on,
             start,
@@ -161,23 +180,14 @@ fn write_on_activity(line: &mut String, effect: &Effect) -> Result<(), AllocErro
             times,
             keep,
         } => {
-            write!(
-                line,
-                "timer {} {start} {period} {times} {}",
-                activity(on),
-                keep_word(*keep)
-            )
+            write!(line, "timer {} {start} {period} {times}", activity(on))?;
+            write!(line, " {}", keep_word(*keep))
         }
         Effect::CancelTimer { timer: it } => write!(line, "cancel {}", timer(it)),
         Effect::Bind { name, activity: on } => {
             write!(line, "bind {} {}", name.as_str(), activity(on))
         }
         Effect::Unbind { name } => write!(line, "unbind {}", name.as_str()),
-        Effect::Suspend {
-            activity: on,
-            until,
-        } => { write!(line, "suspend {} {until}", activity(on)) }
-        Effect::Resume { activity: on } => write!(line, "resume {}", activity(on)),
         _ => Ok(()),
     }
 }

@@ -1,4 +1,6 @@
 //! Texts, names and values of rows.
+ghost use Rattle.std.specs.Prelude.{IfOk, IsTrue};
+ghost use Rattle.slee_value.specs.Name.{is_name};
 
 use crate::numbers::{flag_of, integer_of, number_of};
 use crate::trouble::Trouble;
@@ -40,7 +42,9 @@ pub(crate) fn text_of(alloc: Global, word: &str) -> Result<Text, Trouble> {
     Ok(Text::from(text))
 }
 
-pub(crate) fn name_of(alloc: Global, word: &str) -> Result<Name, Trouble> {
+pub(crate) fn name_of(alloc: Global, word: &str) -> Result<Name, Trouble>
+    ensures { IfOk result (λ n. IsTrue (is_name n)) }
+{
     if Name::is_name(word.as_bytes()) {
         Ok(Name::from_slice(alloc, word.as_bytes())?)
     } else {
