@@ -2,8 +2,9 @@
 """Runs the definition of what a script means on the table of meaning_table.py. Outside the gate.
 
     python3 bench/meaning_rows.py [WORD]            all rows, or those whose script or name has WORD
-    python3 bench/meaning_rows.py --write FOLDER    writes the rows as a program can read them, FOLDER/stdin, and what it has to
-                                                    print, FOLDER/stdout
+    python3 bench/meaning_rows.py --write FOLDER [WHAT..]   writes the rows as a program can read them, FOLDER/stdin, and what it has to
+                                                    print, FOLDER/stdout: all, or those that run this (`handler exception` are those
+                                                    of crates/run_rows)
 
 Each row is a script, what the state answers, and what comes out: the outcome, the failure's text where there is one, the effects;
 or the keys that are read; or the outcomes of a delivery. Of each run it is looked at besides that its effects refer to what it was
@@ -306,9 +307,11 @@ def written(run):
         yield "removal", lambda: run.removal(script, given)
 
 
-def write(world, folder):
+def write(world, folder, wanted):
     run, rows, answers = Run(world), [], []
     for what, ask in written(run):
+        if wanted and what not in wanted:
+            continue
         run.asked = {}
         answers.append(ask())
         rows.append("\n".join([run.source, what] + [f"{key} = {answer}" for key, answer in run.asked.items()]) + "\n\n")
@@ -321,7 +324,7 @@ def write(world, folder):
 
 def main(world):
     if sys.argv[1:2] == ["--write"]:
-        return write(world, sys.argv[2])
+        return write(world, sys.argv[2], sys.argv[3:])
     run, wrong, done = Run(world), 0, 0
     for name, ask, wanted in rows_of(run):
         if len(sys.argv) > 1 and sys.argv[1] not in name:

@@ -1,0 +1,104 @@
+#!/usr/bin/env python3
+"""Times runs of scripts. Outside the gate.
+
+    python3 bench/script_speed.py [NAME..]       all scripts, or these
+
+Each line is one script, run by the program run_rows: the microseconds of a run, the median of seven. Each is the difference between
+a process that runs it many times and one that runs it not at all, both of which read the deployment and the answers once. A loop goes
+round as often as a run may, which takes some 10,000 units, and is to take at most 200 microseconds; a handler of ten statements is
+to take a few. Build the program first: cd crates/run_rows && rt run < stdin
+"""
+import copy
+import json
+import os
+import resource
+import statistics
+import subprocess
+import sys
+
+from meaning_table import DEPLOYMENT
+
+PROGRAM = os.path.join(os.path.dirname(os.path.abspath(__file__)), "..", "crates", "run_rows", "out", "run_rows")
+AT_MOST, TEN_AT_MOST = 200, 5
+TIMES, RUNS = 2_000, 7
+LOOPS = {
+    "arithmetic": "let i = 0; let x = 1; while i < N { x = (x * 7 + i) % 1000003; i = i + 1; }",
+    "texts": "let i = 0; let t = \"\"; while i < N { t = \"call \" ++ text(i) ++ \", \"; i = i + 1; }",
+    "long texts": "let i = 0; let t = \"\"; while i < N { if len(t) > 1000 { t = \"\"; } t = t ++ \"xyz\"; i = i + 1; }",
+    "fields": "let i = 0; self.n = 1; while i < N { let x = self.n + self.n; if self.f { i = x; } i = i + 1; }",
+    "attributes": "let i = 0; while i < N { let x = attr(activity, hits); if x < 0 { i = x; } i = i + 1; }",
+    "children": "create leg as x; let i = 0; while i < N { call x.twice(i) as y; if y < 0 { i = y; } i = i + 1; }",
+    "loops over children": "let i = 0; while i < N { for c in leg { i = i + 1; } }",
+}
+TEN = [
+    "self.n = self.n + 1;", "let x = event.x * 2;", "self.t = event.s ++ \"!\";", "if x > 10 { self.f = true; }",
+    "attr(activity, hits) = attr(activity, hits) + 1;", "emit \"call \" ++ self.t;", "mask \"ping\" on activity;",
+    "timer m on activity at now + x * 1000;", "usage calls 1;",
+]
+ANSWERS = [
+    "field 1 n = held int 5", "field 1 f = held bool false", "field 1 t = held text a", "attr 1 b.hits = held int 3", "activity 1 = ac",
+    "attached 1 1 = flag true", "masks 1 1 = masks names pong", "clock = number 1000", "children 1 leg = ids 4 5 6 7 8 9 10 11",
+]
+
+
+def row(script):
+    """The row in which this script is the handler's."""
+    source = copy.deepcopy(DEPLOYMENT)
+    source["blocks"][0]["events"][0]["on"] = script
+    return "\n".join([json.dumps(source), "handler"] + ANSWERS) + "\n\n"
+
+
+def ran(text, *words):
+    done = subprocess.run([PROGRAM, *words], input=text, capture_output=True, text=True, check=False)
+    if done.returncode != 0:
+        sys.exit(f"the run ended with {done.returncode}: {done.stdout}{done.stderr}")
+    return done.stdout
+
+
+def longest(loop):
+    """The loop that goes round as often as it may."""
+    low, high = 1, 10_000
+    while low < high:
+        middle = (low + high + 1) // 2
+        if ran(row(loop.replace("N", str(middle)))).startswith("fine:"):
+            low = middle
+        else:
+            high = middle - 1
+    return loop.replace("N", str(low)), low
+
+
+def seconds(text, times):
+    begun = resource.getrusage(resource.RUSAGE_CHILDREN)
+    ran(text, str(times))
+    ended = resource.getrusage(resource.RUSAGE_CHILDREN)
+    return ended.ru_utime + ended.ru_stime - begun.ru_utime - begun.ru_stime
+
+
+def microseconds(text, times):
+    return statistics.median((seconds(text, times) - seconds(text, 0)) / times for _ in range(RUNS)) * 1e6
+
+
+def main():
+    if not os.path.exists(PROGRAM):
+        sys.exit("build it first: cd crates/run_rows && rt run < stdin")
+    wanted, slow = sys.argv[1:], 0
+    for name, loop in LOOPS.items():
+        if wanted and name not in wanted:
+            continue
+        script, rounds = longest(loop)
+        took = microseconds(row(script), TIMES)
+        slow += took > AT_MOST
+        print(f"{name:20} {rounds:5} rounds  {took:7.1f} microseconds, to be at most {AT_MOST}", flush=True)
+    if not wanted or "ten" in wanted:
+        text = row(" ".join(TEN))
+        told = ran(text)
+        if not told.startswith("fine:"):
+            sys.exit(f"the ten statements end otherwise: {told}")
+        took = microseconds(text, 100 * TIMES)
+        slow += took > TEN_AT_MOST
+        print(f"{'ten statements':20}               {took:7.2f} microseconds, to be at most {TEN_AT_MOST}")
+    return 1 if slow else 0
+
+
+if __name__ == "__main__":
+    sys.exit(main())
