@@ -1,2 +1,2 @@
 -- Lemmas of the rows.
-mod ScriptLemmas
+pub mod ScriptLemmas

@@ -1,6 +1,5 @@
 //! Runs of the scripts of a row.
-ghost use Rattle.std.specs.Prelude.{◌≡◌, IsTrue, Some, is_some, map, slice_get};
-ghost use Rattle.script_types.specs.Program.{Steps};
+ghost use Rattle.std.specs.Prelude.{◌≡◌, is_some, map, slice_get};
 ghost use Rattle.script_types.specs.ProgramOf.{block_program_of, kept_program};
 ghost use Rattle.handler_meaning.specs.Meaning.{script_in};
 ghost use Rattle.handler_run.specs.Scripts.{script_of};
@@ -63,9 +62,8 @@ fn blocks_have(blocks: &[BlockSteps], which: Which) -> bool
 }
 
 /// Whether there is this script.
-#[tactic(auto, using(crate::proofs::ScriptLemmas::there))]
 fn has_script(codes: &Codes, which: Which) -> bool
-    ensures { IsTrue result → ((steps : Steps) × (script_of (kept_program codes.now) which ≡ Some steps)) }
+    ensures { result ≡ is_some (script_of (kept_program codes.now) which) }
 {
     blocks_have(codes.programs.as_slice(), which)
 }
@@ -97,6 +95,7 @@ fn event_fields(alloc: Global) -> Result<Payload, Trouble> {
     Ok(fields)
 }
 
+#[tactic(auto, using(crate::proofs::ScriptLemmas::there))]
 fn run_part(
     ground: &Ground,
     part: Part,
@@ -105,10 +104,10 @@ fn run_part(
 ) -> Result<Run, Trouble> {
     let which = Which { block: BLOCK, part };
     let codes = ground.checked.deployment().codes();
-    if !has_script(codes, which)
-        || before.effects.len() > EFFECT_LIMIT
-        || before.keys.len() > KEY_LIMIT
-    {
+    if !has_script(codes, which) {
+        return Err(Trouble::Words);
+    }
+    if before.effects.len() > EFFECT_LIMIT || before.keys.len() > KEY_LIMIT {
         return Err(Trouble::Words);
     }
     let me = EntityId(1);
