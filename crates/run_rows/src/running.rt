@@ -1,6 +1,6 @@
 //! Runs of the scripts of a row.
 ghost use Rattle.std.specs.Prelude.{◌≡◌, is_some, map, slice_get};
-ghost use Rattle.script_types.specs.ProgramOf.{block_program_of};
+ghost use Rattle.script_types.specs.ProgramOf.{block_program_of, kept_program};
 ghost use Rattle.handler_meaning.specs.Meaning.{script_in};
 ghost use Rattle.handler_run.specs.Scripts.{script_of};
 
@@ -8,7 +8,7 @@ use crate::trouble::Trouble;
 use deploy_json::Checked;
 use handler_meaning::{Args, Part, Which};
 use handler_run::{Before, Keys, Known, Run, run_script};
-use script_types::{BlockSteps, HandlerSteps};
+use script_types::{BlockSteps, Codes, HandlerSteps};
 use slee_effect::Effects;
 use slee_value::{ActivityId, EntityId, Name, Payload, Text, Value};
 use std::alloc::Global;
@@ -51,14 +51,21 @@ fn block_has(block: &BlockSteps, part: Part) -> bool
     }
 }
 
-/// Whether there is this script.
-fn has_script(blocks: &[BlockSteps], which: Which) -> bool
+/// Whether these blocks have this script.
+fn blocks_have(blocks: &[BlockSteps], which: Which) -> bool
     ensures { result ≡ is_some (script_of (map block_program_of blocks.now) which) }
 {
     match blocks.get(which.block as usize) {
         Some(block) => block_has(block, which.part),
         None => false,
     }
+}
+
+/// Whether there is this script.
+fn has_script(codes: &Codes, which: Which) -> bool
+    ensures { result ≡ is_some (script_of (kept_program codes.now) which) }
+{
+    blocks_have(codes.programs.as_slice(), which)
 }
 
 /// The place of the handler that is run.
@@ -88,6 +95,7 @@ fn event_fields(alloc: Global) -> Result<Payload, Trouble> {
     Ok(fields)
 }
 
+#[tactic(auto, using(crate::proofs::ScriptLemmas::there))]
 fn run_part(
     ground: &Ground,
     part: Part,
@@ -96,10 +104,10 @@ fn run_part(
 ) -> Result<Run, Trouble> {
     let which = Which { block: BLOCK, part };
     let codes = ground.checked.deployment().codes();
-    if !has_script(codes.programs.as_slice(), which)
-        || before.effects.len() > EFFECT_LIMIT
-        || before.keys.len() > KEY_LIMIT
-    {
+    if !has_script(codes, which) {
+        return Err(Trouble::Words);
+    }
+    if before.effects.len() > EFFECT_LIMIT || before.keys.len() > KEY_LIMIT {
         return Err(Trouble::Words);
     }
     let me = EntityId(1);
