@@ -4,6 +4,8 @@
     python3 bench/trials.py                    every crate's, in a new clone of what is committed
     python3 bench/trials.py slee_run           those of these crates
     python3 bench/trials.py --gate             those that the gate tries too, from crates/*/must-fail
+    python3 bench/trials.py --quick            looks at the changed files' functions alone
+    python3 bench/trials.py --try FILE ..      these files alone, of trials/ or must-fail/
     python3 bench/trials.py --folder DIR       in DIR, a clone that is there and may have kept work
     python3 bench/trials.py --jobs 2           so many crates at a time; as many as there are processors where nothing is said
     python3 bench/trials.py --texts            proves nothing: says in a second which can't be tried any more, here as it stands
@@ -11,16 +13,20 @@
 A line for each: `refused`; `PROVED` where the contract lets the wrong body through; `BROKEN` where it couldn't be tried, since
 its text doesn't stand in the code any more or doesn't compile. It ends with status 0 where all were refused. What the crates
 below a crate have kept in out/ of this repository is used, and else they are proved first; then each wrong body takes half a
-minute or so, and the first of a crate the time of its proof.
+minute or so, and the first of a crate the time of its proof. With --quick only the functions of the files that a wrong body
+changes are checked, with what these call in their crate: mostly a quarter of the time. A wrong body that they let through is
+tried over the whole crate, and one in a crate's root file too.
 """
 import argparse
 import glob
+import itertools
 import os
 import re
 import shutil
 import subprocess
 import sys
 import tempfile
+import threading
 from concurrent.futures import ThreadPoolExecutor, as_completed
 
 TOP = os.path.dirname(os.path.dirname(os.path.abspath(__file__)))
@@ -123,6 +129,127 @@ def tried(folder, crate):
     return answers
 
 
+class Edit:
+    """A wrong body put into the crate's files, which stand as they were once it was looked at."""
+
+    def __init__(self, folder, crate, edit):
+        self.place, self.texts = os.path.join(folder, "crates", crate), {}
+        path, old = None, None
+        with open(edit, encoding="utf-8") as f:
+            lines = f.read().split("\n")
+        for line in lines:
+            word, _, text = line.partition(": ")
+            if word == "file":
+                path = text.strip()
+                with open(os.path.join(self.place, path), encoding="utf-8") as f:
+                    self.texts.setdefault(path, f.read())
+            elif word == "old":
+                old = text
+            elif word in ("new", "new:") and old:
+                self.texts[path] = self.texts[path].replace(old, text)
+
+    def modules(self):
+        """The modules that it changes, or None where one is the root or no module."""
+        named = [re.fullmatch(r"src/(.*)\.rt", path) for path in self.texts]
+        if not all(named) or any(it[1] in ("lib", "main") for it in named):
+            return None
+        return [it[1].replace("/", "::") for it in named]
+
+    def __enter__(self):
+        self.were = {}
+        for path, text in self.texts.items():
+            with open(os.path.join(self.place, path), encoding="utf-8") as f:
+                self.were[path] = f.read()
+            with open(os.path.join(self.place, path), "w", encoding="utf-8") as f:
+                f.write(text)
+        return self
+
+    def __exit__(self, *_):
+        for path, text in self.were.items():
+            with open(os.path.join(self.place, path), "w", encoding="utf-8") as f:
+                f.write(text)
+
+
+def looked_at(folder, crate, edit):
+    """What the prover says of a wrong body where only the functions of the changed files are checked: None where that isn't enough."""
+    with Edit(folder, crate, edit) as trial:
+        modules = trial.modules()
+        if modules is None:
+            return None
+        words = [word for module in modules for word in ("--only", module)]
+        ran = subprocess.run(["rt", "check", "--jobs", "1", *words], cwd=trial.place, capture_output=True, text=True, errors="replace", check=False)
+    lines = ran.stdout.rstrip().split("\n")
+    ended = re.fullmatch(r"only=(\d+) proved=(\d+).*", lines[-1])
+    told = [it for it in lines if re.match(r"(note: )?\S+:\d+:\d+:", it)]
+    if ended and ended[1] != ended[2] and ran.returncode == 1:
+        by_name = r"(\./)?proofs/.*(has no field|is not in scope|has no `|was not admitted)"
+        first = next((it for it in told if ": error" in it and not re.match(by_name, it)), None) or next(iter(told), "")
+        return "refused", first
+    return None if ran.returncode == 0 else ("BROKEN", " ".join(lines[-3:])[-300:])
+
+
+class Lane:
+    """One clone for each lane of work, since one check works in a clone at a time."""
+
+    def __init__(self, room, folder):
+        self.room, self.folder, self.local, self.count = room, folder, threading.local(), itertools.count()
+
+    def clone(self, crates, crate):
+        if not hasattr(self.local, "folder"):
+            self.local.folder = os.path.join(self.room, f"lane{next(self.count)}")
+            subprocess.run(["git", "clone", "-q", self.folder, self.local.folder], check=True)
+        for it in below(crates, crate):
+            take_kept(self.local.folder, it)
+        return self.local.folder
+
+
+def tried_quickly(lane, crates, crate, given):
+    """Returns each wrong body's name with its verdict and what the prover said first."""
+    folder, answers = lane.clone(crates, crate), {}
+    places = [os.path.join(folder, "trials", crate)] + [os.path.join(folder, "crates", crate, "must-fail")] * given.gate
+    left = []
+    for edit in [it for place in places for it in edits_of(place) if is_chosen(it, given)]:
+        name, why = os.path.basename(edit)[: -len(".edit")], unfit(folder, crate, edit)
+        said = ("BROKEN", why) if why else looked_at(folder, crate, edit)
+        left += [] if said else [edit]
+        answers[name] = said or ("PROVED", "")
+    if left:
+        place = os.path.join(folder, "crates", crate, "must-fail")
+        kept = {edit: open(edit, encoding="utf-8").read() for edit in left}
+        shutil.rmtree(place, ignore_errors=True)
+        os.makedirs(place)
+        for edit, text in kept.items():
+            with open(os.path.join(place, os.path.basename(edit)), "w", encoding="utf-8") as f:
+                f.write(text)
+        answers.update(tried(folder, crate))
+        subprocess.run(["git", "checkout", "-q", "--", "."], cwd=folder, check=True)
+    return answers
+
+
+def is_chosen(edit, given):
+    return not given.tries or os.path.join(*edit.split(os.sep)[-3:]) in given.tries or os.path.join(*edit.split(os.sep)[-4:]) in given.tries
+
+
+def play_quickly(room, folder, given):
+    crates, lane = crates_of(folder), Lane(room, folder)
+    chosen = [it for it in crates if not given.crates or it in given.crates]
+    chosen = [it for it in chosen if any(is_chosen(edit, given) for edit in edits_of(os.path.join(folder, "trials", it)) + edits_of(os.path.join(folder, "crates", it, "must-fail")) * given.gate)]
+    return told(lambda it: tried_quickly(lane, crates, it, given), chosen, given)
+
+
+def told(call, chosen, given):
+    """Prints what is said of each wrong body of these crates, as it comes, and returns the status."""
+    counts = dict.fromkeys(VERDICTS.values(), 0)
+    with ThreadPoolExecutor(given.jobs) as pool:
+        runs = {pool.submit(call, it): it for it in chosen}
+        for run in as_completed(runs):
+            for name, (verdict, said) in sorted(run.result().items()):
+                counts[verdict] += 1
+                print(f"{verdict:7} {runs[run]}/{name}  {said[:200]}", flush=True)
+    print(", ".join(f"{count} {verdict}" for verdict, count in counts.items()))
+    return 0 if counts["refused"] and sum(counts.values()) == counts["refused"] else 1
+
+
 def play(folder, given):
     crates = crates_of(folder)
     trials = [it for it in crates if edits_of(os.path.join(folder, "trials", it)) or (given.gate and edits_of(os.path.join(folder, "crates", it, "must-fail")))]
@@ -136,15 +263,7 @@ def play(folder, given):
         build(folder, crate)
     for crate in chosen:
         prepare(folder, crate, given.gate)
-    counts = dict.fromkeys(VERDICTS.values(), 0)
-    with ThreadPoolExecutor(given.jobs) as pool:
-        runs = {pool.submit(tried, folder, it): it for it in chosen}
-        for run in as_completed(runs):
-            for name, (verdict, said) in sorted(run.result().items()):
-                counts[verdict] += 1
-                print(f"{verdict:7} {runs[run]}/{name}  {said[:200]}", flush=True)
-    print(", ".join(f"{count} {verdict}" for verdict, count in counts.items()))
-    return 0 if counts["refused"] and sum(counts.values()) == counts["refused"] else 1
+    return told(lambda it: tried(folder, it), chosen, given)
 
 
 def main():
@@ -152,6 +271,8 @@ def main():
     parser.add_argument("crates", nargs="*", help="the crates whose trials are tried; all where none is named")
     parser.add_argument("--folder", help="a clone to work in; its must-fail folders are changed")
     parser.add_argument("--gate", action="store_true", help="the gate's wrong bodies too")
+    parser.add_argument("--quick", action="store_true", help="check the changed files' functions alone")
+    parser.add_argument("--try", dest="tries", nargs="+", default=[], help="these wrong bodies alone, with --quick")
     parser.add_argument("--texts", action="store_true", help="look at the texts alone")
     parser.add_argument("--jobs", type=int, default=len(os.sched_getaffinity(0)), help="how many crates at a time")
     given = parser.parse_args()
@@ -163,6 +284,8 @@ def main():
         folder = given.folder or os.path.join(room, "clone")
         if not given.folder:
             subprocess.run(["git", "clone", "-q", TOP, folder], check=True)
+        if given.quick or given.tries:
+            return play_quickly(room, folder, given)
         return play(folder, given)
 
 
