@@ -1,5 +1,5 @@
 -- Statements with parts that may be left out, and with lists, that the grammar's table reads are spelled as their trees.
-use Rattle.std.proofs.Common.{◌≡◌, ◌≤◌, ◌<◌, ◌+◌, ◌-◌, ℕ, zero, suc, List, [], ◌∷◌, ◌++◌, length, Bool, true, false, ◌&&◌, ◌⊎◌, inl, inr, Option, Some, None, refl, sym, ap, ◌∙◌, arith, append_assoc}
+use Rattle.std.proofs.Common.{◌≡◌, ◌≤◌, ◌+◌, ℕ, List, [], ◌∷◌, ◌++◌, length, Bool, true, ◌&&◌, inl, inr, Option, Some, None, refl, sym, ap, ◌∙◌, arith, append_assoc}
 use Rattle.std.specs.Prelude.{nat_le}
 use Rattle.std.specs.List.{list_all}
 use Rattle.slee_value.specs.declared.keep.Keep.{Keep}
@@ -9,7 +9,7 @@ use Rattle.script_tree.specs.declared.lexeme.Lexeme.TheVariants as t
 use Rattle.script_tree.specs.Words.{is_identifier, is_literal}
 use Rattle.script_tree.specs.Tree as tree
 use Rattle.script_tree.specs.Tree.{Bytes, Expression, Statements}
-use Rattle.script_tree.specs.Spelling.{fixed, spell_expression, spell_arguments, spell_result, spell_priority, spell_service, spell_fields, spell_repeat, spell_keep, keep_token, level, fits, field_fits, option_fits, repeat_fits}
+use Rattle.script_tree.specs.Spelling.{fixed, spell_expression, spell_arguments, spell_result, spell_priority, spell_service, spell_fields, spell_repeat, spell_keep, level, fits, field_fits, option_fits, repeat_fits}
 use Rattle.script_tree.specs.Grammar.{Part, Item, AName, AText, ATree, AStatement, One, Name, Text, Level, KeepWord, Make, MorePriority, WithPriority, MoreService, ForService, MoreFields, MoreRepeat, Repeating, MoreKeep, Keeping, Arguments, MoreResult, WithResult, Creating, Calling, Firing, SettingTimer, Fine, verdict}
 use Rattle.script_print.proofs.Expressions.{and_parts}
 use Rattle.grammar_laws.specs.Proper.{is_proper}

@@ -1,5 +1,5 @@
 -- Parts that are still to come can be completed by some tokens.
-use Rattle.std.proofs.Common.{◌≡◌, ◌≤◌, ◌<◌, ◌+◌, ◌-◌, ℕ, zero, suc, List, [], ◌∷◌, ◌++◌, length, Bool, true, false, cond, ◌&&◌, ◌||◌, refl, sym, ap, ◌∙◌, arith, append_assoc}
+use Rattle.std.proofs.Common.{◌≡◌, ◌≤◌, ◌+◌, ◌-◌, ℕ, List, [], ◌∷◌, length, Bool, true, false, cond, ◌&&◌, ◌||◌, refl, sym, ap, ◌∙◌, arith}
 use Rattle.std.specs.Prelude.{nat_le, not}
 use Rattle.std.specs.List.{list_all}
 use Rattle.std.proofs.lemmas.Bool.Decides.{nat_tests}
@@ -7,7 +7,6 @@ use denote.Enum.Bare.{sameb}
 use Rattle.script_tree.specs.contracts.symbol.Fixed.{the_type}
 use Rattle.script_tree.specs.declared.symbol.Fixed.{Fixed}
 use Rattle.script_tree.specs.declared.symbol.Fixed.TheVariants as x
-use Rattle.script_tree.specs.declared.symbol.Symbol.TheVariants as symbols
 use Rattle.script_tree.specs.declared.lexeme.Lexeme.{Lexeme}
 use Rattle.script_tree.specs.declared.lexeme.Lexeme.TheVariants as t
 use Rattle.script_tree.specs.declared.fault.SyntaxBad.TheVariants as bad
@@ -18,7 +17,7 @@ use Rattle.slee_value.specs.declared.keep.Keep.TheVariants as keeps
 use Rattle.script_tree.specs.Tree as tree
 use Rattle.script_tree.specs.Tree.{Statements}
 use Rattle.script_tree.specs.Spelling.{fixed}
-use Rattle.script_tree.specs.Grammar.{Part, Item, AName, AText, AWho, AnOver, ATree, ABlock, Next, Stops, Goes, One, Name, Text, Who, Over, KeepWord, Level, More, Stmt, Stmts, Block, MoreIf, MorePriority, MoreService, MoreFields, NextField, MoreRepeat, MoreKeep, Arguments, NextArgument, MoreResult, Make, Keeping, Turn, Opens, Closes, Stays, Fine, Faulty, after, optional, passed, make, is_fixed, level_after, stmt_fixed, turn_of, too_deep, depth_by, script_in, verdict}
+use Rattle.script_tree.specs.Grammar.{Part, Item, AName, AText, AWho, AnOver, ATree, ABlock, Next, Stops, Goes, One, Name, Text, Who, Over, KeepWord, Level, More, Stmt, Stmts, Block, MoreIf, MorePriority, MoreService, MoreFields, NextField, MoreRepeat, MoreKeep, Arguments, NextArgument, MoreResult, Make, Keeping, Turn, Opens, Closes, Stays, Fine, Faulty, after, optional, passed, make, level_after, stmt_fixed, turn_of, too_deep, depth_by, script_in, verdict}
 use Rattle.script_print.proofs.Levels.{made, opens, runs, lasts, skip_runs}
 use Rattle.script_print.proofs.Expressions.{and_parts}
 use Rattle.grammar_laws.specs.Proper.{is_proper}

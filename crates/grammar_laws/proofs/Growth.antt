@@ -1,19 +1,17 @@
 -- What a token leaves of parts can be completed where they could.
-use Rattle.std.proofs.Common.{◌≡◌, ◌+◌, ◌-◌, ℕ, zero, suc, List, [], ◌∷◌, ◌++◌, Bool, true, false, cond, ◌&&◌, ◌||◌, Option, Some, None, refl, sym, ap, ◌∙◌, append_assoc}
+use Rattle.std.proofs.Common.{◌≡◌, ◌-◌, ℕ, zero, suc, List, [], ◌∷◌, ◌++◌, Bool, true, false, cond, ◌&&◌, Option, Some, None, refl, ap, ◌∙◌, append_assoc}
 use Rattle.std.specs.Prelude.{not, ◌==◌}
 use Rattle.script_tree.specs.declared.symbol.Fixed.{Fixed}
 use Rattle.script_tree.specs.declared.symbol.Fixed.TheVariants as x
 use Rattle.script_tree.specs.declared.symbol.Constant.{Constant}
 use Rattle.script_tree.specs.declared.symbol.Constant.TheVariants as c
 use Rattle.script_tree.specs.declared.symbol.Operator.{Operator}
-use Rattle.script_tree.specs.declared.symbol.Symbol.{Symbol}
 use Rattle.script_tree.specs.declared.symbol.Symbol.TheVariants as symbols
 use Rattle.script_tree.specs.declared.lexeme.Lexeme.{Lexeme}
 use Rattle.script_tree.specs.declared.lexeme.Lexeme.TheVariants as t
 use Rattle.script_tree.specs.declared.tree.Prefix.{Prefix}
 use Rattle.script_tree.specs.Spelling.{fixed}
-use Rattle.script_tree.specs.Grammar.{Part, Item, Next, Stops, Goes, One, Name, Text, Who, Over, KeepWord, Level, More, Stmt, Stmts, Block, MoreIf, MorePriority, MoreService, MoreFields, NextField, WithField, MoreRepeat, MoreKeep, Arguments, NextArgument, WithArgument, MoreResult, WithPriority, Repeating, Make, Adding, Operating, Prefixing, Turn, Opens, Closes, Stays, after, opening, optional, passed, eat, goes_on, then_parts, again, level_after, prim_after, prim_symbol, prim_fixed, prefix_after, prefix_parts, prefix_of, more_after, more_symbol, level_of, who_fixed, over_fixed, keep_fixed, keep_constant, stmt_after, stmt_symbol, stmt_fixed, turn_of, is_fixed}
-use Rattle.script_print.proofs.Levels.{by_test}
+use Rattle.script_tree.specs.Grammar.{Part, Item, Next, Stops, Goes, One, Name, Text, Who, Over, KeepWord, Level, More, Stmt, Stmts, Block, MoreIf, MorePriority, MoreService, MoreFields, NextField, WithField, MoreRepeat, MoreKeep, Arguments, NextArgument, WithArgument, MoreResult, WithPriority, Repeating, Make, Adding, Operating, Prefixing, Turn, Opens, Closes, Stays, after, optional, passed, eat, goes_on, then_parts, again, level_after, prim_after, prim_fixed, prefix_after, prefix_parts, prefix_of, more_after, level_of, who_fixed, over_fixed, keep_fixed, keep_constant, stmt_after, stmt_fixed, turn_of, is_fixed}
 use Rattle.script_print.proofs.Expressions.{and_parts}
 use Rattle.grammar_laws.proofs.Steps.{and_join}
 use Rattle.grammar_laws.proofs.Ends.{Ahead, Ends, Sign, Other, ahead, stands_before, stands, low, low_turn, takes, same, begins, not_true, or_right}

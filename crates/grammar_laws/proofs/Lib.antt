@@ -9,3 +9,4 @@ pub mod Ends
 pub mod Growth
 pub mod Viable
 pub mod Tokens
+pub mod Misfits

@@ -1,25 +1,18 @@
 -- Expressions that the grammar's table reads are spelled as their trees.
-use Rattle.std.proofs.Common.{◌≡◌, ◌≤◌, ◌<◌, ◌+◌, ◌-◌, ℕ, zero, suc, List, [], ◌∷◌, ◌++◌, length, Bool, true, false, cond, ◌&&◌, Option, Some, None, refl, sym, ap, ◌∙◌, arith, append_assoc}
-use Rattle.std.specs.Prelude.{nat_le, ◌==◌}
+use Rattle.std.proofs.Common.{◌≡◌, ◌≤◌, ◌<◌, ◌+◌, ℕ, List, [], ◌∷◌, ◌++◌, length, Bool, true, ◌&&◌, refl, sym, ap, ◌∙◌, arith, append_assoc}
+use Rattle.std.specs.Prelude.{nat_le}
 use Rattle.std.specs.List.{list_all}
-use Rattle.std.proofs.lemmas.Bool.Decides.{nat_tests}
-use Rattle.script_tree.specs.declared.symbol.Operator.{Operator}
-use Rattle.script_tree.specs.declared.symbol.Operator.TheVariants as o
 use Rattle.script_tree.specs.declared.symbol.Fixed.{Fixed}
 use Rattle.script_tree.specs.declared.symbol.Fixed.TheVariants as x
-use Rattle.script_tree.specs.declared.symbol.Symbol.{Symbol}
 use Rattle.script_tree.specs.declared.symbol.Symbol.TheVariants as symbols
 use Rattle.script_tree.specs.declared.lexeme.Lexeme.{Lexeme}
 use Rattle.script_tree.specs.declared.lexeme.Lexeme.TheVariants as t
 use Rattle.script_tree.specs.declared.tree.Leaf.TheVariants as l
 use Rattle.script_tree.specs.declared.tree.Query.TheVariants as q
-use Rattle.script_tree.specs.declared.tree.Prefix.{Prefix}
-use Rattle.script_tree.specs.declared.tree.Prefix.TheVariants as prefixes
 use Rattle.script_tree.specs.Words.{is_identifier, is_literal, is_number}
-use Rattle.script_tree.specs.Tree.{Bytes, Expression, Leaf, Unary, Binary, Ask, Group, Statements}
-use Rattle.script_tree.specs.Spelling.{fixed, spell_expression, prefix_level, prefix_token, level, chain_level, left_level, fits}
-use Rattle.script_tree.specs.Grammar.{Part, Item, AName, AText, ATree, Next, Stops, Goes, One, Name, Text, Level, More, Make, Operating, Prefixing, Asking, AskingMasked, AskingAttribute, AskingProfile, AskingHasProfile, Grouping, FieldOf, EventFieldOf, TableOf, CountOf, PriorityOf, Fine, Faulty, again, level_of, prefix_after, more_after, make, verdict}
-use Rattle.script_print.proofs.Levels.{opens_by, by_test}
+use Rattle.script_tree.specs.Tree.{Bytes, Expression, Leaf, Ask, Group, Statements}
+use Rattle.script_tree.specs.Spelling.{fixed, spell_expression, level, fits}
+use Rattle.script_tree.specs.Grammar.{Part, Item, AName, AText, ATree, One, Name, Text, Level, Make, Asking, AskingMasked, AskingAttribute, AskingProfile, AskingHasProfile, Grouping, FieldOf, EventFieldOf, TableOf, CountOf, PriorityOf, Fine, make, verdict}
 use Rattle.script_print.proofs.Expressions.{and_parts}
 use Rattle.grammar_laws.specs.Proper.{is_proper}
 use Rattle.grammar_laws.proofs.Steps.{never, chosen, and_join, behind, unmade, one_read, opening_room, le_true, back, name_read, text_read}

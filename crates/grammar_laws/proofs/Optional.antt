@@ -1,5 +1,5 @@
 -- Parts that may be left out, and lists, that the grammar's table reads are spelled as what was read.
-use Rattle.std.proofs.Common.{◌≡◌, ◌≤◌, ◌<◌, ◌+◌, ◌-◌, ℕ, zero, suc, List, [], ◌∷◌, ◌++◌, length, Bool, true, false, cond, ◌&&◌, ◌⊎◌, inl, inr, Option, Some, None, refl, sym, ap, subst, ◌∙◌, arith, append_assoc, append-nil}
+use Rattle.std.proofs.Common.{◌≡◌, ◌≤◌, ◌<◌, ◌+◌, ◌-◌, ℕ, zero, suc, List, [], ◌∷◌, ◌++◌, length, true, false, cond, ◌⊎◌, inl, inr, Option, None, refl, sym, ap, subst, ◌∙◌, arith, append_assoc, append-nil}
 use Rattle.std.specs.Prelude.{nat_le}
 use Rattle.std.specs.List.{list_all}
 use Rattle.slee_value.specs.declared.keep.Keep.{Keep}
@@ -12,14 +12,14 @@ use Rattle.script_tree.specs.declared.lexeme.Lexeme.{Lexeme}
 use Rattle.script_tree.specs.declared.lexeme.Lexeme.TheVariants as t
 use Rattle.script_tree.specs.Tree as tree
 use Rattle.script_tree.specs.Tree.{Bytes, Expression, Statements}
-use Rattle.script_tree.specs.Words.{is_identifier, is_literal}
+use Rattle.script_tree.specs.Words.{is_identifier}
 use Rattle.script_tree.specs.Spelling.{fixed, spell_expression, spell_more, spell_arguments, spell_field, spell_more_fields, spell_fields, keep_token, level, fits, field_fits}
 use Rattle.script_tree.specs.Grammar.{Part, Item, AName, ATree, AStatement, Next, Stops, Goes, Verdict, One, Name, Level, KeepWord, Make, MoreFields, NextField, WithField, Keeping, Arguments, NextArgument, WithArgument, Fine, Faulty, after, opening, optional, passed, then_parts, goes_on, level_after, turn_of, Stays, verdict, verdict_at, is_fixed}
 use Rattle.script_tree.specs.declared.fault.SyntaxBad.TheVariants as bad
 use Rattle.script_print.proofs.Levels.{by_test}
 use Rattle.script_print.proofs.Expressions.{and_parts}
 use Rattle.grammar_laws.specs.Proper.{is_proper}
-use Rattle.grammar_laws.proofs.Steps.{never, chosen, and_join, behind, unmade, one_read, same_fixed, is_same, opening_room, le_true, back, name_read}
+use Rattle.grammar_laws.proofs.Steps.{never, chosen, and_join, behind, unmade, one_read, same_fixed, is_same, opening_room, back, name_read}
 use Rattle.grammar_laws.proofs.Operands.{Expressions}
 
 -- ---- a part that begins with a word and may be left out

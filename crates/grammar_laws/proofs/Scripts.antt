@@ -1,5 +1,5 @@
 -- Scripts that the grammar's table reads are spelled as their trees.
-use Rattle.std.proofs.Common.{◌≡◌, ◌≤◌, ◌<◌, ◌+◌, ℕ, zero, suc, List, [], ◌∷◌, ◌++◌, length, Bool, true, false, cond, ◌&&◌, ◌⊎◌, inl, inr, refl, sym, ap, subst, ◌∙◌, arith, append_assoc, append-nil}
+use Rattle.std.proofs.Common.{◌≡◌, ◌≤◌, ◌<◌, ◌+◌, ℕ, zero, suc, List, [], ◌∷◌, ◌++◌, length, true, false, cond, ◌&&◌, ◌⊎◌, inl, inr, refl, sym, ap, subst, ◌∙◌, arith, append_assoc, append-nil}
 use Rattle.std.specs.Prelude.{nat_le}
 use Rattle.std.specs.List.{list_all}
 use Rattle.script_tree.specs.declared.symbol.Fixed.{Fixed}
@@ -14,7 +14,7 @@ use Rattle.script_tree.specs.Words.{is_identifier}
 use Rattle.script_tree.specs.Tree as tree
 use Rattle.script_tree.specs.Tree.{Expression, Statement, Statements, add}
 use Rattle.script_tree.specs.Spelling.{fixed, spell_expression, spell_over, spell_statement, spell_statements, braced, level, fits, over_fits, statement_fits, statements_fit, is_script}
-use Rattle.script_tree.specs.Grammar.{Part, Item, AName, AnOver, ATree, AStatement, ABlock, Next, Stops, Goes, One, Name, Over, Level, Stmt, Stmts, Block, MoreIf, Make, Making, Branching, Otherwise, Looping, Walking, Adding, Attaching, Detaching, Masking, Unmasking, SettingPriority, CountingUsage, Verdict, Fine, Faulty, make, stmt_after, is_fixed, kind_of, verdict, verdict_at, script_of}
+use Rattle.script_tree.specs.Grammar.{Part, Item, AName, AnOver, ATree, AStatement, ABlock, Next, Stops, Goes, One, Name, Over, Level, Stmt, Stmts, Block, MoreIf, Make, Making, Branching, Otherwise, Looping, Walking, Adding, Attaching, Detaching, Masking, Unmasking, SettingPriority, CountingUsage, Fine, Faulty, make, stmt_after, is_fixed, kind_of, verdict, verdict_at, script_of}
 use Rattle.script_print.proofs.Levels.{by_test}
 use Rattle.script_print.proofs.Expressions.{and_parts}
 use Rattle.script_print.proofs.Scripts.{joined, joined_all}

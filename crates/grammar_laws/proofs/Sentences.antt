@@ -1,12 +1,9 @@
 -- Statements without blocks that the grammar's table reads are spelled as their trees.
-use Rattle.std.proofs.Common.{◌≡◌, ◌≤◌, ◌<◌, ◌+◌, ◌-◌, ℕ, zero, suc, List, [], ◌∷◌, ◌++◌, length, Bool, true, false, cond, ◌&&◌, ◌⊎◌, inl, inr, Option, Some, None, refl, sym, ap, subst, ◌∙◌, arith, append_assoc, append-nil}
+use Rattle.std.proofs.Common.{◌≡◌, ◌≤◌, ◌<◌, ◌+◌, ℕ, List, [], ◌∷◌, ◌++◌, length, true, ◌&&◌, refl, sym, ap, ◌∙◌, arith, append_assoc}
 use Rattle.std.specs.Prelude.{nat_le}
 use Rattle.std.specs.List.{list_all}
-use Rattle.slee_value.specs.declared.keep.Keep.{Keep}
-use Rattle.slee_value.specs.declared.keep.Keep.TheVariants as keeps
 use Rattle.script_tree.specs.declared.symbol.Fixed.{Fixed}
 use Rattle.script_tree.specs.declared.symbol.Fixed.TheVariants as x
-use Rattle.script_tree.specs.declared.symbol.Constant.TheVariants as c
 use Rattle.script_tree.specs.declared.symbol.Symbol.TheVariants as symbols
 use Rattle.script_tree.specs.declared.lexeme.Lexeme.{Lexeme}
 use Rattle.script_tree.specs.declared.lexeme.Lexeme.TheVariants as t
@@ -15,12 +12,11 @@ use Rattle.script_tree.specs.declared.tree.Who.TheVariants as w
 use Rattle.script_tree.specs.Words.{is_identifier, is_literal}
 use Rattle.script_tree.specs.Tree as tree
 use Rattle.script_tree.specs.Tree.{Bytes, Expression, Statement, Statements}
-use Rattle.script_tree.specs.Spelling.{fixed, spell_expression, spell_statement, spell_who, who_fits, spell_more, spell_arguments, spell_result, spell_priority, spell_service, spell_field, spell_more_fields, spell_fields, spell_repeat, keep_token, spell_keep, level, fits, field_fits, option_fits, repeat_fits, statement_fits}
-use Rattle.script_tree.specs.Grammar.{Part, Item, AName, AText, AWho, ATree, AStatement, Next, Stops, Goes, Verdict, One, Name, Text, Who, Level, KeepWord, Make, Making, MorePriority, WithPriority, MoreService, ForService, MoreFields, NextField, WithField, MoreRepeat, Repeating, MoreKeep, Keeping, Arguments, NextArgument, WithArgument, MoreResult, WithResult, Letting, SettingVariable, SettingField, SettingAttribute, Creating, Removing, SettingPriority, Calling, Attaching, Detaching, Masking, Unmasking, Firing, MakingNull, Binding, SettingTimer, Doing, CountingUsage, RollingBack, Fine, Faulty, make, after, opening, optional, passed, then_parts, goes_on, level_after, turn_of, depth_by, Stays, verdict, verdict_at}
-use Rattle.script_print.proofs.Levels.{by_test}
+use Rattle.script_tree.specs.Spelling.{fixed, spell_expression, spell_statement, spell_who, who_fits, level, fits, statement_fits}
+use Rattle.script_tree.specs.Grammar.{Part, Item, AName, AText, AWho, ATree, AStatement, One, Name, Text, Who, Level, Make, Making, Letting, SettingVariable, SettingField, SettingAttribute, Removing, MakingNull, Binding, Doing, RollingBack, Fine, make, turn_of, depth_by, Stays, verdict}
 use Rattle.script_print.proofs.Expressions.{and_parts}
 use Rattle.grammar_laws.specs.Proper.{is_proper}
-use Rattle.grammar_laws.proofs.Steps.{never, chosen, and_join, behind, unmade, one_read, same_fixed, is_same, opening_room, le_true, back, name_read, text_read, who_read}
+use Rattle.grammar_laws.proofs.Steps.{and_join, behind, unmade, one_read, opening_room, back, name_read, text_read, who_read}
 use Rattle.grammar_laws.proofs.Operands.{Expressions}
 
 -- a statement was read

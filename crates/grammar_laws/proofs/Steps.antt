@@ -1,6 +1,6 @@
 -- What a part takes from the front of tokens that are read as a script.
-use Rattle.std.proofs.Common.{◌≡◌, ◌≤◌, ◌<◌, ◌+◌, ◌-◌, ℕ, List, [], ◌∷◌, ◌++◌, length, Bool, true, false, cond, ◌&&◌, refl, sym, ap, ◌∙◌, arith, rules}
-use Rattle.std.specs.Prelude.{nat_le, ◌==◌}
+use Rattle.std.proofs.Common.{◌≡◌, ◌≤◌, ◌+◌, ◌-◌, ℕ, List, [], ◌∷◌, ◌++◌, length, Bool, true, false, cond, ◌&&◌, refl, sym, ap, ◌∙◌, arith, rules}
+use Rattle.std.specs.Prelude.{nat_le}
 use Rattle.std.specs.List.{list_all}
 use Rattle.std.proofs.lemmas.Bool.Decides.{nat_tests}
 use Rattle.script_tree.specs.declared.symbol.Fixed.{Fixed}
@@ -14,8 +14,8 @@ use Rattle.script_tree.specs.declared.tree.Who.{Who as AWhoTree}
 use Rattle.script_tree.specs.declared.tree.Who.TheVariants as w
 use Rattle.script_tree.specs.declared.tree.Over.{Over as AnOverTree}
 use Rattle.script_tree.specs.declared.tree.Over.TheVariants as v
-use Rattle.script_tree.specs.Words.{is_identifier, is_literal, is_number}
-use denote.Enum.Bare.{sameb, same_true, true_same}
+use Rattle.script_tree.specs.Words.{is_identifier, is_literal}
+use denote.Enum.Bare.{same_true, true_same}
 use Rattle.script_tree.specs.contracts.symbol.Fixed.{the_type}
 use Rattle.script_tree.specs.Tree.{Bytes, Statements}
 use Rattle.script_tree.specs.Spelling.{fixed, spell_who, spell_over, who_fits, over_fits}

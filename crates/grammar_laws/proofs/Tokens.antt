@@ -1,5 +1,5 @@
 -- The names, texts and numbers of a text's tokens can be written.
-use Rattle.std.proofs.Common.{◌≡◌, ◌+◌, ◌-◌, ◌*◌, ℕ, zero, suc, List, [], ◌∷◌, length, Bool, true, false, cond, ◌&&◌, ◌||◌, Option, Some, None, refl, sym, ap, ◌∙◌, arith}
+use Rattle.std.proofs.Common.{◌≡◌, ◌+◌, ◌-◌, ℕ, zero, suc, List, [], ◌∷◌, length, Bool, true, false, cond, ◌&&◌, ◌||◌, Option, Some, None, refl, ap, ◌∙◌}
 use Rattle.std.specs.Prelude.{nat_le, not, ◌==◌, map, slice_index, is_some}
 use Rattle.std.specs.List.{list_all, take_while, prefix_len}
 use Rattle.std.proofs.lemmas.List.Sums.{take_while-cons}
@@ -10,8 +10,8 @@ use Rattle.script_tree.specs.declared.lexeme.Lexeme.TheVariants as t
 use Rattle.script_tree.specs.declared.lexeme.Cut.{Cut}
 use Rattle.script_tree.specs.declared.lexeme.Quote.{Quote}
 use Rattle.script_tree.specs.Tree.{Bytes}
-use Rattle.script_tree.specs.Words.{reserved, is_identifier, is_literal, is_number}
-use Rattle.script_tree.specs.Lexer.{Spot, is_blank, is_in_line, word_lexeme, word_cut, digits_value, decimal_in, number_lexeme, number_cut, quote_of, text_cut, sign_of_one, sign_of_two, cut_of_one, cut_of_two, sign_cut, cut, unless_bad, spotted, lexed, lexeme_of, lexemes_of}
+use Rattle.script_tree.specs.Words.{reserved, is_identifier, is_number}
+use Rattle.script_tree.specs.Lexer.{Spot, is_blank, is_in_line, word_lexeme, word_cut, digits_value, number_lexeme, number_cut, quote_of, text_cut, sign_of_one, sign_of_two, cut_of_one, cut_of_two, sign_cut, cut, unless_bad, spotted, lexed, lexeme_of, lexemes_of}
 use Rattle.script_tree.proofs.Quoting.{quote_literal}
 use Rattle.script_print.proofs.Levels.{by_test}
 use Rattle.script_print.proofs.Expressions.{and_parts, le_is}

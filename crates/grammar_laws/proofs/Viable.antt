@@ -1,25 +1,24 @@
 -- Tokens before a fault can be continued to a script.
-use Rattle.std.proofs.Common.{◌≡◌, ◌≤◌, ◌+◌, ℕ, List, [], ◌∷◌, ◌++◌, length, length-append, Bool, true, false, cond, ◌&&◌, refl, sym, ap, ◌∙◌, arith}
+use Rattle.std.proofs.Common.{◌≡◌, ◌≤◌, ◌+◌, ℕ, List, [], ◌∷◌, ◌++◌, length, length-append, Bool, true, false, cond, refl, sym, ap, ◌∙◌, arith}
 use Rattle.std.specs.List.{list_all}
 use Rattle.script_tree.specs.declared.lexeme.Lexeme.{Lexeme}
 use Rattle.script_tree.specs.declared.fault.SyntaxBad.{SyntaxBad}
 use Rattle.script_tree.specs.declared.fault.SyntaxBad.TheVariants as bad
 use Rattle.script_tree.specs.Tree as tree
 use Rattle.script_tree.specs.Tree.{Statements}
-use Rattle.script_tree.specs.Spelling.{spell_statements, is_script}
-use Rattle.script_tree.specs.Grammar.{Part, Item, ABlock, Next, Stops, Goes, Stmts, Verdict, Fine, Faulty, eat, turn, too_deep, depth_by, kind_of, verdict_at, verdict, script_of}
+use Rattle.script_tree.specs.Grammar.{Part, Item, ABlock, Next, Stops, Goes, Stmts, Verdict, Fine, Faulty, eat, turn, too_deep, depth_by, verdict_at, verdict, script_of}
 use Rattle.script_print.proofs.Expressions.{and_parts}
 use Rattle.grammar_laws.specs.Proper.{is_proper}
-use Rattle.grammar_laws.specs.Ahead.{open_behind}
+use Rattle.grammar_laws.specs.Beginnings.{BeginsScript, open_behind}
 use Rattle.grammar_laws.proofs.Steps.{and_join}
 use Rattle.grammar_laws.proofs.Ends.{complete}
 use Rattle.grammar_laws.proofs.Growth.{Ready, Leaves, eats}
 use Rattle.grammar_laws.proofs.Scripts.{script_spelled}
 
-abbrev fault : ℕ → SyntaxBad → Verdict
+abbrev pub fault : ℕ → SyntaxBad → Verdict
 fault n kind = Faulty (record { left = n; kind = kind })
 
-abbrev left_in : Verdict → ℕ
+abbrev pub left_in : Verdict → ℕ
 left_in (Fine script) = 0
 left_in (Faulty f) = f.left
 
@@ -59,14 +58,8 @@ all_joined : (xs ys : List Lexeme) → list_all is_proper xs ≡ true → list_a
 all_joined [] ys h k = k
 all_joined (y ∷ xs) ys h k = let p = and_parts (is_proper y) (list_all is_proper xs) h in and_join (is_proper y) (list_all is_proper (xs ++ ys)) p.0 (all_joined xs ys p.1 k)
 
-pub record Script (front : List Lexeme) : Type 0 where
-  pub script : Statements
-  pub more : List Lexeme
-  pub fine : is_script script ≡ true
-  pub spelled : spell_statements script ≡ front ++ more
-
-pub continued : (front rest : List Lexeme) (kind : SyntaxBad) → list_all is_proper front ≡ true → open_behind 0 front ≤ 63 → script_of (front ++ rest) ≡ fault (length rest) kind → Script front
+pub continued : (front rest : List Lexeme) (kind : SyntaxBad) → list_all is_proper front ≡ true → open_behind 0 front ≤ 63 → script_of (front ++ rest) ≡ fault (length rest) kind → BeginsScript front
 continued front rest kind good le h =
     let c = viable front rest (Stmts ∷ []) (ABlock tree.Nothing ∷ []) 0 kind (record { stand = refl; lie = refl }) le h in
     let p = script_spelled (front ++ c.more) c.script (all_joined front c.more good c.good) c.done in
-    record { script = c.script; more = c.more; fine = p.1; spelled = sym p.0 }
+    record { script = c.script; more = c.more; whole = p.1; spelled = sym p.0 }

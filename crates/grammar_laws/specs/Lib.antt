@@ -1,2 +1,2 @@
 pub mod Proper
-pub mod Ahead
+pub mod Beginnings

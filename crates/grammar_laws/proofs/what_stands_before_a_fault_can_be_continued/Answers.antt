@@ -2,4 +2,4 @@ use Rattle.grammar_laws.proofs.Viable.{continued}
 use Rattle.grammar_laws.proofs.what_stands_before_a_fault_can_be_continued.Goals as goal
 
 pub returns : goal.returns
-returns c = λ front rest kind good le h. let found = continued front rest kind good le h in (found.script, (found.more, (found.fine, found.spelled)))
+returns c = λ front rest kind good few h. continued front rest kind good few h
