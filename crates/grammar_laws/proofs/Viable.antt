@@ -22,6 +22,10 @@ abbrev pub left_in : Verdict → ℕ
 left_in (Fine script) = 0
 left_in (Faulty f) = f.left
 
+abbrev pub kind_in : Verdict → SyntaxBad
+kind_in (Fine script) = bad.End
+kind_in (Faulty f) = f.kind
+
 -- tokens behind these that make them a script
 record Continued (continue : List Lexeme → Verdict) : Type 0 where
   more : List Lexeme

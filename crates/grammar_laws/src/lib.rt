@@ -24,13 +24,13 @@ pub fn what_is_read_is_spelled()
     ensures { (tokens : List ALexeme) (script : Statements) → IsTrue (list_all is_proper tokens) → script_of tokens ≡ Fine script → (tokens ≡ spell_statements script) × IsTrue (is_script script) }
 {}
 
-/// A script begins with the tokens before a fault, where at most 63 brackets are open there. With 64 open, none does
-/// where a further bracket would have to follow.
+/// A script begins with the tokens before a fault, where at most 63 brackets are open there. With 64 open a further
+/// bracket may have to follow, and none may.
 pub fn what_stands_before_a_fault_can_be_continued()
     ensures { (front : List ALexeme) (rest : List ALexeme) (kind : SyntaxBad) → IsTrue (list_all is_proper front) → open_behind 0 front ≤ 63 → script_of (front ++ rest) ≡ Faulty (record { left = length rest; kind = kind }) → BeginsScript front }
 {}
 
-/// The fault that is read of a text stands at the first place which no script goes on past.
+/// The fault that is read of a text stands at the first place which no script goes on past, and says why.
 pub fn a_fault_stands_at_the_first_misfit()
-    ensures { (text : Bytes) (line : ℕ) (column : ℕ) (kind : SyntaxBad) → script_read text ≡ Err (faults.At line column kind) → FirstMisfit text (record { line = line; column = column }) }
+    ensures { (text : Bytes) (line : ℕ) (column : ℕ) (kind : SyntaxBad) → script_read text ≡ Err (faults.At line column kind) → FirstMisfit text (record { line = line; column = column }) kind }
 {}
