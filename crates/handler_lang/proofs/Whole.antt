@@ -11,7 +11,8 @@ use Rattle.script_tree.specs.declared.fault.SyntaxFault.{SyntaxFault}
 use Rattle.script_tree.specs.declared.fault.SyntaxFault.TheVariants as faults
 use Rattle.script_print.proofs.Texts.{text_again}
 use Rattle.script_parser.specs.Whole.{IsWhole}
-use Rattle.handler_lang.specs.Refusals.{Refuses}
+use Rattle.grammar_laws.proofs.Misfits.{first_misfit}
+use Rattle.handler_lang.specs.Refusals.{Refuses, IsFirst}
 
 pub written : (text : Bytes) (ts : List Lexeme) (script : Statements) → ts ≡ lexemes_of text → IsWhole ts script → Writes text script
 written text ts script e h = record { spelled = sym e ∙ h.spelled; whole = h.fits }
@@ -29,3 +30,8 @@ misread text n f h e =
 pub refuses : (text : Bytes) (e : SyntaxFault) → IsFault (script_read text) e → Refuses text e
 refuses text faults.NoMemory h = tt
 refuses text (faults.At line column kind) h = λ script w. let read : script_read text ≡ Ok script = text_again text script w.whole w.spelled in absurd cc
+
+-- and its fault stands at the first place which no script goes on past
+pub first : (text : Bytes) (e : SyntaxFault) → IsFault (script_read text) e → IsFirst text e
+first text faults.NoMemory h = tt
+first text (faults.At line column kind) h = first_misfit text line column kind h

@@ -1,11 +1,11 @@
 //! A script read from its text: its tree, or the first fault with its place.
-ghost use Rattle.std.specs.Prelude.{◌≡◌, ◌≤◌, ◌-◌, length, IfOk, MatchResult, Ok};
+ghost use Rattle.std.specs.Prelude.{◌≡◌, ◌≤◌, ◌-◌, length, IfOk, IfErr, MatchResult, Ok};
 ghost use Rattle.script_tree.specs.Grammar.{script_of, Faulty};
 ghost use Rattle.script_tree.specs.Lexer.{lexemes_of};
 ghost use Rattle.script_tree.specs.Reading.{script_read, IsFault, Writes};
 ghost use Rattle.script_tree.specs.Script.{tree_of_script};
 ghost use Rattle.script_tree.specs.Tree.{statements_of};
-ghost use Rattle.handler_lang.specs.Refusals.{Refuses};
+ghost use Rattle.handler_lang.specs.Refusals.{Refuses, IsFirst};
 
 use expression_parser::ReadError;
 use script_parser::script;
@@ -14,9 +14,10 @@ use slee_value::{NoMemory, Text};
 use std::alloc::Global;
 
 /// The script that a text is, or the first token that can't continue one.
-#[tactic(auto, using(crate::proofs::Whole::parsed, crate::proofs::Whole::written, crate::proofs::Whole::refuses))]
+#[tactic(auto, using(crate::proofs::Whole::parsed, crate::proofs::Whole::written, crate::proofs::Whole::refuses, crate::proofs::Whole::first))]
 pub fn parse(alloc: Global, text: &str) -> Result<Script, SyntaxFault>
     ensures written { MatchResult result (λ x. Writes text.now (tree_of_script x)) (λ e. Refuses text.now e) }
+    ensures placed { IfErr result (λ e. IsFirst text.now e) }
     ensures kept { IfOk result (λ x. x.text ≡ text.now) }
     ensures read { MatchResult result (λ x. script_read text.now ≡ Ok (tree_of_script x)) (λ e. IsFault (script_read text.now) e) }
 {

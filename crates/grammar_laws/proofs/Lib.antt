@@ -1,0 +1,12 @@
+pub mod Steps
+pub mod Operands
+pub mod Climbs
+pub mod Sentences
+pub mod Optional
+pub mod Clauses
+pub mod Scripts
+pub mod Ends
+pub mod Growth
+pub mod Viable
+pub mod Tokens
+pub mod Misfits
