@@ -179,7 +179,7 @@ def looked_at(folder, crate, edit):
         words = [word for module in modules for word in ("--only", module)]
         ran = subprocess.run(["rt", "check", "--jobs", "1", *words], cwd=trial.place, capture_output=True, text=True, errors="replace", check=False)
     lines = ran.stdout.rstrip().split("\n")
-    ended = re.fullmatch(r"only=(\d+) proved=(\d+).*", lines[-1])
+    ended = re.search(r"^only=(\d+) proved=(\d+)", ran.stdout, re.M)
     told = [it for it in lines if re.match(r"(note: )?\S+:\d+:\d+:", it)]
     if ended and ended[1] != ended[2] and ran.returncode == 1:
         by_name = r"(\./)?proofs/.*(has no field|is not in scope|has no `|was not admitted)"
