@@ -22,6 +22,7 @@ PROGRAM = os.path.join(HERE, "..", "crates", "deploy_rows", "out", "deploy_rows"
 SIZE = 1_048_576
 TIMES = 20
 RUNS = 5
+DEPTH = 64
 SCRIPT = ["self.who = event.addr; emit \"call \" ++ event.addr;", "if len(event.addr) > 3 { let s = 1 + 2 * 3; usage granted s; }"]
 PREPAID = [
     "self.who = event.addr; emit \"call \" ++ event.addr;",
@@ -93,6 +94,11 @@ def nested(n):
     return {"blocks": [item("b", remove=["let v = 0;"] + [line for i in range(n) for line in [f"let v{i} = v;", *inner]])]}
 
 
+def deepest(n):
+    """One script of blocks within blocks to the depth that is allowed, over and over: what a block of one statement takes."""
+    return {"blocks": [item("b", remove=["if true { " * DEPTH + "} " * DEPTH] * n)]}
+
+
 def with_scripts(scripts):
     """Scripts of one block that may name what those above name."""
     numbers = ("first", "second", "third", "fourth", "limit", "total")
@@ -125,7 +131,7 @@ def expressions(n):
     return with_scripts([EXPRESSIONS * n])
 
 
-MAKES = (events, blocks, handlers, script, profiles, names, variables, parameters, nested, calls, call, statements, expressions)
+MAKES = (events, blocks, handlers, script, profiles, names, variables, parameters, nested, deepest, calls, call, statements, expressions)
 OF_SCRIPTS = (calls, call, statements, expressions)
 
 

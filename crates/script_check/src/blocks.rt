@@ -68,7 +68,7 @@ pub fn check_statements<'a>(
     ensures made { MakesAll result scope.new (statements_made (setting_of setting.now) scope.old at (statements_of body.now)) }
     ensures tokens { IfOk result (λ r. r.tokens ≡ tokens_in_statements (statements_of body.now)) }
 {
-    let mut steps = Vec::new(setting.alloc);
+    let mut steps = Vec::with_capacity(setting.alloc, body.len())?;
     let mut here = at;
     'rest: for x in body {
         let made = check_statement(setting, scope, here, x)?;

@@ -73,7 +73,7 @@ fn is_first(word: Fixed) -> bool
     )
 }
 
-/// As many statements as come, and what follows them.
+/// As many statements as come, and what follows them. The list has room for no more.
 #[cycle(stmts)]
 pub fn statements(alloc: Global, ts: Lexemes, depth: u32) -> Result<(Vec<Stmt>, Lexemes), ReadError>
     requires { depth ≤ 64 }
@@ -89,6 +89,7 @@ pub fn statements(alloc: Global, ts: Lexemes, depth: u32) -> Result<(Vec<Stmt>, 
         list.push(next)?;
         rest = behind;
     }
+    list.shrink_to_fit();
     Ok((list, rest))
 }
 

@@ -96,4 +96,4 @@ pub statements-more-preserved : goal.statements-more-preserved
 statements-more-preserved m c = stmts_more _ _ _ _ _ _ _ c.more.invariant (sym c.starts-in-more.ensures ∙ c.more-test.true) c.in_ok-next.ensures c.in_ok-push.ensures.items
 
 pub statements-returns : goal.statements-returns
-statements-returns m c = stmts_end _ _ _ _ c.more.invariant (sym c.starts-in-more.ensures ∙ c.more-test.false)
+statements-returns m c = rw c.shrink_to_fit.ensures.items (stmts_end _ _ _ _ c.more.invariant (sym c.starts-in-more.ensures ∙ c.more-test.false))
