@@ -4,9 +4,9 @@ ghost use Rattle.std.specs.Str.{bytes_eq};
 ghost use Rattle.commit_journal.specs.Views.{payload_of};
 ghost use Rattle.router_model.specs.State.{initial};
 ghost use Rattle.router_rules.specs.Payload.{choice_in};
-ghost use Rattle.router_rules.specs.Step.{is_choice};
+ghost use Rattle.router_rules.specs.Step.{after, is_choice};
 ghost use Rattle.router_rules.specs.History.{after_all};
-ghost use Rattle.router_journal.specs.Recovery.{wrong_at, after_if, misfit, choices_in};
+ghost use Rattle.router_journal.specs.Recovery.{wrong_at, wrong_by, after_if, misfit, choices_in};
 ghost use Rattle.router_journal.specs.Replaying.{IsWrong, IsMisfit, misfit_at, refusal_of};
 ghost use Rattle.router_journal.specs.Opening.{first_fault, IsReplayCause};
 
@@ -51,18 +51,18 @@ fn is_choice(choice: &Choice, payload: &[u8]) -> bool
     }
 }
 
-/// Makes the step of a payload.
-fn replay_one(alloc: Global, state: &mut State, payload: &[u8]) -> Result<(), PayloadFault>
-    ensures fits { OnOk result (wrong_at state.old.parts payload.now ≡ None) }
-    ensures ok { OnOk result (state.new.parts ≡ after_if state.old.parts (choice_in payload.now)) }
-    ensures bad { IfErr result (λ e. IsWrong e (wrong_at state.old.parts payload.now)) }
+/// Makes the step of the choice that a payload spells.
+fn replay_choice(
+    alloc: Global,
+    state: &mut State,
+    payload: &[u8],
+    choice: Choice,
+) -> Result<(), PayloadFault>
+    requires { choice_in payload.now ≡ Some choice }
+    ensures fits { OnOk result (wrong_by state.old.parts payload.now (Some choice) ≡ None) }
+    ensures ok { OnOk result (state.new.parts ≡ after state.old.parts choice) }
+    ensures bad { IfErr result (λ e. IsWrong e (wrong_by state.old.parts payload.now (Some choice))) }
 {
-    let Ok(read) = choice_in(alloc, payload) else {
-        return Err(PayloadFault::NoMemory);
-    };
-    let Some(choice) = read else {
-        return Err(PayloadFault::Wrong(JournalBad::Record));
-    };
     if !is_choice(&choice, payload) {
         return Err(PayloadFault::Wrong(JournalBad::Replay));
     }
@@ -80,6 +80,19 @@ fn replay_one(alloc: Global, state: &mut State, payload: &[u8]) -> Result<(), Pa
     };
     state.apply(plan);
     Ok(())
+}
+
+/// Makes the step of a payload.
+fn replay_one(alloc: Global, state: &mut State, payload: &[u8]) -> Result<(), PayloadFault>
+    ensures fits { OnOk result (wrong_at state.old.parts payload.now ≡ None) }
+    ensures ok { OnOk result (state.new.parts ≡ after_if state.old.parts (choice_in payload.now)) }
+    ensures bad { IfErr result (λ e. IsWrong e (wrong_at state.old.parts payload.now)) }
+{
+    match choice_in(alloc, payload) {
+        Ok(Some(choice)) => replay_choice(alloc, state, payload, choice),
+        Ok(None) => Err(PayloadFault::Wrong(JournalBad::Record)),
+        Err(_) => Err(PayloadFault::NoMemory),
+    }
 }
 
 /// Why records aren't replayed, where the one whose gate stands there isn't.
