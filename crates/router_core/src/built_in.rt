@@ -1,11 +1,12 @@
 //! The deployment that is built in: the event invite, the block call and the service prepaid.
-ghost use Rattle.std.specs.Prelude.{◌≡◌, ◌<◌, ◌+◌, ◌^◌, ◌∷◌, [], IsTrue, IfOk, option_copied, is_some, slice_get, map, length};
+ghost use Rattle.std.specs.Prelude.{◌≡◌, ◌<◌, ◌+◌, ◌^◌, ◌∷◌, [], IsTrue, IfOk, option_copied, is_some, map, length};
 ghost use Rattle.router_rules.specs.BuiltIn.{handles, is_initial, is_event, fields_given, text_of, address_in, emitted, activity_end};
 ghost use Rattle.router_rules.specs.Taking.{fields_of};
 ghost use Rattle.std.specs.Str.{bytes_eq};
 
 use built_in_events::BuiltInEvent;
 use router_model::Event;
+use signal_script::Fields;
 use slee_value::{Name, NoMemory, Payload, Text, Value};
 use std::alloc::Global;
 
@@ -42,29 +43,28 @@ pub fn handles(event: &str) -> bool
 
 /// Whether the field words of a line give each field of an invite once.
 #[tactic(auto, using(crate::proofs::BuiltInLemmas::given_none, crate::proofs::BuiltInLemmas::given_test))]
-pub fn are_given(words: &[(Name, Text)]) -> bool
+pub fn are_given(words: &Fields) -> bool
     ensures { result ≡ is_some (fields_given words.now) }
 {
-    match words.first() {
+    let all = words.all();
+    match all.split_first() {
         None => false,
-        Some((name, _)) => words.len() == 1 && name.as_str() == "addr",
+        Some(((name, _), _)) => words.len() == 1 && name == "addr",
     }
 }
 
 /// The fields of an invite that the field words of a line give.
 #[tactic(auto, using(crate::proofs::BuiltInLemmas::given_first, crate::proofs::BuiltInLemmas::given_some))]
-pub fn given_fields(alloc: Global, words: &[(Name, Text)]) -> Result<Payload, NoMemory>
+pub fn given_fields(alloc: Global, words: &Fields) -> Result<Payload, NoMemory>
     requires { IsTrue (is_some (fields_given words.now)) }
     ensures { IfOk result (λ fields. fields ≡ fields_of words.now) }
 {
     let mut fields = Payload::new(alloc);
-    match words.first() {
-        None => {}
-        Some((name, text)) => {
-            let name = name.copy(alloc)?;
-            let text = text.copy(alloc)?;
-            fields.push(name, Value::Text(text))?;
-        }
+    let all = words.all();
+    if let Some(((name, text), _)) = all.split_first() {
+        let name = Name::from_slice(alloc, name.as_bytes())?;
+        let text = Text::from_str(alloc, text)?;
+        fields.push(name, Value::Text(text))?;
     }
     Ok(fields)
 }

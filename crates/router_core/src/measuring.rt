@@ -13,8 +13,8 @@ ghost use Rattle.router_core.specs.Lent.{choice_of};
 
 use crate::{ChoiceRef, built_in, choosing};
 use router_stores::Stores;
-use signal_script::{Fields, Signal};
-use slee_value::{ActivityId, COUNT_LEN, Name, Text, needs_escape};
+use signal_script::{Fields, Signal, Word};
+use slee_value::{ActivityId, COUNT_LEN, Name, needs_escape};
 
 /// What a payload has beside a line: its kind, and the line's count.
 pub const INPUT_FRAME: usize = 1 + COUNT_LEN;
@@ -50,23 +50,25 @@ fn text_len(text: &[u8]) -> usize
 
 /// How many bytes field words take, with a space before each.
 #[tactic(auto, using(crate::proofs::MeasureLemmas::field_more))]
-fn fields_len(fields: &[(Name, Text)]) -> usize
+fn fields_len(fields: &Fields) -> usize
     requires { length (field_words fields.now) ≤ LINE_LIMIT }
     ensures { result ≡ length (field_words fields.now) }
 {
     let mut len = 0;
-    for (name, value) in fields {
+    let mut left = fields.all();
+    'fields: while let Some(((name, value), more)) = left.split_first() {
         len += " =".len() + name.len() + text_len(value.as_bytes());
+        left = more;
     }
     len
 }
 
 /// How many bytes a line has that fires an event.
-fn fire_len(name: &Name, event: &Text, fields: &Fields) -> usize
+fn fire_len(name: &Name, event: &Word, fields: &Fields) -> usize
     requires { length (field_words fields.now) ≤ LINE_LIMIT }
     ensures { result ≡ 6 + length name.now + length event.now + length (field_words fields.now) }
 {
-    "fire  ".len() + name.len() + event.as_str().len() + fields_len(fields.as_slice())
+    "fire  ".len() + name.len() + event.as_str().len() + fields_len(fields)
 }
 
 /// How many bytes a line has.

@@ -17,7 +17,7 @@ use crate::{built_in, telling};
 use built_in_events::BuiltInEvent;
 use router_model::{AcKind, Activity, Change, Event};
 use router_stores::Stores;
-use signal_script::Signal;
+use signal_script::{Fields, Signal, Word};
 use slee_value::{ActivityId, Name, NoMemory, Payload, Text};
 use std::alloc::Global;
 
@@ -32,7 +32,7 @@ fn unfit(found: Option<&Activity>) -> Option<&'static str>
 }
 
 /// Why an event can't be fired.
-fn unfit_event(event: &str, service: &Option<Name>, words: &[(Name, Text)]) -> Option<&'static str>
+fn unfit_event(event: &str, service: &Option<Name>, words: &Fields) -> Option<&'static str>
     ensures { option_copied result ≡ unfit_event event.now service.now words.now }
 {
     if !built_in::is_event(event) {
@@ -66,7 +66,7 @@ fn refusal(stores: &Stores, signal: &Signal) -> Option<&'static str>
             fields,
         } => match unfit(stores.external(name)) {
             Some(why) => Some(why),
-            None => unfit_event(event.as_str(), service, fields.as_slice()),
+            None => unfit_event(event.as_str(), service, fields),
         },
         _ => None,
     }
@@ -143,7 +143,7 @@ fn fired(
     stores: &Stores,
     heading: &Text,
     activity: ActivityId,
-    event: &Text,
+    event: &Word,
     fields: Payload,
 ) -> Result<Draft, NoMemory>
     ensures changes { IfOk result (λ d. d.changes ≡ changes.Taken ∷ changes.Push activity (event_next stores.now.parts event.now fields) ∷ changes.NextEvent ∷ []) }
@@ -151,7 +151,7 @@ fn fired(
 {
     let mut draft = Draft::begun(alloc, heading)?;
     draft.change(Change::Taken)?;
-    let name = event.copy(alloc)?;
+    let name = Text::from_str(alloc, event.as_str())?;
     let event = next_event(stores, name, fields);
     draft.tell(&telling::queued(alloc, stores.next_event(), event.name.as_str(), activity)?)?;
     draft.change(Change::Push { activity, event })?;
@@ -181,7 +181,7 @@ fn obeyed(
             service: _,
             fields,
         } => {
-            let given = built_in::given_fields(alloc, fields.as_slice())?;
+            let given = built_in::given_fields(alloc, fields)?;
             fired(
                 alloc,
                 stores,

@@ -1,18 +1,19 @@
 //! Replaying what a journal keeps.
-ghost use Rattle.std.specs.Prelude.{◌≡◌, None, Some, map, not, OnOk, IfErr};
+ghost use Rattle.std.specs.Prelude.{◌≡◌, ◌&&◌, None, Some, map, not, OnOk, IfErr};
 ghost use Rattle.std.specs.Str.{bytes_eq};
 ghost use Rattle.commit_journal.specs.Views.{payload_of};
 ghost use Rattle.router_model.specs.State.{initial};
 ghost use Rattle.router_rules.specs.Payload.{choice_in};
-ghost use Rattle.router_rules.specs.Step.{is_choice};
+ghost use Rattle.router_core.specs.Plans.{HasRoomFor, IsPlanOf};
+ghost use Rattle.router_rules.specs.Step.{after, is_choice, is_enabled};
 ghost use Rattle.router_rules.specs.History.{after_all};
-ghost use Rattle.router_journal.specs.Recovery.{wrong_at, after_if, misfit, choices_in};
+ghost use Rattle.router_journal.specs.Recovery.{wrong_at, wrong_by, after_if, misfit, choices_in};
 ghost use Rattle.router_journal.specs.Replaying.{IsWrong, IsMisfit, misfit_at, refusal_of};
 ghost use Rattle.router_journal.specs.Opening.{first_fault, IsReplayCause};
 
 use crate::OpenFault;
 use commit_journal::{Journal, JournalBad, Record};
-use router_core::{INPUT_FRAME, State, choice_in};
+use router_core::{INPUT_FRAME, Plan, State, choice_in};
 use signal_script::LINE_LIMIT;
 use slee_disk::{Disk, Side};
 use std::alloc::Global;
@@ -51,35 +52,79 @@ fn is_choice(choice: &Choice, payload: &[u8]) -> bool
     }
 }
 
+/// Whether the choice of a payload may be made here.
+fn may_be_made(state: &State, choice: &Choice, payload: &[u8]) -> bool
+    requires { choice_in payload.now ≡ Some choice.now }
+    ensures { result ≡ (is_choice choice.now && is_enabled state.now.parts choice.now) }
+{
+    is_choice(choice, payload) && state.is_enabled(choice)
+}
+
+/// Makes the memory for a plan, if the payload is what the journal keeps of it.
+fn reserve_kept(state: &mut State, payload: &[u8], plan: &Plan) -> Result<(), PayloadFault>
+    requires made { IsPlanOf state.old.parts plan.now.choice plan.now }
+    ensures same { state.new.parts ≡ state.old.parts }
+    ensures fits { OnOk result (wrong_by state.old.parts payload.now (Some plan.now.choice) ≡ None) }
+    ensures room { OnOk result (HasRoomFor plan.now state.new) }
+    ensures bad { IfErr result (λ e. IsWrong e (wrong_by state.old.parts payload.now (Some plan.now.choice))) }
+{
+    if is_other(payload, plan.payload()) {
+        return Err(PayloadFault::Wrong(JournalBad::Replay));
+    }
+    let Ok(()) = state.reserve(plan) else {
+        return Err(PayloadFault::NoMemory);
+    };
+    Ok(())
+}
+
+/// Makes the step of a plan, if the payload is what the journal keeps of it.
+fn replay_plan(state: &mut State, payload: &[u8], plan: Plan) -> Result<(), PayloadFault>
+    requires made { IsPlanOf state.old.parts plan.choice plan }
+    ensures fits { OnOk result (wrong_by state.old.parts payload.now (Some plan.choice) ≡ None) }
+    ensures ok { OnOk result (state.new.parts ≡ after state.old.parts plan.choice) }
+    ensures bad { IfErr result (λ e. IsWrong e (wrong_by state.old.parts payload.now (Some plan.choice))) }
+{
+    match reserve_kept(state, payload, &plan) {
+        Ok(()) => {
+            state.apply(plan);
+            Ok(())
+        }
+        Err(fault) => Err(fault),
+    }
+}
+
+/// Makes the step of the choice that a payload spells.
+fn replay_choice(
+    alloc: Global,
+    state: &mut State,
+    payload: &[u8],
+    choice: Choice,
+) -> Result<(), PayloadFault>
+    requires { choice_in payload.now ≡ Some choice }
+    ensures fits { OnOk result (wrong_by state.old.parts payload.now (Some choice) ≡ None) }
+    ensures ok { OnOk result (state.new.parts ≡ after state.old.parts choice) }
+    ensures bad { IfErr result (λ e. IsWrong e (wrong_by state.old.parts payload.now (Some choice))) }
+{
+    if !may_be_made(state, &choice, payload) {
+        return Err(PayloadFault::Wrong(JournalBad::Replay));
+    }
+    match state.plan(alloc, choice) {
+        Ok(plan) => replay_plan(state, payload, plan),
+        Err(_) => Err(PayloadFault::NoMemory),
+    }
+}
+
 /// Makes the step of a payload.
 fn replay_one(alloc: Global, state: &mut State, payload: &[u8]) -> Result<(), PayloadFault>
     ensures fits { OnOk result (wrong_at state.old.parts payload.now ≡ None) }
     ensures ok { OnOk result (state.new.parts ≡ after_if state.old.parts (choice_in payload.now)) }
     ensures bad { IfErr result (λ e. IsWrong e (wrong_at state.old.parts payload.now)) }
 {
-    let Ok(read) = choice_in(alloc, payload) else {
-        return Err(PayloadFault::NoMemory);
-    };
-    let Some(choice) = read else {
-        return Err(PayloadFault::Wrong(JournalBad::Record));
-    };
-    if !is_choice(&choice, payload) {
-        return Err(PayloadFault::Wrong(JournalBad::Replay));
+    match choice_in(alloc, payload) {
+        Ok(Some(choice)) => replay_choice(alloc, state, payload, choice),
+        Ok(None) => Err(PayloadFault::Wrong(JournalBad::Record)),
+        Err(_) => Err(PayloadFault::NoMemory),
     }
-    if !state.is_enabled(&choice) {
-        return Err(PayloadFault::Wrong(JournalBad::Replay));
-    }
-    let Ok(plan) = state.plan(alloc, choice) else {
-        return Err(PayloadFault::NoMemory);
-    };
-    if is_other(payload, plan.payload()) {
-        return Err(PayloadFault::Wrong(JournalBad::Replay));
-    }
-    let Ok(()) = state.reserve(&plan) else {
-        return Err(PayloadFault::NoMemory);
-    };
-    state.apply(plan);
-    Ok(())
 }
 
 /// Why records aren't replayed, where the one whose gate stands there isn't.

@@ -1,7 +1,7 @@
 -- How many words stand behind a verb.
 use Rattle.std.proofs.Common.{◌≡◌, ℕ, List, [], ◌∷◌, ◌++◌, Ok, Err, refl, sym, ap}
 use Rattle.signal_script.specs.Lines.{words_of}
-use Rattle.signal_script.specs.Signals.{only_word, only_two, two_or_more, field_of, fields_of}
+use Rattle.signal_script.specs.Signals.{Reading, and_then, only_word, only_two, two_or_more, text_of, field_of, fields_of}
 use Rattle.signal_script.specs.declared.fault.SignalBad.{SignalBad}
 use Rattle.signal_script.specs.declared.fault.SignalBad.TheVariants as bads
 use Rattle.signal_script.specs.Answers.{IsFaultOf}
@@ -42,13 +42,23 @@ not_two [] kind is = let same : bads.Count ≡ kind = cc in ap Err same
 not_two (a ∷ []) kind is = let same : bads.Count ≡ kind = cc in ap Err same
 not_two (a ∷ b ∷ ws) kind is = cc
 
--- a field word more
-pub field_more : (made : List (List ℕ × List ℕ)) (text word : List ℕ) (more : List (List ℕ)) (field : List ℕ × List ℕ) → words_of text ≡ word ∷ more
-    → field_of made word ≡ Ok field → fields_of made (words_of text) ≡ fields_of (made ++ field ∷ []) more
-field_more made text word more field is read = rw (is, read)
+-- a field word more: its name, and the value that its other part stands for
+pub field_more : (made new : List (List ℕ × List ℕ)) (text word name value : List ℕ) (more : List (List ℕ)) → words_of text ≡ word ∷ more
+    → field_of made word ≡ and_then (text_of value) (λ v. Ok (name, v)) → and_then (text_of value) (λ v. Ok (made ++ (name, v) ∷ [])) ≡ Ok new
+    → fields_of made (words_of text) ≡ fields_of new more
+field_more made new text word name value more is cut added = rw (is, cut) (by (text_of value) added)
+  where
+    by : (r : Reading (List ℕ)) → and_then r (λ v. Ok (made ++ (name, v) ∷ [])) ≡ Ok new → and_then (and_then r (λ v. Ok (name, v))) (λ field. fields_of (made ++ field ∷ []) more) ≡ fields_of new more
+    by (Ok v) e = let same : made ++ (name, v) ∷ [] ≡ new = cc in ap (λ (l : List (List ℕ × List ℕ)). fields_of l more) same
+    by (Err bad) e = cc
 
--- a field word that is none
-pub field_fault : (made : List (List ℕ × List ℕ)) (text word : List ℕ) (more : List (List ℕ)) (fault : LineFault) → words_of text ≡ word ∷ more
-    → IsFaultOf (field_of made word) fault → IsFaultOf (fields_of made (words_of text)) fault
-field_fault made text word more (faults.Bad kind) is bad = rw (is, bad) refl
-field_fault made text word more faults.NoMemory is bad = tt
+-- a word that is no field word
+pub field_fault : (made : List (List ℕ × List ℕ)) (text word : List ℕ) (more : List (List ℕ)) (kind : SignalBad) → words_of text ≡ word ∷ more
+    → field_of made word ≡ Err kind → fields_of made (words_of text) ≡ Err kind
+field_fault made text word more kind is bad = rw (is, bad) refl
+
+-- one whose value is no text
+pub value_fault : (made : List (List ℕ × List ℕ)) (text word name value : List ℕ) (more : List (List ℕ)) (fault : LineFault) → words_of text ≡ word ∷ more
+    → field_of made word ≡ and_then (text_of value) (λ v. Ok (name, v)) → IsFaultOf (text_of value) fault → IsFaultOf (fields_of made (words_of text)) fault
+value_fault made text word name value more (faults.Bad kind) is cut bad = rw (is, cut, bad) refl
+value_fault made text word name value more faults.NoMemory is cut bad = tt

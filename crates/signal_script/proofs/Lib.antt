@@ -7,3 +7,4 @@ pub mod SpellingLemmas
 pub mod GivenLemmas
 pub mod LawLemmas
 pub mod PrintLemmas
+pub mod FieldLemmas

@@ -1,5 +1,5 @@
 -- Escaping and its inverse.
-use Rattle.std.proofs.Common.{◌≡◌, ℕ, ◌-◌, ◌/◌, ◌%◌, ◌<◌, ◌≤◌, zero, suc, Bool, true, false, ◌&&◌, ◌==◌, if◌then◌else◌, List, [], ◌∷◌, ◌++◌, length, get_or, take, drop, refl, sym, ◌∙◌, ap, subst, arith, append_assoc, append-nil, length-append, Option, Some, None, option_map, true≢false, ◌⊎◌, inl, inr, ne_eqb, eq-eqb}
+use Rattle.std.proofs.Common.{◌≡◌, ℕ, ◌-◌, ◌/◌, ◌%◌, ◌<◌, ◌≤◌, zero, suc, Bool, true, false, ◌&&◌, ◌==◌, if◌then◌else◌, List, [], ◌∷◌, ◌++◌, length, get_or, take, drop, refl, sym, ◌∙◌, ap, subst, arith, append_assoc, append-nil, length-append, Option, Some, None, option_map, true≢false, ◌⊎◌, inl, inr, ne_eqb, eq-eqb, Ok}
 use Rattle.std.proofs.lemmas.List.{take_rest}
 use Rattle.std.proofs.lemmas.Bool.{cases_Bool, cases_lt, and_parts, or_parts}
 use Rattle.std.specs.List.{list_any}
@@ -8,6 +8,7 @@ use Rattle.std.proofs.lemmas.Str.{IsUtf8-append, IsUtf8-nil, IsUtf8-drop, IsUtf8
 use lib.Utf8.{scalar, scalars, encode, encodes, low_scalar}
 use Rattle.std.specs.Str.{IsUtf8}
 use Rattle.slee_value.specs.Escape.{is_escaped, hex_digit_of, escaped}
+use Rattle.signal_script.specs.Signals.{text_of}
 use Rattle.signal_script.specs.WordText.{unescaped, is_escape, byte_of_digits, digit_value}
 
 -- these bytes, and then those
@@ -47,6 +48,10 @@ plain_text word [] none = refl
 plain_text word (b ∷ bs) none =
     let parts = or_parts (is_escaped word b) (list_any (is_escaped word) bs) none in
     plain_byte word b bs parts.0 ∙ ap (option_map (λ more. b ∷ more)) (plain_text word bs parts.1)
+
+-- so a word without one stands for itself
+pub plain_word : (word : List ℕ) → list_any (is_escaped true) word ≡ false → text_of word ≡ Ok word
+plain_word word none = rw (plain_text true word none) refl
 
 -- the same, as the code cuts them
 pub plain_cut : (word : Bool) (text : List ℕ) → 0 < length text → is_escaped word (get_or text 0 0) ≡ false

@@ -5,10 +5,10 @@ ghost use Rattle.signal_script.specs.Lines.{words_of, words_behind};
 ghost use Rattle.signal_script.specs.Signals.{only_word, only_two, two_or_more, one_name, one_moment, event_fired, row_given, row_named, fields_of, signal_of_verb};
 
 use crate::line::first_word;
-use crate::parts::{read_event, read_field, read_moment, read_name, read_row};
+use crate::parts::{add_field, cut_field, read_event, read_moment, read_name, read_row};
 use crate::verb::Verb;
-use crate::{Fields, LineFault, Signal, SignalBad};
-use slee_value::{Name, Text};
+use crate::{Fields, LineFault, Signal, SignalBad, Word};
+use slee_value::Name;
 use std::alloc::Global;
 
 /// The one word of what stands behind a verb.
@@ -68,7 +68,7 @@ fn one_moment(behind: Option<&str>) -> Result<u64, LineFault>
 }
 
 /// The field words.
-#[tactic(auto, using(crate::proofs::CountLemmas::field_more, crate::proofs::CountLemmas::field_fault))]
+#[tactic(auto, using(crate::proofs::CountLemmas::field_more, crate::proofs::CountLemmas::field_fault, crate::proofs::CountLemmas::value_fault))]
 fn read_fields(alloc: Global, behind: Option<&str>) -> Result<Fields, LineFault>
     ensures { Answers result (fields_of [] (words_behind (option_copied behind.entry))) }
 {
@@ -76,8 +76,8 @@ fn read_fields(alloc: Global, behind: Option<&str>) -> Result<Fields, LineFault>
     let mut left = behind;
     'fields: while let Some(text) = left {
         let (word, more) = first_word(text);
-        let (name, value) = read_field(alloc, &made, word)?;
-        made.push(name, value)?;
+        let (name, value) = cut_field(&made, word)?;
+        add_field(alloc, &mut made, name, value)?;
         left = more;
     }
     Ok(made)
@@ -100,7 +100,7 @@ fn event_fired(alloc: Global, behind: Option<&str>) -> Result<Signal, LineFault>
 }
 
 /// `TABLE ROW FIELD=VALUE ..`.
-fn row_given(alloc: Global, behind: Option<&str>) -> Result<(Name, Text, Fields), LineFault>
+fn row_given(alloc: Global, behind: Option<&str>) -> Result<(Name, Word, Fields), LineFault>
     ensures { Answers result (row_given (words_behind (option_copied behind.entry))) }
 {
     let (table, row, more) = two_or_more(behind)?;
@@ -111,7 +111,7 @@ fn row_given(alloc: Global, behind: Option<&str>) -> Result<(Name, Text, Fields)
 }
 
 /// `TABLE ROW`.
-fn row_named(alloc: Global, behind: Option<&str>) -> Result<(Name, Text), LineFault>
+fn row_named(alloc: Global, behind: Option<&str>) -> Result<(Name, Word), LineFault>
     ensures { Answers result (row_named (words_behind (option_copied behind.entry))) }
 {
     let (table, row) = only_two(behind)?;

@@ -14,9 +14,10 @@ mod signal;
 mod signals;
 mod unescaping;
 mod verb;
+mod word;
 
 pub use fault::{LineFault, SignalBad, SignalFault};
-pub use fields::Fields;
+pub use fields::{Fields, FieldsLeft};
 pub use laws::{length_alone_decides, printed_is_read, read_is_spelled};
 pub use line::LINE_LIMIT;
 pub use number::number_of;
@@ -26,3 +27,4 @@ pub use reading::{read_line, read_signals, read_unbounded};
 pub use signal::Signal;
 pub use signals::Signals;
 pub use unescaping::unescape;
+pub use word::Word;

@@ -1,12 +1,13 @@
 //! The words of a line, each read as what stands in its place.
-ghost use Rattle.std.specs.Prelude.{◌≡◌, MatchOption, Some, None, Ok, Err, nat_le, if◌then◌else◌};
-ghost use Rattle.signal_script.specs.Answers.{Answers};
+ghost use Rattle.std.specs.Prelude.{◌≡◌, ◌++◌, ◌∷◌, [], IsTrue, MatchOption, MatchResult, IfOk, IfErr, OnOk, Some, None, Ok, Err, nat_le, if◌then◌else◌};
+ghost use Rattle.slee_value.specs.Name.{is_name};
+ghost use Rattle.signal_script.specs.Answers.{Answers, IsFaultOf};
 ghost use Rattle.signal_script.specs.Lines.{cut_at};
-ghost use Rattle.signal_script.specs.Signals.{name_of, is_event, event_name_of, event_for, event_of, moment_of, text_of, row_of, field_of, field_of_parts, is_new_name, clock_limit};
+ghost use Rattle.signal_script.specs.Signals.{name_of, is_event, event_name_of, event_for, event_of, moment_of, text_of, row_of, field_of, is_new_name, and_then, clock_limit};
 
 use crate::number::number_of;
-use crate::unescaping::unescape;
-use crate::{Fields, LineFault, SignalBad};
+use crate::unescaping::{has_escaped, read_escapes};
+use crate::{Fields, LineFault, SignalBad, Word};
 use built_in_events::BuiltInEvent;
 use slee_value::{Name, Text};
 use std::alloc::Global;
@@ -32,7 +33,7 @@ fn is_event(word: &str) -> bool
     Name::is_name(word.as_bytes()) || BuiltInEvent::named(word.as_bytes()).is_some()
 }
 
-fn read_event_name(alloc: Global, word: &str) -> Result<Text, LineFault>
+fn read_event_name(alloc: Global, word: &str) -> Result<Word, LineFault>
     ensures { Answers result (event_name_of word.now) }
 {
     if !is_event(word) {
@@ -40,7 +41,7 @@ fn read_event_name(alloc: Global, word: &str) -> Result<Text, LineFault>
             kind: SignalBad::Name,
         });
     }
-    Ok(Text::from_str(alloc, word)?)
+    Ok(Word::from_str(alloc, word)?)
 }
 
 /// What stands before the first at sign, and what behind it.
@@ -58,7 +59,7 @@ fn cut_at_equals(word: &str) -> Option<(&str, &str)>
 }
 
 /// An event, and the service that it is for, where it is for one alone.
-pub fn read_event(alloc: Global, word: &str) -> Result<(Text, Option<Name>), LineFault>
+pub fn read_event(alloc: Global, word: &str) -> Result<(Word, Option<Name>), LineFault>
     ensures { Answers result (event_of word.now) }
 {
     match cut_at_sign(word) {
@@ -74,7 +75,7 @@ fn read_event_for(
     alloc: Global,
     event: &str,
     service: &str,
-) -> Result<(Text, Option<Name>), LineFault>
+) -> Result<(Word, Option<Name>), LineFault>
     ensures { Answers result (event_for (event.now, service.now)) }
 {
     let event = read_event_name(alloc, event)?;
@@ -103,11 +104,11 @@ fn bounded(moment: u64) -> Result<u64, SignalBad>
     }
 }
 
-/// The text that a word stands for.
-fn read_text(alloc: Global, word: &str) -> Result<Text, LineFault>
+/// The text that a word with escapes stands for.
+fn read_escaped(alloc: Global, word: &str) -> Result<Text, LineFault>
     ensures { Answers result (text_of word.now) }
 {
-    match unescape(alloc, word, true) {
+    match read_escapes(alloc, word, true) {
         Ok(Some(text)) => Ok(text),
         Ok(None) => Err(LineFault::Bad {
             kind: SignalBad::Escape,
@@ -116,8 +117,20 @@ fn read_text(alloc: Global, word: &str) -> Result<Text, LineFault>
     }
 }
 
+/// What a word stands for.
+#[tactic(auto, using(crate::proofs::WordTextLemmas::plain_word))]
+fn read_word(alloc: Global, word: &str) -> Result<Word, LineFault>
+    ensures { Answers result (text_of word.now) }
+{
+    if !has_escaped(word.as_bytes(), true) {
+        return Ok(Word::from_str(alloc, word)?);
+    }
+    let text = read_escaped(alloc, word)?;
+    Ok(Word::from_str(alloc, text.as_str())?)
+}
+
 /// The name of a row, which isn't empty.
-pub fn read_row(alloc: Global, word: &str) -> Result<Text, LineFault>
+pub fn read_row(alloc: Global, word: &str) -> Result<Word, LineFault>
     ensures { Answers result (row_of word.now) }
 {
     if word.is_empty() {
@@ -125,37 +138,42 @@ pub fn read_row(alloc: Global, word: &str) -> Result<Text, LineFault>
             kind: SignalBad::Name,
         });
     }
-    read_text(alloc, word)
+    read_word(alloc, word)
 }
 
-/// A field word, behind these fields.
-pub fn read_field(alloc: Global, before: &Fields, word: &str) -> Result<(Name, Text), LineFault>
-    ensures { Answers result (field_of before.now word.now) }
+/// The name of a field word behind these fields, and the word for its value.
+pub fn cut_field<'a>(before: &Fields, word: &'a str) -> Result<(&'a str, &'a str), SignalBad>
+    ensures field { MatchResult result (λ parts. field_of before.now word.now ≡ and_then (text_of parts.1.now) (λ value. Ok (parts.0.now, value))) (λ kind. field_of before.now word.now ≡ Err kind) }
+    ensures name { IfOk result (λ parts. IsTrue (is_name parts.0.now)) }
 {
-    match cut_at_equals(word) {
-        None => Err(LineFault::Bad {
-            kind: SignalBad::Field,
-        }),
-        Some((name, value)) => read_field_parts(alloc, before, name, value),
-    }
-}
-
-fn read_field_parts(
-    alloc: Global,
-    before: &Fields,
-    name: &str,
-    value: &str,
-) -> Result<(Name, Text), LineFault>
-    ensures { Answers result (field_of_parts before.now (name.now, value.now)) }
-{
+    let Some((name, value)) = cut_at_equals(word) else {
+        return Err(SignalBad::Field);
+    };
     if !is_new_name(before, name) {
-        return Err(LineFault::Bad {
-            kind: SignalBad::Field,
-        });
+        return Err(SignalBad::Field);
     }
-    let value = read_text(alloc, value)?;
-    let name = Name::from_slice(alloc, name.as_bytes())?;
     Ok((name, value))
+}
+
+/// Adds a field of this name, and of the value that the word stands for.
+#[tactic(auto, using(crate::proofs::WordTextLemmas::plain_word))]
+pub fn add_field(
+    alloc: Global,
+    fields: &mut Fields,
+    name: &str,
+    word: &str,
+) -> Result<(), LineFault>
+    requires { IsTrue (is_name name.now) }
+    ensures ok { OnOk result (and_then (text_of word.now) (λ value. Ok (fields.old ++ (name.now, value) ∷ [])) ≡ Ok fields.new) }
+    ensures err { IfErr result (IsFaultOf (text_of word.now)) }
+{
+    if !has_escaped(word.as_bytes(), true) {
+        fields.push(name, word)?;
+        return Ok(());
+    }
+    let value = read_escaped(alloc, word)?;
+    fields.push(name, value.as_str())?;
+    Ok(())
 }
 
 /// Whether this is a name that none of the fields has.

@@ -5,9 +5,9 @@ ghost use Rattle.slee_value.specs.Escape.{escaped};
 ghost use Rattle.signal_script.specs.Signals.{spelled, spelled_event, spelled_field, field_words, verb_word};
 
 use crate::verb::Verb;
-use crate::{Fields, Signal};
+use crate::{Fields, Signal, Word};
 use itoa::Buffer;
-use slee_value::{Name, NoMemory, Text, escape};
+use slee_value::{Name, NoMemory, escape};
 
 /// Adds the signal's one line, without a newline. Where memory runs out, nothing is added.
 pub fn print_signal(signal: &Signal, into: &mut Vec<u8>) -> Result<(), NoMemory>
@@ -59,7 +59,7 @@ fn write_pair(verb: Verb, word: &[u8], line: &mut Vec<u8>) -> Result<(), NoMemor
 }
 
 /// A verb, a table and a row.
-fn write_row(verb: Verb, table: &Name, row: &Text, line: &mut Vec<u8>) -> Result<(), NoMemory>
+fn write_row(verb: Verb, table: &Name, row: &Word, line: &mut Vec<u8>) -> Result<(), NoMemory>
     ensures { OnOk result (line.new.items ≡ line.old.items ++ (verb_word verb ++ 32 ∷ (table.now ++ 32 ∷ escaped true row.now))) }
 {
     write_pair(verb, table.as_bytes(), line)?;
@@ -71,7 +71,7 @@ fn write_row(verb: Verb, table: &Name, row: &Text, line: &mut Vec<u8>) -> Result
 fn write_attributes(
     verb: Verb,
     table: &Name,
-    row: &Text,
+    row: &Word,
     fields: &Fields,
     line: &mut Vec<u8>,
 ) -> Result<(), NoMemory>
@@ -85,7 +85,7 @@ fn write_attributes(
 /// A line that fires an event.
 fn write_fire(
     name: &Name,
-    event: &Text,
+    event: &Word,
     service: &Option<Name>,
     fields: &Fields,
     line: &mut Vec<u8>,
@@ -99,7 +99,7 @@ fn write_fire(
 }
 
 /// A space, and an event with the service that it is for.
-fn write_event(event: &Text, service: &Option<Name>, line: &mut Vec<u8>) -> Result<(), NoMemory>
+fn write_event(event: &Word, service: &Option<Name>, line: &mut Vec<u8>) -> Result<(), NoMemory>
     ensures { OnOk result (line.new.items ≡ line.old.items ++ 32 ∷ spelled_event event.now service.now) }
 {
     line.push(b' ')?;
@@ -115,13 +115,15 @@ fn write_event(event: &Text, service: &Option<Name>, line: &mut Vec<u8>) -> Resu
 fn write_fields(fields: &Fields, line: &mut Vec<u8>) -> Result<(), NoMemory>
     ensures { OnOk result (line.new.items ≡ line.old.items ++ field_words fields.now) }
 {
-    for (name, value) in fields.as_slice() {
+    let mut left = fields.all();
+    'fields: while let Some(((name, value), more)) = left.split_first() {
         write_field(name, value, line)?;
+        left = more;
     }
     Ok(())
 }
 
-fn write_field(name: &Name, value: &Text, line: &mut Vec<u8>) -> Result<(), NoMemory>
+fn write_field(name: &str, value: &str, line: &mut Vec<u8>) -> Result<(), NoMemory>
     ensures { OnOk result (line.new.items ≡ line.old.items ++ 32 ∷ spelled_field (name.now, value.now)) }
 {
     line.push(b' ')?;

@@ -1,8 +1,8 @@
 //! What a line says.
 ghost use Rattle.std.specs.Prelude.{◌≡◌, IfOk};
 
-use crate::Fields;
-use slee_value::{Name, NoMemory, Text};
+use crate::{Fields, Word};
+use slee_value::{Name, NoMemory};
 use std::alloc::Global;
 
 /// What a line says.
@@ -19,7 +19,7 @@ pub enum Signal {
     /// An event is fired on an external activity, for one service alone where it names one.
     Fire {
         name: Name,
-        event: Text,
+        event: Word,
         service: Option<Name>,
         fields: Fields,
     },
@@ -38,19 +38,19 @@ pub enum Signal {
     /// A table gets a row with these attributes.
     ProfileAdd {
         table: Name,
-        row: Text,
+        row: Word,
         fields: Fields,
     },
     /// A row gets these attributes in place of those that it has.
     ProfileUpdate {
         table: Name,
-        row: Text,
+        row: Word,
         fields: Fields,
     },
     /// A row goes.
     ProfileRemove {
         table: Name,
-        row: Text,
+        row: Word,
     },
 }
 

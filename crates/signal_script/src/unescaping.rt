@@ -19,7 +19,7 @@ pub fn unescape(alloc: Global, text: &str, word: bool) -> Result<Option<Text>, N
 }
 
 /// Whether it has a byte that isn't written as it is.
-fn has_escaped(text: &[u8], word: bool) -> bool
+pub(crate) fn has_escaped(text: &[u8], word: bool) -> bool
     ensures { result ≡ list_any (is_escaped word) text.now }
 {
     text.iter().any(|b| needs_escape(*b, word))
@@ -27,7 +27,7 @@ fn has_escaped(text: &[u8], word: bool) -> bool
 
 /// The same, a byte after the other.
 #[tactic(auto, using(crate::proofs::WordTextLemmas::one_byte_more, crate::proofs::WordTextLemmas::none_more))]
-fn read_escapes(alloc: Global, text: &str, word: bool) -> Result<Option<Text>, NoMemory>
+pub(crate) fn read_escapes(alloc: Global, text: &str, word: bool) -> Result<Option<Text>, NoMemory>
     ensures { IfOk result (λ read. read ≡ unescaped word text.now) }
 {
     let mut made = Vec::with_capacity(alloc, text.len())?;

@@ -1,4 +1,4 @@
-use Rattle.std.proofs.Common.{◌≡◌, ap, sym, ◌∙◌, subst, map, Ok}
+use Rattle.std.proofs.Common.{ap, sym, ◌∙◌, subst, map, Ok}
 use Rattle.router_model.specs.State.{Parts}
 use Rattle.commit_journal.specs.Views.{payload_of}
 use Rattle.router_journal.proofs.Opens.{looks_alone, Opened, Begins, IsBegun, plain_of, opened_sound, same_origin, with_fields, state_by, records_by, counting_by, state_leaves, no_fault}
