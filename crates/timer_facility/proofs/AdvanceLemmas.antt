@@ -29,9 +29,13 @@ abbrev move : ℕ → Timer → Timer
 move to t = behind t (due_count t to)
 
 second : (a b c : Bool) → a ≡ false → (a || (b && c)) ≡ true → b ≡ true
-second true b c no is = cc
-second false true c no is = refl
-second false false c no is = cc
+second true b c fails is = cc
+second false true c fails is = refl
+second false false c fails is = cc
+
+other : (a b : Bool) → a ≡ false → (a || b) ≡ true → b ≡ true
+other true b fails either = cc
+other false b fails either = either
 
 -- where a timer with a period goes on, all due occurrences of the period are used up
 used_is : (t : Timer) (to : ℕ) → goes to t ≡ true → (t.period == 0) ≡ false → nat_lt to t.next ≡ false → due_count t to ≡ repeated t to
@@ -42,7 +46,7 @@ used_is t to on many due = elim (cases_Bool (t.left == 0)) [
       let some : 0 < t.left = grind (arith, nat_tests, ends) in
       let used : (due_count t to == 0) ≡ false = grind (arith, nat_tests, is, some) in
       let left : (t.left == 0 || nat_lt (due_count t to) t.left) ≡ true = second (due_count t to == 0) _ _ used on in
-      let below : nat_lt (due_count t to) t.left ≡ true = rw ends at left in
+      let below : nat_lt (due_count t to) t.left ≡ true = other (t.left == 0) (nat_lt (due_count t to) t.left) ends left in
       let less : due_count t to < t.left = grind (arith, nat_tests, below) in
       omega (arith, is, less)
 ]

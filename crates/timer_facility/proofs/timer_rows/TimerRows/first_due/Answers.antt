@@ -11,11 +11,13 @@ use Rattle.timer_facility.proofs.timer_rows.TimerRows.first_due.Goals as goal
 
 pub returns-in-None : goal.returns-in-None
 returns-in-None c =
-    rw (← c.self.view_is)
-    (any_fails (is_due c.args.to) c.self.inside.rows.items
-    (none_first (λ (t : Timer). t.number.0) (λ (t : Timer). t.next) (λ (e : Entry). nat_le e.key c.args.to) c.self.inside.rows.items c.self.inside.by_moment.items _ c.self.invariant.moments (rw c.deref.ensures.value at c.entries_up_to-run.ensures) c.in-None.ensures.value))
+    record {
+      first = rw (← c.self.view_is)
+          (any_fails (is_due c.args.to) c.self.inside.rows.items
+          (none_first (λ (t : Timer). t.number.0) (λ (t : Timer). t.next) (λ (e : Entry). nat_le e.key c.args.to) c.self.inside.rows.items c.self.inside.by_moment.items _ c.self.invariant.moments (rw c.deref.ensures.value at c.entries_up_to-run.ensures) c.in-None.ensures.value));
+    }
 
 pub returns-in-Some : goal.returns-in-Some
 returns-in-Some c =
     let first = some_first (λ (t : Timer). t.number.0) (λ (t : Timer). t.next) timer_key (λ x. refl) (λ (e : Entry). nat_le e.key c.args.to) c.self.inside.rows.items c.self.inside.by_moment.items _ _ c.self.invariant.rises c.self.invariant.moments (rw c.deref.ensures.value at c.entries_up_to-run.ensures) c.in-Some.ensures.value in
-    rw (← c.self.view_is) (ap (λ found. option_map_or (is_due c.args.to) found false) first.1 ∙ ap (λ n. nat_le n c.args.to) first.2 ∙ first.3)
+    record { first = rw (← c.self.view_is) (ap (λ found. option_map_or (is_due c.args.to) found false) first.1 ∙ ap (λ n. nat_le n c.args.to) first.2 ∙ first.3) }
