@@ -89,14 +89,14 @@ pub fn guess_of<R: Keyed>(rows: &[R], first: u64, second: u64) -> Guess {
     }
 }
 
-/// The guess, or the middle where the guess is beyond all rows.
+/// The guess, or the last place where the guess is beyond all rows.
 fn first_place(guess: Guess, count: usize) -> usize
     ensures { 0 < count → result < count }
 {
     if guess.place < count {
         guess.place
     } else {
-        count / 2
+        count.saturating_sub(1)
     }
 }
 

@@ -7,7 +7,7 @@ use Rattle.sorted_rows.proofs.HalvingLemmas.{parted, point_is_prefix}
 use Rattle.row_index.specs.declared.entry.Entry.{Entry}
 use Rattle.row_index.specs.Index.{entry_key}
 use Rattle.row_index.proofs.IndexLemmas.{up_to_earlier}
-use Rattle.row_index.proofs.upto.count_up_to.Goals as goal
+use Rattle.row_index.proofs.upto.count_by_halving.Goals as goal
 
 pub returns-clause-count : goal.returns-clause-count
 returns-clause-count c =
