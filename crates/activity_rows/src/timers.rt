@@ -149,3 +149,32 @@ fn cancelled_timers_are_gone_and_others_stay(rt: HostRuntime) -> Result<(), Fail
     assert_eq!(rt; timers.at(0).number, TimerId(2));
     Ok(())
 }
+
+#[test]
+fn many_timers_change_at_once(rt: HostRuntime) -> Result<(), Fail> {
+    let alloc = rt.alloc();
+    let mut timers = Timers::new(alloc);
+    for moment in 81..101 {
+        set(&mut timers, spec(ONE, moment, 0, 1, Keep::Last))?;
+        set(&mut timers, spec(TWO, 100, 50, 2, Keep::NoneMissed))?;
+    }
+    timers.advance(120);
+    assert_eq!(rt; timers.len(), 20);
+    assert_eq!(rt; count_of_due(alloc, &timers, 149), Ok(0));
+    assert_eq!(rt; count_of_due(alloc, &timers, 150), Ok(20));
+    timers.cancel_all(TWO);
+    assert_eq!(rt; timers.len(), 0);
+    Ok(())
+}
+
+#[test]
+fn a_timer_without_a_period_occurs_again_at_its_moment(rt: HostRuntime) -> Result<(), Fail> {
+    let alloc = rt.alloc();
+    let mut timers = Timers::new(alloc);
+    set(&mut timers, spec(ONE, 10, 0, 2, Keep::All))?;
+    timers.advance(12);
+    assert!(rt; is_due(alloc, &timers, 12, &[(10, 1)]));
+    timers.advance(12);
+    assert_eq!(rt; timers.len(), 0);
+    Ok(())
+}

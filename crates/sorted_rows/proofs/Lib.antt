@@ -1,6 +1,7 @@
 pub mod KeyLemmas
 pub mod OrderLemmas
 pub mod HalvingLemmas
+pub mod SearchLemmas
 pub mod RowLemmas
 pub mod CutLemmas
 pub mod RunLemmas

@@ -1,4 +1,4 @@
-//! Rows that rise by two numbers and a text: one is found by halving, and those of one number or of one pair of numbers stand side by side.
+//! Rows that rise by two numbers and a text: one is found by a guess and halving, and those of one number or of one pair of numbers stand side by side.
 #![tactic(auto)]
 
 mod keyed;
@@ -8,6 +8,7 @@ mod keyed_by_text;
 mod places;
 mod rows;
 mod runs;
+mod searching;
 
 pub use keyed::Keyed;
 pub use rows::{cut_row, cut_rows_of, cut_rows_of_pair, has_row, place_of, put_row, row_of};

@@ -1,17 +1,10 @@
-//! How many rows stand before a key, found by halving.
+//! How many rows stand before a key, and from which place to which one rows of the same numbers stand.
 ghost use Rattle.std.specs.Prelude.{◌≡◌, ◌≤◌, ◌||◌, ◌==◌, ◌&&◌, nat_lt, nat_le, length};
 ghost use Rattle.std.specs.List.{prefix_len};
 ghost use Rattle.sorted_rows.specs.Keys.{key_before, Rises};
 
 use crate::Keyed;
-
-fn is_before<R: Keyed>(row: &R, first: u64, second: u64, text: &[u8]) -> bool
-    ensures { result ≡ key_before (R.key row.now) (record { first = first; second = second; text = text.now }) }
-{
-    row.first() < first
-        || (row.first() == first
-            && (row.second() < second || (row.second() == second && row.text().cmp(text).is_lt())))
-}
+use crate::searching::{Border, count_ahead, guess_of, near};
 
 /// How many rows stand before the key.
 pub fn count_before<R: Keyed>(rows: &[R], first: u64, second: u64, text: &[u8]) -> usize
@@ -19,7 +12,8 @@ pub fn count_before<R: Keyed>(rows: &[R], first: u64, second: u64, text: &[u8]) 
     ensures count { result ≡ prefix_len (λ row. key_before (R.key row) (record { first = first; second = second; text = text.now })) rows.now }
     ensures within { result ≤ length rows.now }
 {
-    rows.partition_point(|row| is_before(row, first, second, text))
+    let place = guess_of(rows, first, second);
+    count_ahead(rows, place, Border::Key, first, second, text)
 }
 
 /// How many rows have a lower first number.
@@ -28,16 +22,17 @@ pub fn count_lower<R: Keyed>(rows: &[R], first: u64) -> usize
     ensures count { result ≡ prefix_len (λ row. nat_lt (R.key row).first first) rows.now }
     ensures within { result ≤ length rows.now }
 {
-    rows.partition_point(|row| row.first() < first)
+    let place = guess_of(rows, first, 0);
+    count_ahead(rows, place, Border::First, first, 0, &[])
 }
 
-/// How many rows have this first number or a lower one.
-fn count_up_to<R: Keyed>(rows: &[R], first: u64) -> usize
+/// How many rows have this first number or a lower one. The search begins at the place.
+fn count_up_to<R: Keyed>(rows: &[R], first: u64, place: usize) -> usize
     requires { Rises R.key rows.now }
     ensures count { result ≡ prefix_len (λ row. nat_le (R.key row).first first) rows.now }
     ensures within { result ≤ length rows.now }
 {
-    rows.partition_point(|row| row.first() <= first)
+    count_ahead(rows, near(place), Border::UpToFirst, first, 0, &[])
 }
 
 /// How many rows have a lower pair of numbers.
@@ -46,18 +41,17 @@ pub fn count_lower_pair<R: Keyed>(rows: &[R], first: u64, second: u64) -> usize
     ensures count { result ≡ prefix_len (λ row. nat_lt (R.key row).first first || (((R.key row).first == first) && nat_lt (R.key row).second second)) rows.now }
     ensures within { result ≤ length rows.now }
 {
-    rows.partition_point(|row| row.first() < first
-        || (row.first() == first && row.second() < second))
+    let place = guess_of(rows, first, second);
+    count_ahead(rows, place, Border::Pair, first, second, &[])
 }
 
-/// How many rows have this pair of numbers or a lower one.
-fn count_up_to_pair<R: Keyed>(rows: &[R], first: u64, second: u64) -> usize
+/// How many rows have this pair of numbers or a lower one. The search begins at the place.
+fn count_up_to_pair<R: Keyed>(rows: &[R], first: u64, second: u64, place: usize) -> usize
     requires { Rises R.key rows.now }
     ensures count { result ≡ prefix_len (λ row. nat_lt (R.key row).first first || (((R.key row).first == first) && nat_le (R.key row).second second)) rows.now }
     ensures within { result ≤ length rows.now }
 {
-    rows.partition_point(|row| row.first() < first
-        || (row.first() == first && row.second() <= second))
+    count_ahead(rows, near(place), Border::UpToPair, first, second, &[])
 }
 
 /// From which place to which one the rows have this first number.
@@ -68,7 +62,8 @@ pub fn run_of<R: Keyed>(rows: &[R], first: u64) -> (usize, usize)
     ensures order { result.0 ≤ result.1 }
     ensures within { result.1 ≤ length rows.now }
 {
-    (count_lower(rows, first), count_up_to(rows, first))
+    let start = count_lower(rows, first);
+    (start, count_up_to(rows, first, start))
 }
 
 /// From which place to which one the rows have this pair of numbers.
@@ -79,8 +74,6 @@ pub fn run_of_pair<R: Keyed>(rows: &[R], first: u64, second: u64) -> (usize, usi
     ensures order { result.0 ≤ result.1 }
     ensures within { result.1 ≤ length rows.now }
 {
-    (
-        count_lower_pair(rows, first, second),
-        count_up_to_pair(rows, first, second),
-    )
+    let start = count_lower_pair(rows, first, second);
+    (start, count_up_to_pair(rows, first, second, start))
 }

@@ -1,3 +1,7 @@
 pub mod SortLemmas
 pub mod DueLemmas
 pub mod ListLemmas
+pub mod RowLemmas
+pub mod FiredLemmas
+pub mod AdvanceLemmas
+pub mod KeptLemmas

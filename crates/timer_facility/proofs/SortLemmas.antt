@@ -157,6 +157,24 @@ module _ {X : Type 0} (before : X → X → Bool) (o : IsStrictWeakOrder before)
   pub sorted_is : (xs ys : List X) → IsSortedBy before ys → IsStableBy before (reverse xs) ys → ys ≡ sorted before xs
   sorted_is xs ys up stable = same_order ys (sorted before xs) (ascends_from ys up) (sorted_ascends xs) (λ k. stable k ∙ sym (sorted_ties k xs))
 
+  filter_turned : (p : X → Bool) (xs : List X) → filter p (reverse xs) ≡ reverse (filter p xs)
+  filter_turned p [] = refl
+  filter_turned p (x ∷ xs) =
+      ap (filter p) (reverse_onto xs x []) ∙ filter_joined p (reverse xs) (x ∷ []) ∙ elim (cases_Bool (p x)) [
+        | inl passes ↦ rw passes (ap (λ front. front ++ x ∷ []) (filter_turned p xs) ∙ sym (reverse_onto (filter p xs) x []))
+        | inr fails ↦ rw fails (nothing_behind (filter p (reverse xs)) ∙ filter_turned p xs)
+      ]
+    where
+      nothing_behind : (zs : List X) → zs ++ [] ≡ zs
+      nothing_behind [] = refl
+      nothing_behind (z ∷ zs) = ap (λ rest. z ∷ rest) (nothing_behind zs)
+
+  -- two lists with the same alike things, put in order, are one
+  pub sorted_same : (xs ys : List X) → ((k : X) → filter (ties before k) xs ≡ filter (ties before k) ys) → sorted before xs ≡ sorted before ys
+  sorted_same xs ys same =
+      same_order (sorted before xs) (sorted before ys) (sorted_ascends xs) (sorted_ascends ys)
+      (λ k. sorted_ties k xs ∙ filter_turned (ties before k) xs ∙ ap reverse (same k) ∙ sym (filter_turned (ties before k) ys) ∙ sym (sorted_ties k ys))
+
 -- things in order by what they stand for
 pub inserted_mapped : {X Y : Type 0} (f : X → Y) (before : Y → Y → Bool) (x : X) (xs : List X) → map f (inserted (λ a b. before (f a) (f b)) x xs) ≡ inserted before (f x) (map f xs)
 inserted_mapped f before x [] = refl

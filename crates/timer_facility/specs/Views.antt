@@ -8,6 +8,11 @@ pub record TimersView : Type 0 where
   pub next : ℕ
   pub room : ℕ
 
+-- the timers alone, and for how many there is room
+pub record TimerRowsView : Type 0 where
+  pub timers : List Timer
+  pub room : ℕ
+
 -- by number
 abbrev pub timer_before : Timer → Timer → Bool
 timer_before x y = nat_lt x.number.0 y.number.0

@@ -2,8 +2,10 @@
 #![tactic(auto)]
 
 mod due;
+mod entries;
 mod occurrences;
 mod sweeps;
+mod timer_rows;
 mod timers;
 
 pub use occurrences::{Due, DueFault, DueList, OCCURRENCE_LIMIT};

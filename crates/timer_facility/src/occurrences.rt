@@ -1,14 +1,18 @@
 //! The occurrences that are fired as the clock comes to a moment: their number, and their list.
-ghost use Rattle.std.specs.Prelude.{◌≡◌, ◌++◌, map, OnOk, IfOk};
+ghost use Rattle.std.specs.Prelude.{◌≡◌, ◌++◌, ◌≤◌, ◌^◌, map, sum, OnOk, IfOk};
 ghost use Rattle.std.specs.Ordering.{is_lt};
 ghost use Rattle.std.specs.List.{flat_map};
 ghost use Rattle.slee_state.specs.Orders.{sorted};
-ghost use Rattle.slee_steps.specs.Timing.{fired, fired_of, fired_in_all};
+ghost use Rattle.slee_steps.specs.Timing.{fired_of, occurrence_before};
+ghost use Rattle.sorted_rows.specs.Keys.{timer_key, Rises};
+ghost use Rattle.timer_facility.specs.Indexed.{fired_at, fired_count_at};
 ghost use Rattle.timer_facility.specs.Occurrences.{occurrence, due_before};
 
 use crate::due;
+use row_index::Entry;
 use slee_state::Timer;
 use slee_value::{ActivityId, NoMemory, TimerId};
+use sorted_rows::first_row_of;
 use std::alloc::Global;
 use std::cmp::Ordering;
 
@@ -35,13 +39,25 @@ pub enum DueFault {
     NoMemory,
 }
 
-/// How many occurrences are fired as the clock comes to the moment.
-pub fn count_of_all(timers: &[Timer], to: u64) -> u128
-    ensures { result ≡ fired_in_all to timers.now }
+fn count_at(rows: &[Timer], entry: &Entry, to: u64) -> u128
+    requires { Rises timer_key rows.now }
+    ensures count { result ≡ fired_count_at rows.now to entry.now }
+    ensures bound { result ≤ 2 ^ 64 }
+{
+    match first_row_of(rows, entry.number) {
+        Some(timer) => due::count_of_fired(timer, to),
+        None => 0,
+    }
+}
+
+/// How many occurrences of the timers of these entries are fired as the clock comes to the moment.
+pub fn count_of_all(rows: &[Timer], entries: &[Entry], to: u64) -> u128
+    requires { Rises timer_key rows.now }
+    ensures { result ≡ sum (map (fired_count_at rows.now to) entries.now) }
 {
     let mut count = 0;
-    for timer in timers {
-        count += due::count_of_fired(timer, to);
+    for entry in entries {
+        count += count_at(rows, entry, to);
     }
     count
 }
@@ -70,12 +86,24 @@ fn add_occurrences(list: &mut DueList, timer: &Timer, to: u64) -> Result<(), NoM
     Ok(())
 }
 
-fn gather(alloc: Global, timers: &[Timer], to: u64) -> Result<DueList, NoMemory>
-    ensures { IfOk result (λ list. map occurrence list.items ≡ flat_map (fired_of to) timers.now) }
+/// Adds the occurrences that are fired of the timer of this entry.
+fn add_at(list: &mut DueList, rows: &[Timer], entry: &Entry, to: u64) -> Result<(), NoMemory>
+    requires { Rises timer_key rows.now }
+    ensures { OnOk result (map occurrence list.new.items ≡ map occurrence list.old.items ++ fired_at rows.now to entry.now) }
+{
+    match first_row_of(rows, entry.number) {
+        Some(timer) => add_occurrences(list, timer, to),
+        None => Ok(()),
+    }
+}
+
+fn gather(alloc: Global, rows: &[Timer], entries: &[Entry], to: u64) -> Result<DueList, NoMemory>
+    requires { Rises timer_key rows.now }
+    ensures { IfOk result (λ list. map occurrence list.items ≡ flat_map (fired_at rows.now to) entries.now) }
 {
     let mut list = Vec::new(alloc);
-    for timer in timers {
-        add_occurrences(&mut list, timer, to)?;
+    for entry in entries {
+        add_at(&mut list, rows, entry, to)?;
     }
     Ok(list)
 }
@@ -89,11 +117,17 @@ fn put_in_order(list: &mut DueList) -> Result<(), NoMemory>
     Ok(())
 }
 
-/// The occurrences that are fired as the clock comes to the moment.
-pub fn list_of_all(alloc: Global, timers: &[Timer], to: u64) -> Result<DueList, NoMemory>
-    ensures { IfOk result (λ list. map occurrence list.items ≡ fired to timers.now) }
+/// The occurrences of the timers of these entries that are fired as the clock comes to the moment.
+pub fn list_of_all(
+    alloc: Global,
+    rows: &[Timer],
+    entries: &[Entry],
+    to: u64,
+) -> Result<DueList, NoMemory>
+    requires { Rises timer_key rows.now }
+    ensures { IfOk result (λ list. map occurrence list.items ≡ sorted occurrence_before (flat_map (fired_at rows.now to) entries.now)) }
 {
-    let mut list = gather(alloc, timers, to)?;
+    let mut list = gather(alloc, rows, entries, to)?;
     put_in_order(&mut list)?;
     Ok(list)
 }

@@ -8,18 +8,17 @@ ghost use Rattle.timer_facility.specs.Occurrences.{occurrence};
 ghost use Rattle.timer_facility.specs.Faults.{IsFaultOf};
 ghost use Rattle.timer_facility.specs.Views.{timer_before};
 
-use crate::occurrences::{DueFault, DueList, OCCURRENCE_LIMIT, count_of_all, list_of_all};
-use crate::sweeps::{advance_rows, cut_rows_on};
+use crate::occurrences::{DueFault, DueList, OCCURRENCE_LIMIT};
+use crate::timer_rows::TimerRows;
 use slee_state::{Timer, TimerSpec};
 use slee_value::{ActivityId, NoMemory, TimerId};
-use sorted_rows::{cut_rows_of, first_row_of, put_row};
 use std::alloc::Global;
 use std::marker::Model;
 
 /// Timers, each with a number that is drawn once.
 #[derive(Drop)]
 pub struct Timers {
-    rows: Vec<Timer>,
+    rows: TimerRows,
     next: u64,
 }
 
@@ -42,7 +41,7 @@ impl Timers {
         ensures next { result.next ≡ 1 }
     {
         Timers {
-            rows: Vec::new(alloc),
+            rows: TimerRows::new(alloc),
             next: 1,
         }
     }
@@ -53,6 +52,7 @@ impl Timers {
         ensures below { IsTrue (are_below (λ row. row.number.0) self.now.next self.now.timers) }
     {
         let _next = self.next;
+        self.rows.ordered();
     }
 
     /// Makes room for so many more timers.
@@ -62,8 +62,7 @@ impl Timers {
         ensures room { OnOk result (timers ≤ self.new.room) }
         ensures grown { self.old.room ≤ self.new.room }
     {
-        self.rows.reserve(timers as usize)?;
-        Ok(())
+        self.rows.reserve(timers)
     }
 
     /// A new timer with the next number.
@@ -76,7 +75,7 @@ impl Timers {
         ensures room { self.old.room ≤ self.new.room + 1 }
     {
         let number = TimerId(self.next);
-        self.rows.push_reserved(Timer {
+        self.rows.add(Timer {
             number,
             activity: spec.activity,
             next: spec.start,
@@ -94,16 +93,16 @@ impl Timers {
         ensures next { self.new.next ≡ self.old.next }
         ensures room { self.old.room ≤ self.new.room }
     {
-        cut_rows_of(&mut self.rows, timer.0);
+        self.rows.cut(timer);
     }
 
-    /// No timer stands on the activity any more. All timers are looked at.
+    /// No timer stands on the activity any more. Only its timers are looked at.
     pub fn cancel_all(&mut self, activity: ActivityId)
         ensures timers { self.new.timers ≡ without_timers_on self.old.timers activity.0 }
         ensures next { self.new.next ≡ self.old.next }
         ensures room { self.old.room ≤ self.new.room }
     {
-        cut_rows_on(&mut self.rows, activity);
+        self.rows.cut_on(activity);
     }
 
     /// The occurrences that are fired as the clock comes to the moment, by moment and then by timer.
@@ -112,23 +111,23 @@ impl Timers {
         ensures few { OnOk result (fired_in_all to self.now.timers ≤ occurrence_limit) }
         ensures fault { IfErr result (λ fault. IsFaultOf (fired_in_all to self.now.timers) fault) }
     {
-        let count = count_of_all(&self.rows, to);
+        let count = self.rows.count_of_fired(to);
         if count > OCCURRENCE_LIMIT {
             return Err(DueFault::TooMany { count });
         }
-        match list_of_all(alloc, &self.rows, to) {
+        match self.rows.list_of_fired(alloc, to) {
             Ok(list) => Ok(list),
             Err(_) => Err(DueFault::NoMemory),
         }
     }
 
-    /// The due occurrences are used up, and a timer without an occurrence left is gone. All timers are looked at.
+    /// The due occurrences are used up, and a timer without an occurrence left is gone. Only the timers that are due are looked at.
     pub fn advance(&mut self, to: u64)
         ensures timers { self.new.timers ≡ advanced self.old.timers to }
         ensures next { self.new.next ≡ self.old.next }
         ensures room { self.old.room ≤ self.new.room }
     {
-        advance_rows(&mut self.rows, to);
+        self.rows.advance(to);
     }
 
     /// Puts a timer back with its number. Another one of this number gives way.
@@ -139,7 +138,8 @@ impl Timers {
         ensures next { self.new.next ≡ self.old.next }
         ensures room { self.old.room ≤ self.new.room + 1 }
     {
-        put_row(&mut self.rows, timer);
+        self.rows.cut(timer.number);
+        self.rows.add(timer);
     }
 
     /// The number that the next timer has.
@@ -161,7 +161,7 @@ impl Timers {
     pub fn len(&self) -> u64
         ensures { result ≡ length self.now.timers }
     {
-        self.rows.len() as u64
+        self.rows.timers().len() as u64
     }
 
     /// The timer at this place; they rise by number.
@@ -169,13 +169,13 @@ impl Timers {
         requires { place < length self.now.timers }
         ensures { slice_get self.now.timers place ≡ Some result.now }
     {
-        &self.rows[place as usize]
+        &self.rows.timers()[place as usize]
     }
 
     /// The timer of this number.
     pub fn find(&self, timer: TimerId) -> Option<&Timer>
         ensures { option_copied result ≡ timer_at self.now.timers timer.0 }
     {
-        first_row_of(&self.rows, timer.0)
+        self.rows.find(timer)
     }
 }

@@ -1,0 +1,5 @@
+pub mod SumLemmas
+pub mod IndexLemmas
+pub mod FoundLemmas
+pub mod OrderingLemmas
+pub mod RowLemmas

@@ -1,0 +1,250 @@
+-- One timer behind its due occurrences, and what is then left to be done.
+use Rattle.std.proofs.Common.{◌≡◌, ℕ, zero, suc, ◌+◌, ◌-◌, ◌*◌, ◌<◌, ◌≤◌, ◌==◌, Bool, true, false, cond, List, [], ◌∷◌, ◌++◌, Option, Some, None, map, set, slice_get, refl, sym, ap, subst, ◌∙◌, arith, inl, inr}
+use Rattle.std.specs.Prelude.{not, nat_lt, nat_le, min, ◌/◌, ◌&&◌, ◌||◌}
+use Rattle.std.specs.List.{AllByRecursion, filter, find, count_by, list_any, sum_by, position_from}
+use Rattle.std.proofs.Math.Nat.{lt-div-mul-add, suc-mul}
+use Rattle.std.proofs.lemmas.Bool.{cases_Bool}
+use Rattle.std.proofs.lemmas.Bool.Decides.{nat_tests}
+use Rattle.std.proofs.lemmas.List.Sums.{sum_by-cons}
+use Rattle.slee_state.specs.Orders.{put}
+use Rattle.slee_state.specs.Timers.{advanced, behind, due_count, goes_on, last_moment, left_behind, repeated, timer_at, without_timer}
+use Rattle.slee_state.specs.declared.rows.Timer.{Timer}
+use Rattle.sorted_rows.specs.Keys.{is_key, key_before, number_key, pair_key, timer_key, Rises}
+use Rattle.sorted_rows.proofs.ChangeLemmas.{changed_is, number_is}
+use Rattle.sorted_rows.proofs.NumberLemmas.{rises_map}
+use Rattle.sorted_rows.proofs.OrderLemmas.{AllInOrder, IsBefore, all_from_all, filter_rises, in_order}
+use Rattle.row_index.specs.declared.entry.Entry.{Entry}
+use Rattle.row_index.specs.Index.{entry_key, IsIndex}
+use Rattle.row_index.proofs.IndexLemmas.{index_put, rows_fail}
+use Rattle.row_index.proofs.SumLemmas.{one_if, sum_agree, sum_mapped, all_passed}
+use Rattle.slee_value.specs.declared.ids.TimerId.{TimerId}
+use Rattle.timer_facility.specs.Indexed.{activity_entry, is_due, moment_entry, moved_on}
+use Rattle.row_index.proofs.RowLemmas.{all_stay, each_fails, filter_behind, found_number, indexed_cut, other_key, same_key}
+use Rattle.timer_facility.proofs.RowLemmas.{only_timer}
+
+abbrev goes : ℕ → Timer → Bool
+goes to t = goes_on t (due_count t to)
+
+abbrev move : ℕ → Timer → Timer
+move to t = behind t (due_count t to)
+
+second : (a b c : Bool) → a ≡ false → (a || (b && c)) ≡ true → b ≡ true
+second true b c fails is = cc
+second false true c fails is = refl
+second false false c fails is = cc
+
+other : (a b : Bool) → a ≡ false → (a || b) ≡ true → b ≡ true
+other true b fails either = cc
+other false b fails either = either
+
+-- where a timer with a period goes on, all due occurrences of the period are used up
+used_is : (t : Timer) (to : ℕ) → goes to t ≡ true → (t.period == 0) ≡ false → nat_lt to t.next ≡ false → due_count t to ≡ repeated t to
+used_is t to on many due = elim (cases_Bool (t.left == 0)) [
+  | inl endless ↦ rw (due, many, endless) refl
+  | inr ends ↦
+      let is : due_count t to ≡ min (repeated t to) t.left = rw (due, many, ends) refl in
+      let some : 0 < t.left = grind (arith, nat_tests, ends) in
+      let used : (due_count t to == 0) ≡ false = grind (arith, nat_tests, is, some) in
+      let left : (t.left == 0 || nat_lt (due_count t to) t.left) ≡ true = second (due_count t to == 0) _ _ used on in
+      let below : nat_lt (due_count t to) t.left ≡ true = other (t.left == 0) (nat_lt (due_count t to) t.left) ends left in
+      let less : due_count t to < t.left = grind (arith, nat_tests, below) in
+      omega (arith, is, less)
+]
+
+-- then it isn't due any more
+pub moved_later : (t : Timer) (to : ℕ) → goes to t ≡ true → (t.period == 0) ≡ false → nat_le t.next to ≡ true → nat_le (move to t).next to ≡ false
+moved_later t to on many due =
+    let early : nat_lt to t.next ≡ false = grind (arith, nat_tests, due) in
+    let reached : t.next ≤ to = grind (arith, nat_tests, due) in
+    let some : 0 < t.period = grind (arith, nat_tests, many) in
+    let whole = used_is t to on many early in
+    let q = (to - t.next) / t.period in
+    let far : to - t.next < q * t.period + t.period = lt-div-mul-add {a = to - t.next} {b = t.period} some in
+    let one : (q + 1) * t.period ≡ q * t.period + t.period = ap (λ n. n * t.period) (omega arith) ∙ suc-mul q t.period in
+    let next : (move to t).next ≡ t.next + (q * t.period + t.period) = ap (λ n. t.next + n) (ap (λ n. n * t.period) whole ∙ one) in
+    let later : to < (move to t).next = omega (arith, next, far, reached) in
+    grind (arith, nat_tests, later)
+
+pub none_used : (t : Timer) (to : ℕ) → nat_le t.next to ≡ false → due_count t to ≡ 0
+none_used t to late = let less : nat_lt to t.next ≡ true = grind (arith, nat_tests, late) in rw less refl
+
+-- a timer that isn't due stays as it is
+pub still_goes : (t : Timer) (to : ℕ) → nat_le t.next to ≡ false → goes to t ≡ true
+still_goes t to late = rw (none_used t to late) refl
+
+pub still_same : (t : Timer) (to : ℕ) → nat_le t.next to ≡ false → move to t ≡ t
+still_same t to late =
+    let next : t.next + 0 * t.period ≡ t.next = omega arith in
+    let left : left_behind t 0 ≡ t.left = elim (cases_Bool (t.left == 0)) [
+      | inl none ↦ let is : t.left ≡ 0 = grind (arith, nat_tests, none) in rw none (sym is)
+      | inr some ↦ rw some (omega arith)
+    ] in
+    ap (behind t) (none_used t to late) ∙ (λ i. record t { next = next i; left = left i })
+
+-- a change that leaves what the sweep makes of each row
+swept_same : (p : Timer → Bool) (f m : Timer → Timer) (rows : List Timer) → AllByRecursion (λ x. (p (m x) ≡ p x) × (p x ≡ true → f (m x) ≡ f x)) rows → map f (filter p (map m rows)) ≡ map f (filter p rows)
+swept_same p f m [] all = refl
+swept_same p f m (x ∷ xs) all = elim (cases_Bool (p x)) [
+  | inl stays ↦
+      let also : p (m x) ≡ true = all.0.0 ∙ stays in
+      rw (stays, also, all.0.1 stays) (ap (λ rest. f x ∷ rest) (swept_same p f m xs all.1))
+  | inr gone ↦ let also : p (m x) ≡ false = all.0.0 ∙ gone in rw (gone, also) (swept_same p f m xs all.1)
+]
+
+module _ (n to : ℕ) (found : Timer) (rows : List Timer) (rises : Rises timer_key rows) (is : timer_at rows n ≡ Some found) where
+  found_mine : (found.number.0 == n) ≡ true
+  found_mine = let same = found_number (λ (t : Timer). t.number.0) n found rows is in grind (arith, nat_tests, same)
+
+  moved_mine : (row : Timer) → (row.number.0 == n) ≡ true → moved_on n to row ≡ move to row
+  moved_mine row mine = rw mine refl
+
+  moved_other : (row : Timer) → (row.number.0 == n) ≡ false → moved_on n to row ≡ row
+  moved_other row other = rw other refl
+
+  -- what is left to be done is the same
+  pub advanced_moved : goes to found ≡ true → nat_le (move to found).next to ≡ false → advanced (map (moved_on n to) rows) to ≡ advanced rows to
+  advanced_moved on later =
+      swept_same (goes to) (move to) (moved_on n to) rows
+      (all_from_all (λ row. (row.number.0 == n) ≡ true → row ≡ found) (λ row. (goes to (moved_on n to row) ≡ goes to row) × (goes to row ≡ true → move to (moved_on n to row) ≡ move to row)) one rows (only_timer n found rows rises is))
+    where
+      one : (row : Timer) → ((row.number.0 == n) ≡ true → row ≡ found) → (goes to (moved_on n to row) ≡ goes to row) × (goes to row ≡ true → move to (moved_on n to row) ≡ move to row)
+      one row only = elim (cases_Bool (row.number.0 == n)) [
+        | inl mine ↦
+            let same = only mine in
+            let moved = moved_mine row mine in
+            let late : nat_le (move to row).next to ≡ false = ap (λ (t : Timer). nat_le (move to t).next to) same ∙ later in
+            let goes_too : goes to row ≡ true = ap (goes to) same ∙ on in
+            (ap (goes to) moved ∙ still_goes (move to row) to late ∙ sym goes_too, λ _. ap (move to) moved ∙ still_same (move to row) to late)
+        | inr other ↦ (ap (goes to) (moved_other row other), λ _. ap (move to) (moved_other row other))
+      ]
+
+  pub advanced_cut : goes to found ≡ false → advanced (without_timer rows n) to ≡ advanced rows to
+  advanced_cut ends =
+      ap (map (move to)) (filter_behind (goes to) (λ row. not (row.number.0 == n)) rows
+      (all_from_all (λ row. (row.number.0 == n) ≡ true → row ≡ found) (λ row. not (row.number.0 == n) ≡ false → goes to row ≡ false) one rows (only_timer n found rows rises is)))
+    where
+      one : (row : Timer) → ((row.number.0 == n) ≡ true → row ≡ found) → not (row.number.0 == n) ≡ false → goes to row ≡ false
+      one row only gone = elim (cases_Bool (row.number.0 == n)) [
+        | inl mine ↦ ap (goes to) (only mine) ∙ ends
+        | inr other ↦ let wrong : true ≡ false = rw other at gone in cc
+      ]
+
+  -- a sum parts into the one of the number and the others
+  pub sum_found : (g : Timer → ℕ) → sum_by g rows ≡ g found + sum_by g (without_timer rows n)
+  sum_found g = by rows (in_order timer_key rows rises) is
+    where
+      by : (rows : List Timer) → AllInOrder (IsBefore timer_key) rows → timer_at rows n ≡ Some found → sum_by g rows ≡ g found + sum_by g (without_timer rows n)
+      by [] order at = cc
+      by (x ∷ xs) order at = elim (cases_Bool (x.number.0 == n)) [
+        | inl mine ↦
+            let first : Some x ≡ Some found = rw mine at at in
+            let same : x ≡ found = cc in
+            let others = all_from_all (IsBefore timer_key x) (λ row. (row.number.0 == n) ≡ false) (λ row above. grind (arith, nat_tests, mine, above)) xs order.0 in
+            let rest : without_timer (x ∷ xs) n ≡ xs = rw mine (all_stay (λ (row : Timer). row.number.0 == n) xs others) in
+            sum_by-cons g x xs ∙ ap (λ (y : Timer). g y + sum_by g xs) same ∙ ap (λ ys. g found + sum_by g ys) (sym rest)
+        | inr other ↦
+            let later : timer_at xs n ≡ Some found = rw other at at in
+            let more = by xs order.1 later in
+            let step = sum_by-cons g x xs in
+            let also : sum_by g (without_timer (x ∷ xs) n) ≡ g x + sum_by g (without_timer xs n) = rw other (sum_by-cons g x (without_timer xs n)) in
+            omega (arith, more, step, also)
+      ]
+
+  others_same : (g : Timer → ℕ) → sum_by (λ row. g (moved_on n to row)) (without_timer rows n) ≡ sum_by g (without_timer rows n)
+  others_same g =
+      sum_agree (λ row. g (moved_on n to row)) g (without_timer rows n)
+      (all_from_all (λ row. not (row.number.0 == n) ≡ true) (λ row. g (moved_on n to row) ≡ g row) one (without_timer rows n) (all_passed (λ row. not (row.number.0 == n)) rows))
+    where
+      one : (row : Timer) → not (row.number.0 == n) ≡ true → g (moved_on n to row) ≡ g row
+      one row stays = elim (cases_Bool (row.number.0 == n)) [
+        | inl mine ↦ let wrong : false ≡ true = rw mine at stays in cc
+        | inr other ↦ ap g (moved_other row other)
+      ]
+
+  pub sum_moved : (g : Timer → ℕ) → sum_by g (map (moved_on n to) rows) ≡ g (move to found) + sum_by g (without_timer rows n)
+  sum_moved g =
+      sum_mapped g (moved_on n to) rows ∙ sum_found (λ row. g (moved_on n to row)) ∙ ap (λ (t : Timer). g t + sum_by (λ row. g (moved_on n to row)) (without_timer rows n)) (moved_mine found found_mine)
+      ∙ ap (λ k. g (move to found) + k) (others_same g)
+
+  pub fewer_moved : nat_le found.next to ≡ true → nat_le (move to found).next to ≡ false → count_by (is_due to) (map (moved_on n to) rows) < count_by (is_due to) rows
+  fewer_moved due later =
+      let before = sum_found (one_if (is_due to)) in
+      let after = sum_moved (one_if (is_due to)) in
+      let one : one_if (is_due to) found ≡ 1 = rw due refl in
+      let none : one_if (is_due to) (move to found) ≡ 0 = rw later refl in
+      omega (arith, before, after, one, none)
+
+  pub fewer_cut : nat_le found.next to ≡ true → count_by (is_due to) (without_timer rows n) < count_by (is_due to) rows
+  fewer_cut due =
+      let before = sum_found (one_if (is_due to)) in
+      let one : one_if (is_due to) found ≡ 1 = rw due refl in
+      omega (arith, before, one)
+
+  -- the moved timer's entry takes the place of its old one
+  pub indexed_moved : (entries : List Entry) → IsIndex moment_entry rows entries
+      → IsIndex moment_entry (map (moved_on n to) rows) (put (λ x y. key_before (entry_key x) (entry_key y)) (moment_entry (move to found)) (filter (λ e. not (is_key (entry_key e) (pair_key found.next n))) entries))
+  indexed_moved entries index =
+      index_put moment_entry (move to found) (without_timer rows n) (map (moved_on n to) rows) _ (indexed_cut (λ (t : Timer). t.number.0) (λ t. t.next) timer_key (λ x. refl) n found rows entries rises index is)
+      (all_from_all (λ row. not (row.number.0 == n) ≡ true) (λ row. is_key (entry_key (moment_entry row)) (entry_key (moment_entry (move to found))) ≡ false) one (without_timer rows n) (all_passed (λ row. not (row.number.0 == n)) rows))
+      sum_moved
+    where
+      one : (row : Timer) → not (row.number.0 == n) ≡ true → is_key (entry_key (moment_entry row)) (entry_key (moment_entry (move to found))) ≡ false
+      one row stays =
+          let number = found_number (λ (t : Timer). t.number.0) n found rows is in
+          let other : (row.number.0 == found.number.0) ≡ false = grind (arith, nat_tests, stays, number) in
+          other_key row.next (move to found).next row.number.0 found.number.0 other
+
+-- the timers where one that stands at its place is moved on
+pub moved_at : (to place : ℕ) (timer : Timer) (rows : List Timer) → Rises timer_key rows → position_from (λ row. row.number.0 == timer.number.0) 0 rows ≡ Some place → slice_get rows place ≡ Some timer
+    → set rows place (move to timer) ≡ map (moved_on timer.number.0 to) rows
+moved_at to place timer rows rises position at =
+    let n = timer.number.0 in
+    let mine : (timer.number.0 == timer.number.0) ≡ true = grind (arith, nat_tests) in
+    let itself : moved_on n to timer ≡ move to timer = rw mine refl in
+    let key = (λ i. position_from (λ (row : Timer). number_is row.number.0 n i) 0 rows) ∙ position in
+    ap (set rows place) (sym itself) ∙ changed_is timer_key (number_key n) (moved_on n to) stays timer place rows rises key at
+  where
+    stays : (x : Timer) → is_key (timer_key x) (number_key timer.number.0) ≡ false → moved_on timer.number.0 to x ≡ x
+    stays x other = let apart : (x.number.0 == timer.number.0) ≡ false = sym (number_is x.number.0 timer.number.0) ∙ other in rw apart refl
+
+pub moved_number : (n to : ℕ) (x : Timer) → (moved_on n to x).number ≡ x.number
+moved_number n to x = elim (cases_Bool (x.number.0 == n)) [ inl mine ↦ rw mine refl | inr other ↦ rw other refl ]
+
+pub moved_activity : (n to : ℕ) (x : Timer) → (moved_on n to x).activity ≡ x.activity
+moved_activity n to x = elim (cases_Bool (x.number.0 == n)) [ inl mine ↦ rw mine refl | inr other ↦ rw other refl ]
+
+-- where none is due, nothing is left to be done
+pub advanced_done : (to : ℕ) (rows : List Timer) → AllByRecursion (λ t. is_due to t ≡ false) rows → advanced rows to ≡ rows
+advanced_done to [] none = refl
+advanced_done to (x ∷ xs) none = rw (still_goes x to none.0, still_same x to none.0) (ap (λ rest. x ∷ rest) (advanced_done to xs none.1))
+
+pub each_keeps : (n to : ℕ) (x : Timer) → timer_key (moved_on n to x) ≡ timer_key x
+each_keeps n to x = ap (λ (id : TimerId). number_key id.0) (moved_number n to x)
+
+pub activities_keep : (n to : ℕ) (rows : List Timer) → AllByRecursion (λ row. activity_entry (moved_on n to row) ≡ activity_entry row) rows
+activities_keep n to [] = tt
+activities_keep n to (x ∷ xs) = ((λ i. record { key = (moved_activity n to x i).0; number = (moved_number n to x i).0 }), activities_keep n to xs)
+
+-- the entry of a timer that is there is there
+pub entry_there : (n : ℕ) (found : Timer) (rows : List Timer) (entries : List Entry) → Rises timer_key rows → IsIndex moment_entry rows entries → timer_at rows n ≡ Some found
+    → list_any (λ e. is_key (entry_key e) (pair_key found.next n)) entries ≡ true
+entry_there n found rows entries rises index is = elim (cases_Bool (list_any (λ (e : Entry). is_key (entry_key e) (pair_key found.next n)) entries)) [
+  | inl there ↦ there
+  | inr absent ↦
+      let none = rows_fail moment_entry (λ (e : Entry). is_key (entry_key e) (pair_key found.next n)) rows entries index (each_fails (λ (e : Entry). is_key (entry_key e) (pair_key found.next n)) entries absent) in
+      let number = found_number (λ (t : Timer). t.number.0) n found rows is in
+      let mine = same_key found.next found.next found.number.0 n refl number in
+      let wrong : false ≡ true = sym (found_fails (λ row. is_key (entry_key (moment_entry row)) (pair_key found.next n)) n found rows none is) ∙ mine in
+      absurd (cc)
+]
+  where
+    found_fails : (q : Timer → Bool) (n : ℕ) (found : Timer) (rows : List Timer) → AllByRecursion (λ row. q row ≡ false) rows → timer_at rows n ≡ Some found → q found ≡ false
+    found_fails q n found [] none is = absurd (cc)
+    found_fails q n found (x ∷ xs) none is = elim (cases_Bool (x.number.0 == n)) [
+      | inl mine ↦ let first : Some x ≡ Some found = rw mine at is in let same : x ≡ found = cc in ap q (sym same) ∙ none.0
+      | inr other ↦ found_fails q n found xs none.1 (rw other at is)
+    ]
+
+-- timers keep their numbers
+pub advanced_rises : (to : ℕ) (rows : List Timer) → Rises timer_key rows → Rises timer_key (advanced rows to)
+advanced_rises to rows rises = rises_map timer_key (move to) (λ x. refl) (filter (goes to) rows) (filter_rises timer_key (goes to) rows rises)

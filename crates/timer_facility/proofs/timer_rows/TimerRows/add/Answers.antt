@@ -1,0 +1,19 @@
+-- each index has the new timer
+use Rattle.std.proofs.Common.{◌∙◌, refl}
+use Rattle.slee_state.specs.declared.rows.Timer.{Timer}
+use Rattle.sorted_rows.proofs.AgreeLemmas.{timer_put}
+use Rattle.sorted_rows.specs.Keys.{timer_key}
+use Rattle.row_index.proofs.RowLemmas.{indexed_put}
+use Rattle.timer_facility.proofs.timer_rows.TimerRows.add.Goals as goal
+
+pub invariant_of-self : goal.invariant_of-self
+invariant_of-self c =
+    let absent = rw (← c.self.view_is) at c.requires.absent in
+    record {
+      rises = c.put_row-3.ensures.rises;
+      moments = rw (c.put_row.ensures.items, c.moment_entry.ensures) (indexed_put (λ (t : Timer). t.number.0) (λ (t : Timer). t.next) timer_key (λ x. refl) c.args.timer c.self.inside.rows.items _ c.self.inside.by_moment.items c.self.invariant.rises c.self.invariant.moments absent c.put_row-3.ensures.items);
+      activities = rw (c.put_row-2.ensures.items, c.activity_entry.ensures) (indexed_put (λ (t : Timer). t.number.0) (λ (t : Timer). t.activity.0) timer_key (λ x. refl) c.args.timer c.self.inside.rows.items _ c.self.inside.by_activity.items c.self.invariant.rises c.self.invariant.activities absent c.put_row-3.ensures.items);
+    }
+
+pub returns-clause-timers : goal.returns-clause-timers
+returns-clause-timers c = rw (← c.self.view_is) (c.put_row-3.ensures.items ∙ timer_put c.args.timer c.self.inside.rows.items)
