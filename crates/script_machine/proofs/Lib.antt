@@ -1,3 +1,4 @@
 pub mod KindLemmas
+pub mod NumberLemmas
 pub mod VariableLemmas
 pub mod EffectLemmas

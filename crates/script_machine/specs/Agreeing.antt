@@ -1,7 +1,8 @@
 -- What a function of the machine answers: what the meaning of that part of a script says, from the state before to the state behind it.
-use Rattle.std.specs.Prelude.{◌≡◌, Result, Ok, Err}
+use Rattle.std.specs.Prelude.{◌≡◌, Option, Some, None, Result, Ok, Err}
 use Rattle.handler_meaning.specs.declared.outcome.FailKind.TheVariants as f
 use Rattle.handler_meaning.specs.Running.{State, Ending, Gave, Broke, Needs, Stays, Run, word_of}
+use Rattle.slee_effect.specs.declared.value.Val.{Val}
 use Rattle.script_machine.specs.declared.stop.Stop.{Stop}
 use Rattle.script_machine.specs.declared.stop.Stop.TheVariants as stop
 
@@ -27,3 +28,9 @@ EndsAs view ending new (Err e) = Stops ending new e
 
 abbrev pub AgreesAs : {A B : Type 0} → (B → A) → Run A → State → State → Result B Stop → Type 0
 AgreesAs view run old new result = EndsAs view (run old) new result
+
+-- what a part gives, where it is of one type; where it gives something of another, only that
+abbrev pub EndsFinding : {A : Type 0} → (A → Val) → (Val → Type 0) → Ending Val → State → Result (Option A) Stop → Type 0
+EndsFinding value_of other ending new (Ok (Some x)) = ending ≡ Gave (value_of x) new
+EndsFinding value_of other ending new (Ok None) = (x : Val) × (other x × (ending ≡ Gave x new))
+EndsFinding value_of other ending new (Err e) = Stops ending new e

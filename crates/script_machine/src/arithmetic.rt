@@ -1,96 +1,102 @@
 //! Numbers: what operators make of them, within 64 bits.
 ghost use Rattle.std.specs.Prelude.{◌≡◌, ℤ, pos, ◌+ℤ◌, ◌-ℤ◌, ◌*ℤ◌, int_div, int_rem, neg_ℤ};
-ghost use Rattle.handler_meaning.specs.Values.{number, divided, with_int, two_ints};
-ghost use Rattle.script_machine.specs.Agreeing.{Agrees};
+ghost use Rattle.handler_meaning.specs.Values.{int, number, divided, apply};
+ghost use Rattle.script_machine.specs.Agreeing.{AgreesAs};
+ghost use Rattle.script_machine.specs.Kinds.{is_arithmetic};
 
-use crate::kinds::int_of;
 use crate::{Machine, Stop};
 use handler_meaning::FailKind;
-use slee_effect::Val;
-use slee_value::Value;
+use script_types::Joint;
+
+/// Whether an operator is one between numbers.
+pub fn is_arithmetic(joint: Joint) -> bool
+    ensures { result ≡ is_arithmetic joint }
+{
+    match joint {
+        Joint::Add | Joint::Subtract | Joint::Multiply | Joint::Divide | Joint::Remainder => true,
+        Joint::Join | Joint::Both | Joint::Either => false,
+    }
+}
 
 impl Machine {
     /// A number less than nothing by as much as this one is more.
-    #[tactic(auto, using(crate::proofs::KindLemmas::no_int_stays))]
-    pub fn negative(&self, x: &Val) -> Result<Val, Stop>
-        ensures { Agrees (with_int x.now (λ n. number (neg_ℤ n))) self.now self.now result }
+    pub fn negative(&self, n: i64) -> Result<i64, Stop>
+        ensures { AgreesAs int (number (neg_ℤ n)) self.now self.now result }
     {
-        let n = int_of(x)?;
         match n.checked_neg() {
-            Some(n) => Ok(Val::Plain(Value::Int(n))),
+            Some(n) => Ok(n),
             None => Err(Stop::Broken(FailKind::Overflow)),
         }
     }
 
     /// The sum of two numbers.
-    #[tactic(auto, using(crate::proofs::KindLemmas::no_int_stays))]
-    pub(crate) fn sum(&self, x: &Val, y: &Val) -> Result<Val, Stop>
-        ensures { Agrees (two_ints (λ m n. number (m +ℤ n)) x.now y.now) self.now self.now result }
+    fn sum(&self, m: i64, n: i64) -> Result<i64, Stop>
+        ensures { AgreesAs int (number (m +ℤ n)) self.now self.now result }
     {
-        let m = int_of(x)?;
-        let n = int_of(y)?;
         match m.checked_add(n) {
-            Some(n) => Ok(Val::Plain(Value::Int(n))),
+            Some(n) => Ok(n),
             None => Err(Stop::Broken(FailKind::Overflow)),
         }
     }
 
     /// By how much the first is above the second.
-    #[tactic(auto, using(crate::proofs::KindLemmas::no_int_stays))]
-    pub(crate) fn difference(&self, x: &Val, y: &Val) -> Result<Val, Stop>
-        ensures { Agrees (two_ints (λ m n. number (m -ℤ n)) x.now y.now) self.now self.now result }
+    fn difference(&self, m: i64, n: i64) -> Result<i64, Stop>
+        ensures { AgreesAs int (number (m -ℤ n)) self.now self.now result }
     {
-        let m = int_of(x)?;
-        let n = int_of(y)?;
         match m.checked_sub(n) {
-            Some(n) => Ok(Val::Plain(Value::Int(n))),
+            Some(n) => Ok(n),
             None => Err(Stop::Broken(FailKind::Overflow)),
         }
     }
 
     /// The product of two numbers.
-    #[tactic(auto, using(crate::proofs::KindLemmas::no_int_stays))]
-    pub(crate) fn product(&self, x: &Val, y: &Val) -> Result<Val, Stop>
-        ensures { Agrees (two_ints (λ m n. number (m *ℤ n)) x.now y.now) self.now self.now result }
+    fn product(&self, m: i64, n: i64) -> Result<i64, Stop>
+        ensures { AgreesAs int (number (m *ℤ n)) self.now self.now result }
     {
-        let m = int_of(x)?;
-        let n = int_of(y)?;
         match m.checked_mul(n) {
-            Some(n) => Ok(Val::Plain(Value::Int(n))),
+            Some(n) => Ok(n),
             None => Err(Stop::Broken(FailKind::Overflow)),
         }
     }
 
     /// The quotient, cut toward zero.
-    #[tactic(auto, using(crate::proofs::KindLemmas::no_int_stays))]
-    pub(crate) fn quotient(&self, x: &Val, y: &Val) -> Result<Val, Stop>
-        ensures { Agrees (two_ints (divided int_div) x.now y.now) self.now self.now result }
+    fn quotient(&self, m: i64, n: i64) -> Result<i64, Stop>
+        ensures { AgreesAs int (divided int_div m n) self.now self.now result }
     {
-        let m = int_of(x)?;
-        let n = int_of(y)?;
         if n == 0 {
             return Err(Stop::Broken(FailKind::ZeroDivisor));
         }
         match m.checked_div(n) {
-            Some(n) => Ok(Val::Plain(Value::Int(n))),
+            Some(n) => Ok(n),
             None => Err(Stop::Broken(FailKind::Overflow)),
         }
     }
 
     /// What remains of a division, with the sign of the dividend.
-    #[tactic(auto, using(crate::proofs::KindLemmas::no_int_stays))]
-    pub(crate) fn remainder(&self, x: &Val, y: &Val) -> Result<Val, Stop>
-        ensures { Agrees (two_ints (divided int_rem) x.now y.now) self.now self.now result }
+    fn remainder(&self, m: i64, n: i64) -> Result<i64, Stop>
+        ensures { AgreesAs int (divided int_rem m n) self.now self.now result }
     {
-        let m = int_of(x)?;
-        let n = int_of(y)?;
         if n == 0 {
             return Err(Stop::Broken(FailKind::ZeroDivisor));
         }
         // The least number divided by -1 has no quotient, but leaves nothing.
         if n == -1 {
-            return Ok(Val::Plain(Value::Int(0)));
+            return Ok(0);
         }
-        Ok(Val::Plain(Value::Int(m % n)))
+        Ok(m % n)
+    }
+
+    /// What an operator makes of two numbers.
+    pub fn calculate(&self, joint: Joint, m: i64, n: i64) -> Result<i64, Stop>
+        ensures { AgreesAs int (apply joint (int m) (int n)) self.now self.now result }
+    {
+        match joint {
+            Joint::Add => self.sum(m, n),
+            Joint::Subtract => self.difference(m, n),
+            Joint::Multiply => self.product(m, n),
+            Joint::Divide => self.quotient(m, n),
+            Joint::Remainder => self.remainder(m, n),
+            Joint::Join | Joint::Both | Joint::Either => Err(Stop::Unchecked),
+        }
     }
 }

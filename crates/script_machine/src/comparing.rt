@@ -1,8 +1,9 @@
 //! Comparing values, and what truth values decide.
 ghost use Rattle.std.specs.Prelude.{◌≡◌, Bool};
-ghost use Rattle.handler_meaning.specs.Values.{same_values, is_less, compare, decides, same_bool, flag};
+ghost use Rattle.handler_meaning.specs.Values.{same_values, is_less, compare, decides, same_bool, int, flag};
 ghost use Rattle.handler_meaning.specs.Overlay.{same_ref};
 ghost use Rattle.script_machine.specs.Agreeing.{Agrees, AgreesAs};
+ghost use Rattle.script_machine.specs.Kinds.{is_of_numbers};
 
 use crate::kinds::{activity_of, flag_of, int_of, text_of, timer_of};
 use crate::{Machine, Stop};
@@ -19,6 +20,24 @@ pub fn is_decided(joint: Joint, x: &Val) -> bool
         (Joint::Both, Val::Plain(Value::Bool(flag))) => !*flag,
         (Joint::Either, Val::Plain(Value::Bool(flag))) => *flag,
         _ => false,
+    }
+}
+
+/// Whether a comparison is one of numbers.
+pub fn is_of_numbers(test: Test) -> bool
+    ensures { result ≡ is_of_numbers test }
+{
+    match test {
+        Test::Same(kind) | Test::Unlike(kind) => match kind {
+            Kind::Int => true,
+            Kind::Text | Kind::Bool | Kind::Activity | Kind::Timer => false,
+        },
+        Test::Below(scale) | Test::AtMost(scale) | Test::Above(scale) | Test::AtLeast(scale) => {
+            match scale {
+                Scale::Int => true,
+                Scale::Text => false,
+            }
+        }
     }
 }
 
@@ -62,6 +81,40 @@ impl Machine {
         match scale {
             Scale::Int => Ok(int_of(x)? < int_of(y)?),
             Scale::Text => Ok(text_of(x)?.compare(text_of(y)?) == Ordering::Less),
+        }
+    }
+
+    /// Whether two numbers are the same.
+    fn same_numbers(&self, kind: Kind, m: i64, n: i64) -> Result<bool, Stop>
+        ensures { Agrees (same_values kind (int m) (int n)) self.now self.now result }
+    {
+        match kind {
+            Kind::Int => Ok(m == n),
+            Kind::Text | Kind::Bool | Kind::Activity | Kind::Timer => Err(Stop::Unchecked),
+        }
+    }
+
+    /// Whether one number is below another.
+    fn is_less_number(&self, scale: Scale, m: i64, n: i64) -> Result<bool, Stop>
+        ensures { Agrees (is_less scale (int m) (int n)) self.now self.now result }
+    {
+        match scale {
+            Scale::Int => Ok(m < n),
+            Scale::Text => Err(Stop::Unchecked),
+        }
+    }
+
+    /// A comparison of two numbers.
+    pub fn compare_numbers(&self, test: Test, m: i64, n: i64) -> Result<bool, Stop>
+        ensures { AgreesAs flag (compare test (int m) (int n)) self.now self.now result }
+    {
+        match test {
+            Test::Same(kind) => self.same_numbers(kind, m, n),
+            Test::Unlike(kind) => Ok(!self.same_numbers(kind, m, n)?),
+            Test::Below(scale) => self.is_less_number(scale, m, n),
+            Test::AtMost(scale) => Ok(!self.is_less_number(scale, n, m)?),
+            Test::Above(scale) => self.is_less_number(scale, n, m),
+            Test::AtLeast(scale) => Ok(!self.is_less_number(scale, m, n)?),
         }
     }
 

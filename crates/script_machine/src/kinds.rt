@@ -1,10 +1,31 @@
 //! Reading values whose type is known.
 ghost use Rattle.handler_meaning.specs.Values.{int, text, flag, activity_value};
-ghost use Rattle.script_machine.specs.Kinds.{Reads, NoInt, NoText, NoFlag, NoActivity, NoTimer, timer_value};
+ghost use Rattle.slee_effect.specs.declared.value.Val.TheVariants.{Plain};
+ghost use Rattle.script_machine.specs.Kinds.{Reads, Finds, NoInt, NoText, NoFlag, NoActivity, NoTimer, timer_value};
 
 use crate::Stop;
 use slee_effect::{Ref, Val};
 use slee_value::{ActivityId, Text, TimerId, Value};
+
+/// The number in a value, if it is one.
+pub fn int_in(value: &Value) -> Option<i64>
+    ensures { Finds int NoInt (Plain value.now) result }
+{
+    match value {
+        Value::Int(number) => Some(*number),
+        Value::Text(_) | Value::Bool(_) | Value::Activity(_) | Value::Timer(_) => None,
+    }
+}
+
+/// The number in a value of a run, if it is one.
+pub fn int_within(value: &Val) -> Option<i64>
+    ensures { Finds int NoInt value.now result }
+{
+    match value {
+        Val::Plain(value) => int_in(value),
+        Val::NewActivity(_) | Val::NewTimer(_) => None,
+    }
+}
 
 /// The number that a value is.
 pub fn int_of(value: &Val) -> Result<i64, Stop>

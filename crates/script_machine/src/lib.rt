@@ -17,11 +17,12 @@ mod texts;
 mod variable;
 mod variables;
 
-pub use comparing::{is_decided, is_same_ref};
+pub use arithmetic::is_arithmetic;
+pub use comparing::{is_decided, is_of_numbers, is_same_ref};
 pub use effects::{EFFECT_BYTES_LIMIT, EFFECT_LIMIT};
 pub use frames::Finished;
 pub use keys::{is_same_key, kept_answer};
-pub use kinds::{activity_of, flag_of, int_of, text_of, timer_of};
+pub use kinds::{activity_of, flag_of, int_in, int_of, int_within, text_of, timer_of};
 pub use machine::{Machine, UNIT_LIMIT};
 pub use observing::KEY_LIMIT;
 pub use scene::Scene;

@@ -1,9 +1,11 @@
 //! Operators between two values.
+ghost use Rattle.std.specs.Prelude.{◌≡◌, true};
 ghost use Rattle.script_types.specs.declared.term.Joint.TheVariants as j;
 ghost use Rattle.handler_meaning.specs.Values.{apply};
 ghost use Rattle.script_machine.specs.Agreeing.{Agrees};
+ghost use Rattle.script_machine.specs.Kinds.{is_arithmetic};
 
-use crate::kinds::flag_of;
+use crate::kinds::{flag_of, int_of};
 use crate::{Machine, Stop};
 use script_types::Joint;
 use slee_effect::Val;
@@ -21,16 +23,24 @@ impl Machine {
         Ok(Val::Plain(Value::Bool(flag_of(y)?)))
     }
 
+    /// An operator between two values that are to be numbers.
+    #[tactic(auto, using(crate::proofs::NumberLemmas::left_stays, crate::proofs::NumberLemmas::right_stays))]
+    fn calculate_values(&self, joint: Joint, x: &Val, y: &Val) -> Result<Val, Stop>
+        requires { is_arithmetic joint ≡ true }
+        ensures { Agrees (apply joint x.now y.now) self.now self.now result }
+    {
+        let m = int_of(x)?;
+        let n = int_of(y)?;
+        Ok(Val::Plain(Value::Int(self.calculate(joint, m, n)?)))
+    }
+
     /// An operator between two values.
     pub fn apply(&self, alloc: Global, joint: Joint, x: &Val, y: &Val) -> Result<Val, Stop>
         ensures { Agrees (apply joint x.now y.now) self.now self.now result }
     {
         match joint {
-            Joint::Add => self.sum(x, y),
-            Joint::Subtract => self.difference(x, y),
-            Joint::Multiply => self.product(x, y),
-            Joint::Divide => self.quotient(x, y),
-            Joint::Remainder => self.remainder(x, y),
+            Joint::Add | Joint::Subtract | Joint::Multiply | Joint::Divide | Joint::Remainder =>
+                self.calculate_values(joint, x, y),
             Joint::Join => self.joined(alloc, x, y),
             Joint::Both | Joint::Either => self.right_flag(x, y),
         }

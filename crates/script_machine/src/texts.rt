@@ -32,7 +32,8 @@ impl Machine {
         if m.len() > TEXT_LIMIT || n.len() > TEXT_LIMIT - m.len() {
             return Err(Stop::Broken(FailKind::TooLong));
         }
-        let mut whole = String::from_str(alloc, m.as_str())?;
+        let mut whole = String::with_capacity(alloc, m.len() + n.len())?;
+        whole.push_str(m.as_str())?;
         whole.push_str(n.as_str())?;
         Ok(Val::Plain(Value::Text(Text::from(whole))))
     }

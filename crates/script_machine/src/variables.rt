@@ -3,7 +3,7 @@ ghost use Rattle.std.specs.Prelude.{◌≡◌, ◌++◌, slice_get};
 ghost use Rattle.std.specs.Option.{option_copied};
 ghost use Rattle.handler_meaning.specs.Observing as read;
 ghost use Rattle.handler_meaning.specs.Overlay.{removes, is_removed};
-ghost use Rattle.script_machine.specs.Agreeing.{Agrees};
+ghost use Rattle.script_machine.specs.Agreeing.{Agrees, AgreesAs};
 ghost use Rattle.script_machine.specs.Settings.{setting_of};
 
 use crate::comparing::is_same_ref;
@@ -36,18 +36,25 @@ fn is_removed(entity: Ref, effects: &[Effect]) -> bool
 }
 
 impl Machine {
-    /// The value of the variable in this place.
+    /// The value of the variable in this place as it stands there.
     #[tactic(auto, using(crate::proofs::VariableLemmas::value_found))]
-    pub fn value(&self, alloc: Global, place: usize) -> Result<Val, Stop>
-        ensures { Agrees (read.value place) self.now self.now result }
+    pub fn standing(&self, place: usize) -> Result<&Val, Stop>
+        ensures { AgreesAs (λ x. x.now) (read.value place) self.now self.now result }
     {
         let Some(variable) = variable_at(&self.variables, place) else {
             return Err(Stop::Unchecked);
         };
         match variable.as_value() {
-            Some(value) => Ok(value.copy(alloc)?),
+            Some(value) => Ok(value),
             None => Err(Stop::Unchecked),
         }
+    }
+
+    /// The value of the variable in this place.
+    pub fn value(&self, alloc: Global, place: usize) -> Result<Val, Stop>
+        ensures { Agrees (read.value place) self.now self.now result }
+    {
+        Ok(self.standing(place)?.copy(alloc)?)
     }
 
     /// The child for which the variable in this place stands, which is gone where this run removed it.

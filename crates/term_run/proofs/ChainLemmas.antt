@@ -1,19 +1,23 @@
 -- Operands side by side run as operators in one another.
-use Rattle.std.proofs.Common.{◌≡◌, ◌<◌, ◌+◌, ◌-◌, false, Bool, ℕ, zero, suc, List, [], ◌∷◌, length, drop, get_or, Vec, Box, Global, refl, sym, ap, ◌∙◌, subst, arith, drop-cons, add-one}
+use Rattle.std.proofs.Common.{◌≡◌, ◌<◌, ◌+◌, ◌-◌, false, Bool, ℤ, ℕ, zero, suc, List, [], ◌∷◌, length, drop, get_or, Vec, Box, Global, refl, sym, ap, ◌∙◌, subst, arith, drop-cons, add-one}
 use Rattle.std.specs.Prelude.{cond}
 use Rattle.slee_effect.specs.declared.value.Val.{Val}
 use Rattle.script_types.specs.declared.term.Joint.{Joint}
+use Rattle.script_types.specs.declared.term.Joint.TheVariants as j
 use Rattle.script_types.specs.declared.checked_term.Term as t
 use Rattle.script_types.specs.declared.checked_term.Term.{Term as TermInMemory}
 use Rattle.script_types.specs.Program.{Term, Combine}
 use Rattle.script_types.specs.ProgramOf.{term_of, combine_of, combined}
 use Rattle.script_types.proofs.ProgramRows.{chain_term}
 use Rattle.handler_meaning.specs.Running.{Setting, State, Ending, Gave, Broke, Needs, Stays, Run, then_run, give, tick, tick_at}
-use Rattle.handler_meaning.specs.Values.{apply, decides}
+use Rattle.handler_meaning.specs.Values.{apply, decides, int}
 use Rattle.handler_meaning.specs.Terms.{eval, combine}
 use Rattle.script_machine.specs.declared.stop.Stop.{Stop}
+use Rattle.script_machine.specs.declared.stop.Stop.TheVariants as stop
 use Rattle.script_machine.specs.Agreeing.{Stops}
-use Rattle.term_run.specs.Links.{spend, linked}
+use Rattle.script_machine.specs.Kinds.{NoInt}
+use Rattle.script_machine.proofs.NumberLemmas.{right_stays}
+use Rattle.term_run.specs.Links.{spend, linked, chained}
 use Rattle.term_run.proofs.RunLemmas.{stops_then, then_give, assoc}
 
 module _ (s : Setting) (a : Term) (y : Joint × TermInMemory) (more : List (Joint × TermInMemory)) where
@@ -38,10 +42,8 @@ chain_run s a [] st = then_give (eval s a st)
 chain_run s a (y ∷ more) st = chain_run s (Combine y.0 a (term_of y.1)) more st ∙ outer s a y more (spend (length more) st)
 
 -- what a chain does: the units of its operators behind the first, the first with its operands, and what stands behind
-pub chain_eval : (s : Setting) (x : TermInMemory) (a : Box (TermInMemory × Joint × TermInMemory) Global) (v : Vec (Joint × TermInMemory) Global) (n : ℕ) (st : State) → x ≡ t.Chain a v → n ≡ length v.items → eval s (term_of x) st ≡ then_run (spend n st) (λ _ st. then_run (eval s (combine_of a.value) st) (linked s v.items))
-chain_eval s x a v n st is len =
-    ap (λ x. eval s (term_of x) st) is ∙ ap (λ x. eval s x st) (chain_term a v) ∙ chain_run s (combine_of a.value) v.items st
-    ∙ ap (λ n. then_run (spend n st) (λ _ st. then_run (eval s (combine_of a.value) st) (linked s v.items))) (sym len)
+pub chain_eval : (s : Setting) (x : TermInMemory) (a : Box (TermInMemory × Joint × TermInMemory) Global) (v : Vec (Joint × TermInMemory) Global) (st : State) → x ≡ t.Chain a v → eval s (term_of x) st ≡ chained s (combine_of a.value) v.items st
+chain_eval s x a v st is = ap (λ x. eval s (term_of x) st) is ∙ ap (λ x. eval s x st) (chain_term a v) ∙ chain_run s (combine_of a.value) v.items st
 
 spend_more : (k i : ℕ) (st new : State) (e : Stop) → Stops (spend i st) new e → Stops (spend (k + i) st) new e
 spend_more zero i st new e h = let z : zero + i ≡ i = omega arith in rw z h
@@ -61,3 +63,32 @@ linked_stops s xs i y x z st new e total lt is so_far undecided given h =
     let split : linked s (drop i xs) x st ≡ go (decides y.0 x) = rw (drop-cons xs i y, add-one, ← is) refl in
     let stops : Stops (then_run (eval s (term_of y.1) st) (apply y.0 x)) new e = subst (λ (m : Ending Val). Stops (then_run m (apply y.0 x)) new e) (sym given) h in
     subst (λ (t : Ending Val). Stops t new e) (sym (ap go undecided) ∙ sym split ∙ so_far) (stops_then _ (linked s (drop (i + 1) xs)) new e stops)
+
+-- an operand that is joined leaves the rest
+pub linked_step : (s : Setting) (xs : List (Joint × TermInMemory)) (i : ℕ) (y : Joint × TermInMemory) (x z w : Val) (st mid new : State) (total : Ending Val) → i < length xs → y ≡ get_or xs i y → linked s (drop i xs) x st ≡ total → decides y.0 x ≡ false → eval s (term_of y.1) st ≡ Gave z mid → apply y.0 x z mid ≡ Gave w new → linked s (drop (i + 1) xs) w new ≡ total
+linked_step s xs i y x z w st mid new total lt is so_far undecided given applied =
+    let go : Bool → Ending Val = λ b. then_run (cond b (give x) (λ st. then_run (eval s (term_of y.1) st) (apply y.0 x)) st) (linked s (drop (i + 1) xs)) in
+    let split : linked s (drop i xs) x st ≡ go (decides y.0 x) = rw (drop-cons xs i y, add-one, ← is) refl in
+    let run : then_run (eval s (term_of y.1) st) (apply y.0 x) ≡ Gave w new = ap (λ (m : Ending Val). then_run m (apply y.0 x)) given ∙ applied in
+    sym (ap (λ (m : Ending Val). then_run m (linked s (drop (i + 1) xs))) run) ∙ sym (ap go undecided) ∙ sym split ∙ so_far
+
+-- a number alone decides nothing
+undecided : (joint : Joint) (n : ℤ) → decides joint (int n) ≡ false
+undecided j.Add n = refl
+undecided j.Subtract n = refl
+undecided j.Multiply n = refl
+undecided j.Divide n = refl
+undecided j.Remainder n = refl
+undecided j.Join n = refl
+undecided j.Both n = refl
+undecided j.Either n = refl
+
+module _ (s : Setting) (xs : List (Joint × TermInMemory)) (i : ℕ) (y : Joint × TermInMemory) (n : ℤ) (st : State) (total : Ending Val) (lt : i < length xs) (is : y ≡ get_or xs i y) (so_far : linked s (drop i xs) (int n) st ≡ total) where
+  pub number_stops : (z : Val) (new : State) (e : Stop) → eval s (term_of y.1) st ≡ Gave z new → Stops (apply y.0 (int n) z new) new e → Stops total new e
+  number_stops z new e given h = linked_stops s xs i y (int n) z st new e total lt is so_far (undecided y.0 n) given h
+
+  pub number_lacks : (z : Val) (new : State) → NoInt z → eval s (term_of y.1) st ≡ Gave z new → total ≡ Stays
+  number_lacks z new other given = linked_stops s xs i y (int n) z st new stop.Unchecked total lt is so_far (undecided y.0 n) given (right_stays y.0 n z new other)
+
+  pub number_step : (z w : Val) (mid new : State) → eval s (term_of y.1) st ≡ Gave z mid → apply y.0 (int n) z mid ≡ Gave w new → linked s (drop (i + 1) xs) w new ≡ total
+  number_step z w mid new given applied = linked_step s xs i y (int n) z w st mid new total lt is so_far (undecided y.0 n) given applied

@@ -1,11 +1,17 @@
 -- A chain of operators as it runs: the units of its operators first, then its operands from left to right.
-use Rattle.std.specs.Prelude.{ℕ, zero, suc, List, [], ◌∷◌}
+use Rattle.std.specs.Prelude.{ℕ, zero, suc, List, [], ◌∷◌, length}
 use Rattle.slee_effect.specs.declared.value.Val.{Val}
+use Rattle.script_types.specs.declared.term.Atom.{Atom}
 use Rattle.script_types.specs.declared.term.Joint.{Joint}
+use Rattle.script_types.specs.declared.term.Question.{Question}
+use Rattle.script_types.specs.declared.term.Question.TheVariants as q
+use Rattle.script_types.specs.declared.term.Test.{Test}
 use Rattle.script_types.specs.declared.checked_term.Term.{Term as TermInMemory}
+use Rattle.script_types.specs.Program.{Term}
 use Rattle.script_types.specs.ProgramOf.{term_of}
 use Rattle.handler_meaning.specs.Running.{Setting, Run, ◌>>=◌, give, tick}
-use Rattle.handler_meaning.specs.Terms.{eval, combine}
+use Rattle.handler_meaning.specs.Terms.{eval, combine, single, ask}
+use Rattle.handler_meaning.specs.Values.{compare}
 
 -- so many units
 abbrev pub spend : ℕ → Run (Unit {0})
@@ -20,3 +26,28 @@ linked s [] x = give x
 linked s (y ∷ more) x = do
   z ← combine y.0 x (eval s (term_of y.1))
   linked s more z
+
+-- a chain: its first operator with its operands, and what stands behind
+abbrev pub chained : Setting → Term → List (Joint × TermInMemory) → Run Val
+chained s a more = do
+  _ ← spend (length more)
+  x ← eval s a
+  linked s more x
+
+-- a question or a comparison behind its unit
+abbrev pub asked : Setting → Question → Term → Run Val
+asked s question a = do
+  x ← eval s a
+  ask s question x
+
+abbrev pub compared : Setting → Test → Term → Term → Run Val
+compared s test a b = do
+  x ← eval s a
+  y ← eval s b
+  compare test x y
+
+-- how long the text is that a term without parts gives
+abbrev pub measured : Setting → Atom → Run Val
+measured s atom = do
+  x ← single s atom
+  ask s q.Len x

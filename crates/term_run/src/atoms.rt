@@ -1,12 +1,16 @@
 //! Terms without parts.
 ghost use Rattle.std.specs.Prelude.{◌≡◌, ◌≤◌, IfOk, slice_get};
 ghost use Rattle.std.specs.Option.{option_copied};
-ghost use Rattle.handler_meaning.specs.Terms.{single, or_initial, field_at};
+ghost use Rattle.handler_meaning.specs.Values.{int};
+ghost use Rattle.handler_meaning.specs.Terms.{single, ask, or_initial, field_at};
 ghost use Rattle.script_types.specs.declared.term.Atom.TheVariants as a;
-ghost use Rattle.script_machine.specs.Agreeing.{Agrees};
+ghost use Rattle.script_types.specs.declared.term.Question.TheVariants as q;
+ghost use Rattle.script_machine.specs.Agreeing.{Agrees, AgreesAs, EndsFinding};
+ghost use Rattle.script_machine.specs.Kinds.{NoInt};
 ghost use Rattle.script_machine.specs.Settings.{setting_of};
+ghost use Rattle.term_run.specs.Links.{measured};
 
-use script_machine::{Machine, Scene, Stop};
+use script_machine::{Machine, Scene, Stop, int_in, int_within, text_of};
 use script_reading::{children, field, fit, initial, now, priority};
 use script_types::Atom;
 use slee_effect::Val;
@@ -62,5 +66,77 @@ pub(crate) fn single(machine: &mut Machine, scene: &Scene, atom: &Atom) -> Resul
         Atom::EventField(place, kind) => Ok(event_field(scene, *place, *kind)?),
         Atom::Count(relation) => count(machine, scene, relation),
         Atom::Priority(place) => priority_at(machine, scene, *place),
+    }
+}
+
+/// The number in the variable in this place, if it holds one.
+fn slot_number(machine: &Machine, scene: &Scene, place: usize) -> Result<Option<i64>, Stop>
+    ensures { EndsFinding int NoInt (single (setting_of scene.now) (a.Slot place) machine.now) machine.now result }
+{
+    let value = machine.standing(place)?;
+    Ok(int_within(value))
+}
+
+/// The number in the field of the event in this place, if the field is one of numbers.
+fn event_number(
+    machine: &Machine,
+    scene: &Scene,
+    place: usize,
+    kind: Kind,
+) -> Result<Option<i64>, Stop>
+    ensures { EndsFinding int NoInt (single (setting_of scene.now) (a.EventField place kind) machine.now) machine.now result }
+{
+    let x = event_field(scene, place, kind)?;
+    Ok(int_within(&x))
+}
+
+/// The number that a term without parts gives, if it gives one.
+pub(crate) fn single_number(
+    machine: &mut Machine,
+    scene: &Scene,
+    atom: &Atom,
+) -> Result<Option<i64>, Stop>
+    ensures finds { EndsFinding int NoInt (single (setting_of scene.now) atom.now machine.old) machine.new result }
+    ensures spent { machine.new.left ≤ machine.old.left }
+{
+    match atom {
+        Atom::Constant(value) => Ok(int_in(value)),
+        Atom::Slot(place) => slot_number(machine, scene, *place),
+        Atom::EventField(place, kind) => event_number(machine, scene, *place, *kind),
+        _ => {
+            let x = single(machine, scene, atom)?;
+            Ok(int_within(&x))
+        }
+    }
+}
+
+/// How many bytes a value has that is a text.
+#[tactic(auto, using(script_machine::proofs::KindLemmas::no_text_stays))]
+fn length_in(machine: &Machine, scene: &Scene, value: &Val) -> Result<i64, Stop>
+    ensures { AgreesAs int (ask (setting_of scene.now) q.Len value.now) machine.now machine.now result }
+{
+    let length = text_of(value)?.as_bytes().len();
+    Ok(length as i64)
+}
+
+/// How many bytes the text has that the variable in this place holds.
+fn slot_length(machine: &Machine, scene: &Scene, place: usize) -> Result<i64, Stop>
+    ensures { AgreesAs int (measured (setting_of scene.now) (a.Slot place)) machine.now machine.now result }
+{
+    let value = machine.standing(place)?;
+    length_in(machine, scene, value)
+}
+
+/// How many bytes the text has that a term without parts gives.
+pub(crate) fn single_length(machine: &mut Machine, scene: &Scene, atom: &Atom) -> Result<i64, Stop>
+    ensures agrees { AgreesAs int (measured (setting_of scene.now) atom.now) machine.old machine.new result }
+    ensures spent { machine.new.left ≤ machine.old.left }
+{
+    match atom {
+        Atom::Slot(place) => slot_length(machine, scene, *place),
+        _ => {
+            let x = single(machine, scene, atom)?;
+            length_in(machine, scene, &x)
+        }
     }
 }

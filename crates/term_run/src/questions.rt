@@ -9,7 +9,7 @@ use crate::asked_activities::{ask_active, ask_attached, ask_attribute, ask_maske
 use crate::asked_names::{ask_bound, ask_lookup};
 use crate::asked_rows::{ask_has_profile, ask_profile};
 use crate::asked_timers::ask_has_timer;
-use script_machine::{Machine, Scene, Stop, flag_of, text_of};
+use script_machine::{Machine, Scene, Stop, flag_of, int_of, text_of};
 use script_types::Question;
 use slee_effect::Val;
 use slee_value::Value;
@@ -31,6 +31,15 @@ fn measure(machine: &Machine, scene: &Scene, x: &Val) -> Result<Val, Stop>
     Ok(Val::Plain(Value::Int(length as i64)))
 }
 
+/// `-e`
+#[tactic(auto, using(script_machine::proofs::KindLemmas::no_int_stays))]
+fn negative(machine: &Machine, scene: &Scene, x: &Val) -> Result<Val, Stop>
+    ensures { Agrees (ask (setting_of scene.now) q.Negative x.now) machine.now machine.now result }
+{
+    let n = machine.negative(int_of(x)?)?;
+    Ok(Val::Plain(Value::Int(n)))
+}
+
 /// What is asked of a value.
 pub(crate) fn ask(
     machine: &mut Machine,
@@ -42,7 +51,7 @@ pub(crate) fn ask(
     ensures spent { machine.new.left ≤ machine.old.left }
 {
     match question {
-        Question::Negative => machine.negative(x),
+        Question::Negative => negative(machine, scene, x),
         Question::Not => negate(machine, scene, x),
         Question::TextOfInt => machine.text_of_int(scene.alloc, x),
         Question::TextOfBool => machine.text_of_bool(scene.alloc, x),

@@ -5,8 +5,8 @@ ghost use Rattle.script_types.specs.ProgramOf.{term_of};
 ghost use Rattle.script_machine.specs.Agreeing.{Agrees};
 ghost use Rattle.script_machine.specs.Settings.{setting_of};
 
-use crate::terms::eval;
-use script_machine::{Machine, Scene, Stop, activity_of, int_of, timer_of};
+use crate::terms::{eval, eval_number};
+use script_machine::{Machine, Scene, Stop, activity_of, timer_of};
 use script_types::Term;
 use slee_effect::{Ref, Val};
 use slee_value::{Text, Value};
@@ -17,8 +17,10 @@ pub fn eval_int(machine: &mut Machine, scene: &Scene, term: &Term) -> Result<i64
     ensures agrees { Agrees (int_of (setting_of scene.now) (term_of term.now)) machine.old machine.new result }
     ensures spent { machine.new.left ≤ machine.old.left }
 {
-    let x = eval(machine, scene, term)?;
-    int_of(&x)
+    match eval_number(machine, scene, term)? {
+        Some(number) => Ok(number),
+        None => Err(Stop::Unchecked),
+    }
 }
 
 /// What a term gives that is a text.

@@ -1,39 +1,41 @@
-use Rattle.std.proofs.Common.{sym, ap, subst, ◌∙◌}
+use Rattle.std.proofs.Common.{rules, ◌≡◌, sym, subst, arith, to_z, of_z, w64}
 use Rattle.std.proofs.lemmas.Result.{err_from_is_err_and}
+use Rattle.std.proofs.lemmas.Int.{to_z-of_z}
 use Rattle.slee_effect.specs.declared.value.Val.{Val}
-use Rattle.script_types.specs.ProgramOf.{combine_of}
-use Rattle.handler_meaning.specs.Running.{Ending, then_run}
-use Rattle.handler_meaning.specs.Terms.{eval}
+use Rattle.handler_meaning.specs.Running.{Ending}
 use Rattle.script_machine.specs.Settings.{setting_of}
-use Rattle.script_machine.specs.Agreeing.{Stops, Ends}
-use Rattle.term_run.specs.Links.{linked}
-use Rattle.term_run.proofs.RunLemmas.{stops_then}
-use Rattle.term_run.proofs.ChainLemmas.{chain_eval, linked_stops}
+use Rattle.handler_meaning.specs.Values.{int, flag}
+use Rattle.script_machine.specs.Agreeing.{Ends, EndsFinding}
+use Rattle.script_machine.specs.Kinds.{NoInt}
+use Rattle.term_run.proofs.ChainLemmas.{chain_eval, linked_stops, number_stops, number_step}
 use Rattle.term_run.proofs.terms.+terms.Goals as goal
 
-pub eval-returns-in_err-spend-in-Chain-clause-agrees : goal.eval-returns-in_err-spend-in-Chain-clause-agrees
-eval-returns-in_err-spend-in-Chain-clause-agrees t c =
-    let p = err_from_is_err_and c.from_residual-in_err-spend-in-Chain.result c.from_residual-in_err-spend-in-Chain.ensures.1 in
-    let whole = chain_eval (setting_of c.args.scene.now) c.args.term.now c.in-Chain.first c.in-Chain.more c.len.result c.args.machine.now c.in-Chain.is (c.len.ensures ∙ c.in-Chain.more.ok.0) in
-    rw (p.1, p.2) (subst (λ (x : Ending Val). Stops x c.spend.new.machine c.in_err-spend-in-Chain.field-0.0) (sym whole) (stops_then _ _ c.spend.new.machine c.in_err-spend-in-Chain.field-0.0 c.in_err-spend-in-Chain.ensures.agrees))
-
-pub eval-returns-in_err-x-in-Chain-clause-agrees : goal.eval-returns-in_err-x-in-Chain-clause-agrees
-eval-returns-in_err-x-in-Chain-clause-agrees t c =
-    let p = err_from_is_err_and c.from_residual-in_err-x-in-Chain.result c.from_residual-in_err-x-in-Chain.ensures.1 in
-    let s = setting_of c.args.scene.now in
-    let whole = chain_eval s c.args.term.now c.in-Chain.first c.in-Chain.more c.len.result c.args.machine.now c.in-Chain.is (c.len.ensures ∙ c.in-Chain.more.ok.0) in
-    let spent = ap (λ x. then_run x (λ _ st. then_run (eval s (combine_of c.in-Chain.first.value) st) (linked s c.in-Chain.more.items))) c.in_ok-spend-in-Chain.ensures.agrees in
-    rw (p.1, p.2) (subst (λ (x : Ending Val). Stops x c.eval_pair.new.machine c.in_err-x-in-Chain.field-0.0) (sym (whole ∙ spent)) (stops_then _ (linked s c.in-Chain.more.items) c.eval_pair.new.machine c.in_err-x-in-Chain.field-0.0 (rw c.deref-in-Chain.ensures at c.in_err-x-in-Chain.ensures.agrees)))
-
-pub eval-returns-in_ok-x-in-Chain-clause-agrees : goal.eval-returns-in_ok-x-in-Chain-clause-agrees
-eval-returns-in_ok-x-in-Chain-clause-agrees t c =
-    let s = setting_of c.args.scene.now in
-    let whole = chain_eval s c.args.term.now c.in-Chain.first c.in-Chain.more c.len.result c.args.machine.now c.in-Chain.is (c.len.ensures ∙ c.in-Chain.more.ok.0) in
-    let spent = ap (λ x. then_run x (λ _ st. then_run (eval s (combine_of c.in-Chain.first.value) st) (linked s c.in-Chain.more.items))) c.in_ok-spend-in-Chain.ensures.agrees in
-    let got = ap (λ x. then_run x (linked s c.in-Chain.more.items)) (rw c.deref-in-Chain.ensures at c.in_ok-x-in-Chain.ensures.agrees) in
-    subst (λ (x : Ending Val). Ends x c.eval_links.new.machine c.eval_links.result) (sym (whole ∙ spent ∙ got)) (rw c.deref-in-Chain-2.ensures.value at c.eval_links.ensures.agrees)
+pub eval-returns-in-Chain-clause-agrees : goal.eval-returns-in-Chain-clause-agrees
+eval-returns-in-Chain-clause-agrees t c =
+    subst (λ (x : Ending Val). Ends x c.eval_chain.new.machine c.eval_chain.result) (sym (chain_eval (setting_of c.args.scene.now) c.args.term.now c.in-Chain.first c.in-Chain.more c.args.machine.now c.in-Chain.is)) (rw (c.deref-in-Chain.ensures, c.deref-in-Chain-2.ensures.value) at c.eval_chain.ensures.agrees)
 
 pub eval_links-returns-in_err-x-clause-agrees : goal.eval_links-returns-in_err-x-clause-agrees
 eval_links-returns-in_err-x-clause-agrees t c =
     let p = err_from_is_err_and c.from_residual-in_err-x.result c.from_residual-in_err-x.ensures.1 in
     rw (p.1, p.2) (linked_stops (setting_of c.args.scene.now) c.args.links.now c.links.joint-index c.links-item.result c.links.x c.in_ok-y.y c.links.machine c.eval.new.machine c.in_err-x.field-0.0 _ c.links-test.true c.links-item.is c.links.invariant.0 (sym c.if-is_decided.ensures) c.in_ok-y.ensures.agrees c.in_err-x.ensures)
+
+pub eval_number-returns-in_ok-eval_compared-in-Compare-clause-finds : goal.eval_number-returns-in_ok-eval_compared-in-Compare-clause-finds
+eval_number-returns-in_ok-eval_compared-in-Compare-clause-finds t c = (flag c.in_ok-eval_compared-in-Compare.field-0, (tt, search rules))
+
+pub eval_number-returns-in-Chain-clause-finds : goal.eval_number-returns-in-Chain-clause-finds
+eval_number-returns-in-Chain-clause-finds t c =
+    subst (λ (x : Ending Val). EndsFinding int NoInt x c.number_in_chain.new.machine c.number_in_chain.result) (sym (chain_eval (setting_of c.args.scene.now) c.args.term.now c.in-Chain.first c.in-Chain.more c.args.machine.now c.in-Chain.is)) (rw (c.deref-in-Chain.ensures, c.deref-in-Chain-2.ensures.value) at c.number_in_chain.ensures.finds)
+
+pub number_links-returns-in_err-x-clause-agrees : goal.number_links-returns-in_err-x-clause-agrees
+number_links-returns-in_err-x-clause-agrees t c =
+    let p = err_from_is_err_and c.from_residual-in_err-x.result c.from_residual-in_err-x.ensures.1 in
+    let given = rw c.in-Some.is at c.in_ok-y.ensures.finds in
+    let so_far = rw (c.links.x-is, to_z-of_z w64 c.args.first c.ranges.first) at c.links.invariant.0 in
+    rw (p.1, p.2) (number_stops (setting_of c.args.scene.now) c.args.links.now c.links.joint-index c.links-item.result c.links.x c.links.machine _ c.links-test.true c.links-item.is so_far (int c.in-Some.y) c.eval_number.new.machine c.in_err-x.field-0.0 given (rw (c.links.x-is, to_z-of_z w64 c.in-Some.y (search rules)) at c.in_err-x.ensures))
+
+pub number_links-links-preserved : goal.number_links-links-preserved
+number_links-links-preserved t c =
+    let given = rw c.in-Some.is at c.in_ok-y.ensures.finds in
+    let z : to_z w64 (of_z w64 c.in_ok-x.x) ≡ c.in_ok-x.x = search rules in
+    let so_far = rw c.links.x-is at c.links.invariant.0 in
+    (rw z (number_step (setting_of c.args.scene.now) c.args.links.now c.links.joint-index c.links-item.result c.links.x c.links.machine _ c.links-test.true c.links-item.is so_far (int c.in-Some.y) (int c.in_ok-x.x) c.eval_number.new.machine c.eval_number.new.machine given (rw (c.links.x-is, to_z-of_z w64 c.in-Some.y (search rules)) at c.in_ok-x.ensures)), omega (arith, c.in_ok-y.ensures.spent, c.links.invariant.1))

@@ -1,23 +1,55 @@
 use Rattle.std.proofs.Common.{◌≡◌, ◌+◌, ◌*◌, ◌≤◌, drop}
 use Rattle.script_machine.specs.Settings.{setting_of}
+use Rattle.handler_meaning.specs.Values.{int}
 use Rattle.term_run.specs.Links.{linked}
 use Rattle.term_run.proofs.terms.+terms.Given as goal
 
 abbrev pub decreases-eval : goal.decreases-eval
-decreases-eval l = 2 * l.machine.now.left + 1
+decreases-eval l = 8 * l.machine.now.left + 4
+
+abbrev pub decreases-eval_number : goal.decreases-eval_number
+decreases-eval_number l = 8 * l.machine.now.left + 4
 
 abbrev pub decreases-eval_asked : goal.decreases-eval_asked
-decreases-eval_asked l = 2 * l.machine.now.left
+decreases-eval_asked l = 8 * l.machine.now.left
+
+abbrev pub decreases-asked_number : goal.decreases-asked_number
+decreases-asked_number l = 8 * l.machine.now.left
+
+abbrev pub decreases-eval_length : goal.decreases-eval_length
+decreases-eval_length l = 8 * l.machine.now.left + 5
 
 abbrev pub decreases-eval_compared : goal.decreases-eval_compared
-decreases-eval_compared l = 2 * l.machine.now.left
+decreases-eval_compared l = 8 * l.machine.now.left
+
+abbrev pub decreases-eval_compared_numbers : goal.decreases-eval_compared_numbers
+decreases-eval_compared_numbers l = 8 * l.machine.now.left + 5
+
+abbrev pub decreases-eval_chain : goal.decreases-eval_chain
+decreases-eval_chain l = 8 * l.machine.now.left + 2
+
+abbrev pub decreases-number_in_chain : goal.decreases-number_in_chain
+decreases-number_in_chain l = 8 * l.machine.now.left + 3
+
+abbrev pub decreases-number_chain : goal.decreases-number_chain
+decreases-number_chain l = 8 * l.machine.now.left + 1
 
 abbrev pub decreases-eval_pair : goal.decreases-eval_pair
-decreases-eval_pair l = 2 * l.machine.now.left
+decreases-eval_pair l = 8 * l.machine.now.left
+
+abbrev pub decreases-number_pair : goal.decreases-number_pair
+decreases-number_pair l = 8 * l.machine.now.left
 
 abbrev pub decreases-eval_links : goal.decreases-eval_links
-decreases-eval_links l = 2 * l.machine.now.left + 2
+decreases-eval_links l = 8 * l.machine.now.left + 5
+
+abbrev pub decreases-number_links : goal.decreases-number_links
+decreases-number_links l = 8 * l.machine.now.left + 5
 
 -- the operands so far are joined
 abbrev pub invariant-eval_links-links : goal.invariant-eval_links-links
 invariant-eval_links-links l = (linked (setting_of l.scene) (drop l.joint-index l.links) l.x l.machine ≡ linked (setting_of l.scene) l.links l.fn.first l.initial.machine) × (l.machine.left ≤ l.initial.machine.left)
+
+-- the numbers so far are joined
+abbrev pub invariant-number_links-links : goal.invariant-number_links-links
+invariant-number_links-links l = (linked (setting_of l.scene) (drop l.joint-index l.links) (int l.x) l.machine ≡ linked (setting_of l.scene) l.links (int l.fn.first) l.initial.machine) × (l.machine.left ≤ l.initial.machine.left)
