@@ -9,9 +9,13 @@ use std::alloc::Global;
 // Neighbours in rounds are far apart in rows.
 const STRIDE: u64 = 7919;
 
-// A word for a number: the letter n, and its digits.
+// Numbers from this one on have as many digits.
+const WIDE: u64 = 1_000_000_000;
+
+// A word for a number: the letter n, and digits. Words rise with their numbers.
 fn word(alloc: Global, number: u64) -> Result<Text, NoMemory> {
-    let spelled = format!(in alloc; "n{number}")?;
+    let wide = number.wrapping_add(WIDE);
+    let spelled = format!(in alloc; "n{wide}")?;
     Text::from_str(alloc, spelled.as_str())
 }
 

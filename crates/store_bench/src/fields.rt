@@ -89,6 +89,23 @@ fn forget(alloc: Global, fields: &mut Fields, entity: u64, rounds: u64) -> Resul
     Ok(fields.len())
 }
 
+/// An entity in the middle loses its fields, and gets them again.
+fn forget_middle(
+    alloc: Global,
+    fields: &mut Fields,
+    entities: u64,
+    rounds: u64,
+) -> Result<u64, NoMemory>
+    requires { 0 < entities }
+{
+    'rounds: for round in 0..rounds {
+        let entity = round.wrapping_mul(STRIDE) % entities;
+        fields.forget(EntityId(entity));
+        put(alloc, fields, entity)?;
+    }
+    Ok(fields.len())
+}
+
 /// The sum over what the calls answered, or none where there is no such call.
 pub fn measured(
     alloc: Global,
@@ -103,6 +120,7 @@ pub fn measured(
         "of" => of(&fields, entities, rounds),
         "set" => set(alloc, &mut fields, entities, rounds)?,
         "forget" => forget(alloc, &mut fields, entities, rounds)?,
+        "forget_middle" => forget_middle(alloc, &mut fields, entities, rounds)?,
         _ => return Ok(None),
     };
     Ok(Some(sum))

@@ -5,8 +5,10 @@
 mod contexts;
 mod fields;
 mod masks;
+mod profiles;
 mod queues;
 mod timers;
+mod tree;
 
 use slee_value::NoMemory;
 use std::alloc::Global;
@@ -56,6 +58,8 @@ fn measured(
         "queues" => queues::measured(alloc, call, rows, rounds),
         "contexts" => contexts::measured(alloc, call, rows, rounds),
         "timers" => timers::measured(alloc, call, rows, rounds),
+        "tree" => tree::measured(alloc, call, rows, rounds),
+        "profiles" => profiles::measured(alloc, call, rows, rounds),
         _ => Ok(None),
     }
 }

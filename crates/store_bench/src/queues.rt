@@ -78,6 +78,23 @@ fn pop(alloc: Global, queues: &mut Queues, activity: u64, rounds: u64) -> Result
     Ok(queues.len())
 }
 
+/// An activity in the middle gets its events anew: all of them go, and come again.
+fn pop_middle(
+    alloc: Global,
+    queues: &mut Queues,
+    activities: u64,
+    rounds: u64,
+) -> Result<u64, NoMemory>
+    requires { 0 < activities }
+{
+    'rounds: for round in 0..rounds {
+        let activity = round.wrapping_mul(STRIDE) % activities;
+        pop_each(queues, activity);
+        put(alloc, queues, activity)?;
+    }
+    Ok(queues.len())
+}
+
 /// The sum over what the calls answered, or none where there is no such call.
 pub fn measured(
     alloc: Global,
@@ -91,6 +108,7 @@ pub fn measured(
         "front" => front(&queues, activities, rounds),
         "is_delivered" => is_delivered(&queues, activities, rounds),
         "pop" => pop(alloc, &mut queues, activities, rounds)?,
+        "pop_middle" => pop_middle(alloc, &mut queues, activities, rounds)?,
         _ => return Ok(None),
     };
     Ok(Some(sum))

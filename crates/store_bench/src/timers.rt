@@ -91,6 +91,15 @@ fn cancel(timers: &mut Timers, rows: u64, rounds: u64) -> Result<u64, NoMemory> 
     Ok(timers.len())
 }
 
+/// The oldest timer is cancelled, and a new one set behind all others.
+fn cancel_oldest(timers: &mut Timers, rows: u64, rounds: u64) -> Result<u64, NoMemory> {
+    'rounds: for round in 0..rounds {
+        timers.cancel(TimerId(round.wrapping_add(1)));
+        set(timers, rows, u64::MAX)?;
+    }
+    Ok(timers.len())
+}
+
 /// A new timer is the first that is due, is listed, and is used up.
 fn fire(alloc: Global, timers: &mut Timers, rows: u64, rounds: u64) -> Result<u64, NoMemory> {
     let mut sum = 0_u64;
@@ -124,6 +133,7 @@ pub fn measured(
         "advance" => advance(&mut timers, rounds),
         "cancel_all" => cancel_all(&mut timers, rows, rounds),
         "cancel" => cancel(&mut timers, rows, rounds)?,
+        "cancel_oldest" => cancel_oldest(&mut timers, rows, rounds)?,
         "fire" => fire(alloc, &mut timers, rows, rounds)?,
         _ => return Ok(None),
     };
