@@ -38,7 +38,7 @@ fn is_removed(entity: Ref, effects: &[Effect]) -> bool
 impl Machine {
     /// The value of the variable in this place as it stands there.
     #[tactic(auto, using(crate::proofs::VariableLemmas::value_found))]
-    pub fn standing(&self, place: usize) -> Result<&Val, Stop>
+    pub fn variable_value(&self, place: usize) -> Result<&Val, Stop>
         ensures { AgreesAs (λ x. x.now) (read.value place) self.now self.now result }
     {
         let Some(variable) = variable_at(&self.variables, place) else {
@@ -54,7 +54,7 @@ impl Machine {
     pub fn value(&self, alloc: Global, place: usize) -> Result<Val, Stop>
         ensures { Agrees (read.value place) self.now self.now result }
     {
-        Ok(self.standing(place)?.copy(alloc)?)
+        Ok(self.variable_value(place)?.copy(alloc)?)
     }
 
     /// The child for which the variable in this place stands, which is gone where this run removed it.

@@ -73,7 +73,7 @@ pub(crate) fn single(machine: &mut Machine, scene: &Scene, atom: &Atom) -> Resul
 fn slot_number(machine: &Machine, scene: &Scene, place: usize) -> Result<Option<i64>, Stop>
     ensures { EndsFinding int NoInt (single (setting_of scene.now) (a.Slot place) machine.now) machine.now result }
 {
-    let value = machine.standing(place)?;
+    let value = machine.variable_value(place)?;
     Ok(int_within(value))
 }
 
@@ -123,7 +123,7 @@ fn length_in(machine: &Machine, scene: &Scene, value: &Val) -> Result<i64, Stop>
 fn slot_length(machine: &Machine, scene: &Scene, place: usize) -> Result<i64, Stop>
     ensures { AgreesAs int (measured (setting_of scene.now) (a.Slot place)) machine.now machine.now result }
 {
-    let value = machine.standing(place)?;
+    let value = machine.variable_value(place)?;
     length_in(machine, scene, value)
 }
 
