@@ -106,9 +106,11 @@ fn attr(contexts: &Contexts, key: &Text, rows: u64, rounds: u64) -> u64
     sum
 }
 
-fn named(contexts: &Contexts, name: &Text, rounds: u64) -> u64 {
+/// Activities are found by two names in turn.
+fn named(contexts: &Contexts, one: &Text, other: &Text, rounds: u64) -> u64 {
     let mut sum = 0_u64;
-    'rounds: for _ in 0..rounds {
+    'rounds: for round in 0..rounds {
+        let name = if round % 2 == 0 { one } else { other };
         if contexts.named(name).is_some() {
             sum = sum.wrapping_add(1);
         }
@@ -116,9 +118,11 @@ fn named(contexts: &Contexts, name: &Text, rounds: u64) -> u64 {
     sum
 }
 
-fn external(contexts: &Contexts, name: &Name, rounds: u64) -> u64 {
+/// External activities are found by two names in turn.
+fn external(contexts: &Contexts, one: &Name, other: &Name, rounds: u64) -> u64 {
     let mut sum = 0_u64;
-    'rounds: for _ in 0..rounds {
+    'rounds: for round in 0..rounds {
+        let name = if round % 2 == 0 { one } else { other };
         if contexts.external(name).is_some() {
             sum = sum.wrapping_add(1);
         }
@@ -156,8 +160,18 @@ pub fn measured(
         "find" => find(&contexts, rows, rounds),
         "is_attached" => is_attached(&contexts, rows, rounds),
         "attr" => attr(&contexts, &Text::from_str(alloc, "count")?, rows, rounds),
-        "named" => named(&contexts, &word(alloc, rows / 2)?, rounds),
-        "external" => external(&contexts, &name(alloc, rows / 2)?, rounds),
+        "named" => named(
+            &contexts,
+            &word(alloc, rows / 2)?,
+            &word(alloc, rows / 3)?,
+            rounds,
+        ),
+        "external" => external(
+            &contexts,
+            &name(alloc, rows / 2)?,
+            &name(alloc, rows / 3)?,
+            rounds,
+        ),
         "drop_context" => drop_null(&mut contexts, rounds)?,
         _ => return Ok(None),
     };

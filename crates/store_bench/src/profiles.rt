@@ -54,9 +54,11 @@ fn filled(alloc: Global, rows: u64) -> Result<Profiles, NoMemory> {
     Ok(profiles)
 }
 
-fn get(profiles: &Profiles, row: &Text, rounds: u64) -> u64 {
+/// Rows are found by two names in turn.
+fn get(profiles: &Profiles, one: &Text, other: &Text, rounds: u64) -> u64 {
     let mut sum = 0_u64;
-    'rounds: for _ in 0..rounds {
+    'rounds: for round in 0..rounds {
+        let row = if round % 2 == 0 { one } else { other };
         if profiles.get(TABLE, row).is_ok() {
             sum = sum.wrapping_add(1);
         }
@@ -84,7 +86,12 @@ pub fn measured(
 ) -> Result<Option<u64>, NoMemory> {
     let profiles = filled(alloc, rows)?;
     let sum = match call {
-        "get" => get(&profiles, &word(alloc, rows / 2)?, rounds),
+        "get" => get(
+            &profiles,
+            &word(alloc, rows / 2)?,
+            &word(alloc, rows / 3)?,
+            rounds,
+        ),
         "test_add" => test_add(
             &profiles,
             &word(alloc, rows)?,
