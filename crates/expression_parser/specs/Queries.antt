@@ -1,5 +1,6 @@
 -- Functions of an expression, cut where the expression stands.
-use Rattle.std.specs.Prelude.{◌≡◌, ◌<◌, ◌+◌, ℕ, Bool, true, List, [], ◌∷◌, ◌++◌, length}
+use Rattle.std.specs.Prelude.{◌≡◌, ◌<◌, ◌+◌, ℕ, Bool, true, List, [], ◌∷◌, ◌++◌, length, Result, Ok, Err}
+use Rattle.std.specs.Borrow.{Bor}
 use Rattle.script_tree.specs.declared.symbol.Fixed.TheVariants as x
 use Rattle.script_tree.specs.declared.symbol.Symbol.TheVariants as s
 use Rattle.script_tree.specs.declared.lexeme.Lexeme.{Lexeme}
@@ -112,3 +113,8 @@ pub record TookNamed (before : List Part) (d e : ℕ) (ts : List Lexeme) (name :
 abbrev pub FailsNamed : List Part → ℕ → List Lexeme → ReadError → Type 0
 FailsNamed before d ts errors.NoMemory = Unit {0}
 FailsNamed before d ts (errors.Misfit f) = (m : Making) (ps : List Part) (is : List Item) → verdict (before ++ (Name ∷ Make m ∷ One x.CloseRound ∷ ps)) is d ts ≡ Faulty f
+
+-- the reader of these signs, a name and the closing bracket, behind which d brackets are open
+abbrev pub ReadsNamed : List Part → ℕ → List Lexeme → Result (Bytes × Bor (List Lexeme)) ReadError → Type 0
+ReadsNamed before d ts (Ok x) = TookNamed before (d + 1) d ts x.0 x.1.now
+ReadsNamed before d ts (Err e) = FailsNamed before (d + 1) ts e

@@ -1,13 +1,12 @@
 //! Expressions by the levels of their operators, from the loosest to single operands.
-ghost use Rattle.std.specs.Prelude.{◌≡◌, ◌≤◌, ◌<◌, ◌+◌, ◌-◌, ◌∷◌, [], length, true, MatchResult};
+ghost use Rattle.std.specs.Prelude.{◌≡◌, ◌≤◌, ◌<◌, ◌∷◌, [], MatchResult};
 ghost use Rattle.script_tree.specs.declared.symbol.Symbol.TheVariants as s;
 ghost use Rattle.script_tree.specs.declared.lexeme.Lexeme.TheVariants as t;
-ghost use Rattle.script_tree.specs.Grammar as g;
-ghost use Rattle.script_tree.specs.Grammar.{Level, More, ATree, turn_of, Stays};
+ghost use Rattle.script_tree.specs.Grammar.{Level, ATree, turn_of, Stays};
 ghost use Rattle.script_tree.specs.Spelling.{fits};
 ghost use Rattle.expression_parser.specs.Levels.{TookOperand, TookChain, FailsChain};
-ghost use Rattle.expression_parser.specs.Reads.{ReadsOperand};
-ghost use Rattle.expression_parser.specs.Takes.{Begun, Took, TookBefore, Fails, FailsBefore, fits_at};
+ghost use Rattle.expression_parser.specs.Reads.{Reads, ReadsBefore, ReadsOperand};
+ghost use Rattle.expression_parser.specs.Takes.{Begun, Fails, fits_at};
 ghost use Rattle.expression_parser.specs.Queries.{word_token};
 ghost use Rattle.script_tree.specs.Tree.{tree_of, binary_of, joined};
 
@@ -25,7 +24,7 @@ const COMPARISON: u8 = 5;
 #[cycle(exprs)]
 pub fn expression(alloc: Global, ts: Lexemes, depth: u32) -> Result<(Expr, Lexemes), ReadError>
     requires { depth ≤ 64 }
-    ensures { MatchResult result (λ x. Took (Level 8) [] depth ts.now (ATree (tree_of x.0) ∷ []) (fits depth (tree_of x.0)) x.1.now) (λ e. Fails (Level 8) depth ts.now e) }
+    ensures { Reads (Level 8) (λ e. ATree (tree_of e)) (λ e. fits depth (tree_of e)) depth ts.now result }
 {
     let (e, rest) = level(alloc, ts, 8, depth)?;
     Ok((e, rest))
@@ -40,7 +39,7 @@ pub fn before(
 ) -> Result<(Expr, Lexemes), ReadError>
     requires deep { depth ≤ 64 }
     requires no_bracket { turn_of fixed ≡ Stays }
-    ensures { MatchResult result (λ x. TookBefore fixed depth ts.now (tree_of x.0) (fits depth (tree_of x.0)) x.1.now) (λ e. FailsBefore fixed depth ts.now e) }
+    ensures { ReadsBefore fixed tree_of depth ts.now result }
 {
     let (e, rest) = expression(alloc, ts, depth)?;
     let rest = want(rest, fixed, depth)?;
@@ -56,7 +55,7 @@ pub fn boxed_before(
 ) -> Result<(Box<Expr>, Lexemes), ReadError>
     requires deep { depth ≤ 64 }
     requires no_bracket { turn_of fixed ≡ Stays }
-    ensures { MatchResult result (λ x. TookBefore fixed depth ts.now (tree_of x.0.value) (fits depth (tree_of x.0.value)) x.1.now) (λ e. FailsBefore fixed depth ts.now e) }
+    ensures { ReadsBefore fixed (λ e. tree_of e.value) depth ts.now result }
 {
     let (e, rest) = before(alloc, ts, fixed, depth)?;
     Ok((Box::new(alloc, e)?, rest))
@@ -65,7 +64,7 @@ pub fn boxed_before(
 /// An expression in a box, and what follows it.
 pub fn boxed(alloc: Global, ts: Lexemes, depth: u32) -> Result<(Box<Expr>, Lexemes), ReadError>
     requires { depth ≤ 64 }
-    ensures { MatchResult result (λ x. Took (Level 8) [] depth ts.now (ATree (tree_of x.0.value) ∷ []) (fits depth (tree_of x.0.value)) x.1.now) (λ e. Fails (Level 8) depth ts.now e) }
+    ensures { Reads (Level 8) (λ e. ATree (tree_of e.value)) (λ e. fits depth (tree_of e.value)) depth ts.now result }
 {
     let (e, rest) = expression(alloc, ts, depth)?;
     Ok((Box::new(alloc, e)?, rest))
@@ -83,7 +82,7 @@ pub struct Operand {
 fn level(alloc: Global, ts: Lexemes, highest: u8, depth: u32) -> Result<(Expr, Lexemes), ReadError>
     requires level { highest ≤ 8 }
     requires deep { depth ≤ 64 }
-    ensures { MatchResult result (λ x. Took (Level highest) [] depth ts.now (ATree (tree_of x.0) ∷ []) (fits_at highest depth (tree_of x.0)) x.1.now) (λ e. Fails (Level highest) depth ts.now e) }
+    ensures { Reads (Level highest) (λ e. ATree (tree_of e)) (λ e. fits_at highest depth (tree_of e)) depth ts.now result }
 {
     let (first, mut rest) = first_operand(alloc, ts, highest, depth)?;
     let mut done = first.level;

@@ -1,11 +1,12 @@
 //! Lists of expressions: the arguments of a call, and the fields of an event that is fired.
-ghost use Rattle.std.specs.Prelude.{◌≡◌, ◌≤◌, ◌<◌, ◌+◌, ◌∷◌, ◌++◌, ◌&&◌, [], length, true, map, MatchResult};
+ghost use Rattle.std.specs.Prelude.{◌≤◌, ◌<◌, ◌+◌, ◌∷◌, ◌++◌, ◌&&◌, [], map, MatchResult};
 ghost use Rattle.std.specs.List.{list_all};
 ghost use Rattle.script_tree.specs.Grammar as g;
 ghost use Rattle.script_tree.specs.Grammar.{Arguments, One, Level, Make, WithArgument, NextArgument, MoreFields, NextField, WithField};
 ghost use Rattle.script_tree.specs.Spelling.{fixed, spell_arguments, spell_fields, fits, field_fits};
 ghost use Rattle.script_tree.specs.Tree.{tree_of, field_of};
-ghost use Rattle.expression_parser.specs.Takes.{Fails, TookAll, FailsAll};
+ghost use Rattle.expression_parser.specs.Reads.{ReadsAll, ReadsMore};
+ghost use Rattle.expression_parser.specs.Takes.{FailsAll};
 ghost use Rattle.expression_parser.specs.Lists.{TookField, has_some, spell_list, with_arguments, with_fields};
 
 use crate::levels::expression;
@@ -17,7 +18,7 @@ use std::alloc::Global;
 /// The arguments of a call, and the bracket behind them.
 pub fn arguments(alloc: Global, ts: Lexemes, depth: u32) -> Result<(Vec<Expr>, Lexemes), ReadError>
     requires { depth < 64 }
-    ensures { MatchResult result (λ x. TookAll (Arguments ∷ One Fixed.CloseRound ∷ []) [] (depth + 1) depth ts.now (spell_arguments (map tree_of x.0.items) ++ fixed Fixed.CloseRound ∷ []) (with_arguments (map tree_of x.0.items)) (list_all (fits (depth + 1)) (map tree_of x.0.items)) x.1.now) (λ e. FailsAll (Arguments ∷ One Fixed.CloseRound ∷ []) (depth + 1) ts.now e) }
+    ensures { ReadsAll (Arguments ∷ One Fixed.CloseRound ∷ []) (λ list. spell_arguments (map tree_of list.items) ++ fixed Fixed.CloseRound ∷ []) (λ list. with_arguments (map tree_of list.items)) (λ list. list_all (fits (depth + 1)) (map tree_of list.items)) (depth + 1) depth ts.now result }
 {
     let Some(after) = behind_word(ts, Fixed::CloseRound) else {
         let (list, rest) = argument_list(alloc, ts, depth + 1)?;
@@ -30,7 +31,7 @@ pub fn arguments(alloc: Global, ts: Lexemes, depth: u32) -> Result<(Vec<Expr>, L
 /// An argument and more of them, each behind a comma.
 fn argument_list(alloc: Global, ts: Lexemes, depth: u32) -> Result<(Vec<Expr>, Lexemes), ReadError>
     requires { depth ≤ 64 }
-    ensures { MatchResult result (λ x. TookAll (Level 8 ∷ Make WithArgument ∷ NextArgument ∷ []) [] depth depth ts.now (spell_arguments (map tree_of x.0.items)) (with_arguments (map tree_of x.0.items)) (has_some (map tree_of x.0.items) && list_all (fits depth) (map tree_of x.0.items)) x.1.now) (λ e. FailsAll (Level 8 ∷ Make WithArgument ∷ NextArgument ∷ []) depth ts.now e) }
+    ensures { ReadsAll (Level 8 ∷ Make WithArgument ∷ NextArgument ∷ []) (λ list. spell_arguments (map tree_of list.items)) (λ list. with_arguments (map tree_of list.items)) (λ list. has_some (map tree_of list.items) && list_all (fits depth) (map tree_of list.items)) depth depth ts.now result }
 {
     let (first, mut rest) = expression(alloc, ts, depth)?;
     let mut list = Vec::new(alloc);
@@ -50,7 +51,7 @@ pub fn fields(
     depth: u32,
 ) -> Result<(Vec<FieldValue>, Lexemes), ReadError>
     requires { depth ≤ 64 }
-    ensures { MatchResult result (λ x. TookAll (MoreFields ∷ []) [] depth depth ts.now (spell_fields (map field_of x.0.items)) (with_fields (map field_of x.0.items)) (list_all (field_fits (depth + 1)) (map field_of x.0.items)) x.1.now) (λ e. Fails MoreFields depth ts.now e) }
+    ensures { ReadsMore MoreFields (λ list. spell_fields (map field_of list.items)) (λ list. with_fields (map field_of list.items)) (λ list. list_all (field_fits (depth + 1)) (map field_of list.items)) depth ts.now result }
 {
     let Some(inner) = behind_word(ts, Fixed::OpenCurly) else {
         return Ok((Vec::new(alloc), ts));
@@ -70,7 +71,7 @@ fn field_list(
     depth: u32,
 ) -> Result<(Vec<FieldValue>, Lexemes), ReadError>
     requires { depth ≤ 64 }
-    ensures { MatchResult result (λ x. TookAll (g.Name ∷ One Fixed.Colon ∷ Level 8 ∷ Make WithField ∷ NextField ∷ []) [] depth depth ts.now (spell_list (map field_of x.0.items)) (with_fields (map field_of x.0.items)) (has_some (map field_of x.0.items) && list_all (field_fits depth) (map field_of x.0.items)) x.1.now) (λ e. FailsAll (g.Name ∷ One Fixed.Colon ∷ Level 8 ∷ Make WithField ∷ NextField ∷ []) depth ts.now e) }
+    ensures { ReadsAll (g.Name ∷ One Fixed.Colon ∷ Level 8 ∷ Make WithField ∷ NextField ∷ []) (λ list. spell_list (map field_of list.items)) (λ list. with_fields (map field_of list.items)) (λ list. has_some (map field_of list.items) && list_all (field_fits depth) (map field_of list.items)) depth depth ts.now result }
 {
     let (first, mut rest) = field(alloc, ts, depth)?;
     let mut list = Vec::new(alloc);

@@ -1,10 +1,9 @@
 //! Operands that name something: fields of the block and the event, tables, priorities, counts.
-ghost use Rattle.std.specs.Prelude.{◌≡◌, ◌≤◌, ◌<◌, ◌+◌, ◌∷◌, [], length, true, MatchResult};
-ghost use Rattle.script_tree.specs.Grammar.{Level, ATree};
+ghost use Rattle.std.specs.Prelude.{◌≤◌};
+ghost use Rattle.script_tree.specs.Grammar.{Level};
 ghost use Rattle.script_tree.specs.Spelling.{fixed};
 ghost use Rattle.expression_parser.specs.Reads.{ReadsOperand};
-ghost use Rattle.expression_parser.specs.Takes.{Begun, Took, Fails, fits_at};
-ghost use Rattle.script_tree.specs.Tree.{tree_of};
+ghost use Rattle.expression_parser.specs.Takes.{Begun};
 
 use crate::query::closed_name;
 use crate::refusal::ReadError;

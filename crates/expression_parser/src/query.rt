@@ -1,12 +1,13 @@
 //! Functions of expressions: the word, what stands before the expression in the brackets, and the rest.
-ghost use Rattle.std.specs.Prelude.{◌≡◌, ◌≤◌, ◌<◌, ◌+◌, ◌∷◌, ◌++◌, [], length, IfOk, MatchResult};
+ghost use Rattle.std.specs.Prelude.{◌≡◌, ◌≤◌, ◌<◌, ◌∷◌, ◌++◌, [], IfOk, MatchResult};
 ghost use Rattle.script_tree.specs.Grammar as g;
 ghost use Rattle.script_tree.specs.Grammar.{Level, One, AName, AText};
 ghost use Rattle.script_tree.specs.Words.{is_identifier, is_literal};
 ghost use Rattle.script_tree.specs.Spelling.{fixed};
 ghost use Rattle.script_tree.specs.declared.lexeme.Lexeme.TheVariants as t;
+ghost use Rattle.expression_parser.specs.Reads.{ReadsAll};
 ghost use Rattle.expression_parser.specs.Takes.{Begun, TookAll, Fails, FailsAll};
-ghost use Rattle.expression_parser.specs.Queries.{tokens_inside, word_of, TookHead, TookTail, FailsTail, TookNamed, FailsNamed, word_token, word_parts, parts_behind, items_before, head_fits};
+ghost use Rattle.expression_parser.specs.Queries.{tokens_inside, word_of, TookHead, TookTail, FailsTail, ReadsNamed, word_token, word_parts, parts_behind, items_before, head_fits};
 
 use crate::refusal::ReadError;
 use crate::take::{close, name, open, text, want};
@@ -82,7 +83,7 @@ fn inside(
 /// `TEXT ,`
 fn text_and_comma(alloc: Global, ts: Lexemes, depth: u32) -> Result<(Literal, Lexemes), ReadError>
     requires { depth ≤ 64 }
-    ensures { MatchResult result (λ x. TookAll (g.Text ∷ One Fixed.Comma ∷ []) [] depth depth ts.now (t.Text x.0 ∷ fixed Fixed.Comma ∷ []) (λ is. AText x.0 ∷ is) (is_literal x.0) x.1.now) (λ e. FailsAll (g.Text ∷ One Fixed.Comma ∷ []) depth ts.now e) }
+    ensures { ReadsAll (g.Text ∷ One Fixed.Comma ∷ []) (λ text. t.Text text ∷ fixed Fixed.Comma ∷ []) (λ text is. AText text ∷ is) is_literal depth depth ts.now result }
 {
     let (text, rest) = text(alloc, ts, depth)?;
     let rest = want(rest, Fixed::Comma, depth)?;
@@ -96,7 +97,7 @@ fn name_and_comma(
     depth: u32,
 ) -> Result<(Identifier, Lexemes), ReadError>
     requires { depth ≤ 64 }
-    ensures { MatchResult result (λ x. TookAll (g.Name ∷ One Fixed.Comma ∷ []) [] depth depth ts.now (t.Name x.0 ∷ fixed Fixed.Comma ∷ []) (λ is. AName x.0 ∷ is) (is_identifier x.0) x.1.now) (λ e. FailsAll (g.Name ∷ One Fixed.Comma ∷ []) depth ts.now e) }
+    ensures { ReadsAll (g.Name ∷ One Fixed.Comma ∷ []) (λ name. t.Name name ∷ fixed Fixed.Comma ∷ []) (λ name is. AName name ∷ is) is_identifier depth depth ts.now result }
 {
     let (name, rest) = name(alloc, ts, depth)?;
     let rest = want(rest, Fixed::Comma, depth)?;
@@ -140,7 +141,7 @@ pub fn query_tail(
 /// `, NAME )`
 fn last_name(alloc: Global, ts: Lexemes, depth: u32) -> Result<(Identifier, Lexemes), ReadError>
     requires { depth < 64 }
-    ensures { MatchResult result (λ x. TookNamed (One Fixed.Comma ∷ []) (depth + 1) depth ts.now x.0 x.1.now) (λ e. FailsNamed (One Fixed.Comma ∷ []) (depth + 1) ts.now e) }
+    ensures { ReadsNamed (One Fixed.Comma ∷ []) depth ts.now result }
 {
     let rest = want(ts, Fixed::Comma, depth + 1)?;
     let (name, rest) = closed_name(alloc, rest, depth)?;
@@ -154,7 +155,7 @@ pub fn closed_name(
     depth: u32,
 ) -> Result<(Identifier, Lexemes), ReadError>
     requires { depth < 64 }
-    ensures { MatchResult result (λ x. TookNamed [] (depth + 1) depth ts.now x.0 x.1.now) (λ e. FailsNamed [] (depth + 1) ts.now e) }
+    ensures { ReadsNamed [] depth ts.now result }
 {
     let (name, rest) = name(alloc, ts, depth + 1)?;
     let rest = close(rest, Fixed::CloseRound, depth)?;

@@ -1,11 +1,11 @@
 //! Single tokens taken from the front: fixed words and signs, names, texts, operators.
-ghost use Rattle.std.specs.Prelude.{◌≡◌, ◌≢◌, ◌≤◌, ◌<◌, ◌+◌, ◌∷◌, [], length, true, false, ℕ, List, Err, MatchResult, MatchOption};
+ghost use Rattle.std.specs.Prelude.{◌≡◌, ◌≢◌, ◌≤◌, ◌<◌, ◌+◌, ◌∷◌, true, false, Err, MatchOption};
 ghost use Rattle.script_tree.specs.declared.symbol.Symbol.TheVariants as s;
-ghost use Rattle.script_tree.specs.declared.lexeme.Lexeme.{Lexeme as ALexeme};
 ghost use Rattle.script_tree.specs.declared.lexeme.Lexeme.TheVariants as t;
 ghost use Rattle.script_tree.specs.Grammar as g;
 ghost use Rattle.script_tree.specs.Grammar.{is_fixed, level_of, turn_of};
-ghost use Rattle.expression_parser.specs.Takes.{Took, Turned, Fails, operator_in, starts};
+ghost use Rattle.expression_parser.specs.Reads.{Reads, ReadsFirst, Turns};
+ghost use Rattle.expression_parser.specs.Takes.{operator_in, starts};
 ghost use Rattle.expression_parser.specs.Levels.{joining, joining_at, next_level, prefix_up_to, prefix_next};
 ghost use Rattle.script_tree.specs.Spelling.{over_fits, who_fits};
 ghost use Rattle.script_tree.specs.Words.{is_identifier, is_literal};
@@ -43,7 +43,7 @@ pub fn behind(ts: Lexemes, fixed: Fixed) -> Option<Lexemes>
 pub fn want(ts: Lexemes, fixed: Fixed, depth: u32) -> Result<Lexemes, ReadError>
     requires deep { depth ≤ 64 }
     requires no_bracket { turn_of fixed ≡ g.Stays }
-    ensures read { MatchResult result (λ rest. Turned fixed depth depth ts.now rest.now) (λ e. Fails (g.One fixed) depth ts.now e) }
+    ensures read { Turns fixed depth depth ts.now result }
     ensures memory { result ≢ Err ReadError.NoMemory }
 {
     match behind(ts, fixed) {
@@ -57,7 +57,7 @@ pub fn want(ts: Lexemes, fixed: Fixed, depth: u32) -> Result<Lexemes, ReadError>
 pub fn open(ts: Lexemes, fixed: Fixed, depth: u32) -> Result<Lexemes, ReadError>
     requires deep { depth ≤ 64 }
     requires bracket { turn_of fixed ≡ g.Opens }
-    ensures read { MatchResult result (λ rest. Turned fixed depth (depth + 1) ts.now rest.now) (λ e. Fails (g.One fixed) depth ts.now e) }
+    ensures read { Turns fixed depth (depth + 1) ts.now result }
     ensures memory { result ≢ Err ReadError.NoMemory }
 {
     match behind(ts, fixed) {
@@ -76,7 +76,7 @@ pub fn open(ts: Lexemes, fixed: Fixed, depth: u32) -> Result<Lexemes, ReadError>
 pub fn close(ts: Lexemes, fixed: Fixed, depth: u32) -> Result<Lexemes, ReadError>
     requires deep { depth < 64 }
     requires bracket { turn_of fixed ≡ g.Closes }
-    ensures read { MatchResult result (λ rest. Turned fixed (depth + 1) depth ts.now rest.now) (λ e. Fails (g.One fixed) (depth + 1) ts.now e) }
+    ensures read { Turns fixed (depth + 1) depth ts.now result }
     ensures memory { result ≢ Err ReadError.NoMemory }
 {
     match behind(ts, fixed) {
@@ -89,7 +89,7 @@ pub fn close(ts: Lexemes, fixed: Fixed, depth: u32) -> Result<Lexemes, ReadError
 #[tactic(auto, using(crate::proofs::Machine::refuse_name), unfolding(script_tree::specs::Grammar::verdict))]
 pub fn name(alloc: Global, ts: Lexemes, depth: u32) -> Result<(Identifier, Lexemes), ReadError>
     requires { depth ≤ 64 }
-    ensures { MatchResult result (λ x. Took g.Name [] depth ts.now (g.AName x.0 ∷ []) (is_identifier x.0) x.1.now) (λ e. Fails g.Name depth ts.now e) }
+    ensures { Reads g.Name g.AName is_identifier depth ts.now result }
 {
     let [first, rest @ ..] = ts else {
         return Err(unexpected(ts));
@@ -104,7 +104,7 @@ pub fn name(alloc: Global, ts: Lexemes, depth: u32) -> Result<(Identifier, Lexem
 #[tactic(auto, using(crate::proofs::Machine::refuse_text), unfolding(script_tree::specs::Grammar::verdict))]
 pub fn text(alloc: Global, ts: Lexemes, depth: u32) -> Result<(Literal, Lexemes), ReadError>
     requires { depth ≤ 64 }
-    ensures { MatchResult result (λ x. Took g.Text [] depth ts.now (g.AText x.0 ∷ []) (is_literal x.0) x.1.now) (λ e. Fails g.Text depth ts.now e) }
+    ensures { Reads g.Text g.AText is_literal depth ts.now result }
 {
     let [first, rest @ ..] = ts else {
         return Err(unexpected(ts));
@@ -165,7 +165,7 @@ pub fn next_level(ts: Lexemes, done: u8, highest: u8) -> Option<u8>
 
 /// What may stand before an operand of a level up to the highest, if it comes next, and what follows it.
 pub fn prefix(ts: Lexemes, highest: u8) -> Option<(Prefix, Lexemes)>
-    ensures { MatchOption result (prefix_next highest ts.now ≡ None) (λ x. (prefix_next highest ts.now ≡ Some x.0) × ((first : ALexeme) × (ts.now ≡ first ∷ x.1.now))) }
+    ensures { ReadsFirst (prefix_next highest ts.now) ts.now result }
 {
     let [first, rest @ ..] = ts else {
         return None;
@@ -188,7 +188,7 @@ fn prefix_of(token: &Lexeme, highest: u8) -> Option<Prefix>
 #[tactic(auto, using(crate::proofs::Choices::refuse_who), unfolding(script_tree::specs::Grammar::verdict))]
 pub fn who(alloc: Global, ts: Lexemes, depth: u32) -> Result<(Who, Lexemes), ReadError>
     requires { depth ≤ 64 }
-    ensures { MatchResult result (λ x. Took g.Who [] depth ts.now (g.AWho x.0 ∷ []) (who_fits x.0) x.1.now) (λ e. Fails g.Who depth ts.now e) }
+    ensures { Reads g.Who g.AWho who_fits depth ts.now result }
 {
     let [first, rest @ ..] = ts else {
         return Err(unexpected(ts));
@@ -206,7 +206,7 @@ pub fn who(alloc: Global, ts: Lexemes, depth: u32) -> Result<(Who, Lexemes), Rea
 #[tactic(auto, using(crate::proofs::Choices::refuse_over), unfolding(script_tree::specs::Grammar::verdict))]
 pub fn over(alloc: Global, ts: Lexemes, depth: u32) -> Result<(Over, Lexemes), ReadError>
     requires { depth ≤ 64 }
-    ensures { MatchResult result (λ x. Took g.Over [] depth ts.now (g.AnOver x.0 ∷ []) (over_fits x.0) x.1.now) (λ e. Fails g.Over depth ts.now e) }
+    ensures { Reads g.Over g.AnOver over_fits depth ts.now result }
 {
     let [first, rest @ ..] = ts else {
         return Err(unexpected(ts));

@@ -1,14 +1,15 @@
 //! `call`: a method of a child with its arguments, and the name for what it returns.
-ghost use Rattle.std.specs.Prelude.{◌≤◌, ◌∷◌, [], MatchResult};
+ghost use Rattle.std.specs.Prelude.{◌≤◌};
 ghost use Rattle.script_tree.specs.Grammar.{Stmt as AStmt, MoreResult};
 ghost use Rattle.script_tree.specs.Spelling.{fixed, spell_result, option_fits};
 ghost use Rattle.script_parser.specs.Reads.{ReadsStatement};
-ghost use Rattle.expression_parser.specs.Takes.{Begun, Fails, TookAll};
+ghost use Rattle.expression_parser.specs.Reads.{ReadsMore};
+ghost use Rattle.expression_parser.specs.Takes.{Begun};
 ghost use Rattle.script_parser.specs.Options.{result_set};
 ghost use Rattle.script_tree.specs.Words.{is_identifier};
 
 use expression_parser::{ReadError, arguments, behind as behind_word, name, open, want};
-use script_tree::{EntityStmt, Expr, Fixed, Identifier, Lexemes, Stmt};
+use script_tree::{EntityStmt, Fixed, Identifier, Lexemes, Stmt};
 use std::alloc::Global;
 
 /// `call CHILD.METHOD(e, ..) as NAME;`
@@ -42,7 +43,7 @@ fn returned(
     depth: u32,
 ) -> Result<(Option<Identifier>, Lexemes), ReadError>
     requires { depth ≤ 64 }
-    ensures { MatchResult result (λ x. TookAll (MoreResult ∷ []) [] depth depth ts.now (spell_result x.0) (result_set x.0) (option_fits is_identifier x.0) x.1.now) (λ e. Fails MoreResult depth ts.now e) }
+    ensures { ReadsMore MoreResult spell_result result_set (option_fits is_identifier) depth ts.now result }
 {
     let Some(behind) = behind_word(ts, Fixed::As) else {
         return Ok((None, ts));

@@ -1,14 +1,15 @@
 //! `fire`: an event, the service that receives it, and its fields.
-ghost use Rattle.std.specs.Prelude.{◌≤◌, ◌∷◌, [], MatchResult};
+ghost use Rattle.std.specs.Prelude.{◌≤◌};
 ghost use Rattle.script_tree.specs.Grammar.{Stmt as AStmt, MoreService};
 ghost use Rattle.script_tree.specs.Spelling.{fixed, spell_service, option_fits};
 ghost use Rattle.script_parser.specs.Reads.{ReadsStatement};
-ghost use Rattle.expression_parser.specs.Takes.{Begun, Fails, TookAll};
+ghost use Rattle.expression_parser.specs.Reads.{ReadsMore};
+ghost use Rattle.expression_parser.specs.Takes.{Begun};
 ghost use Rattle.script_parser.specs.Options.{with_service};
 ghost use Rattle.script_tree.specs.Words.{is_literal};
 
-use expression_parser::{ReadError, behind as behind_word, expression, fields, name, text, want};
-use script_tree::{ActivityStmt, FieldValue, Fixed, Lexemes, Literal, Stmt};
+use expression_parser::{ReadError, behind as behind_word, expression, fields, text, want};
+use script_tree::{ActivityStmt, Fixed, Lexemes, Literal, Stmt};
 use std::alloc::Global;
 
 /// `fire TEXT on a for TEXT { NAME: e, .. };`
@@ -37,7 +38,7 @@ pub fn fire<'a>(
 /// `for TEXT`, where it comes.
 fn service(alloc: Global, ts: Lexemes, depth: u32) -> Result<(Option<Literal>, Lexemes), ReadError>
     requires { depth ≤ 64 }
-    ensures { MatchResult result (λ x. TookAll (MoreService ∷ []) [] depth depth ts.now (spell_service x.0) (with_service x.0) (option_fits is_literal x.0) x.1.now) (λ e. Fails MoreService depth ts.now e) }
+    ensures { ReadsMore MoreService spell_service with_service (option_fits is_literal) depth ts.now result }
 {
     let Some(behind) = behind_word(ts, Fixed::For) else {
         return Ok((None, ts));

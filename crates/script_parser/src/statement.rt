@@ -1,9 +1,9 @@
 //! Statements and blocks read from tokens, each with what is left behind it.
-ghost use Rattle.std.specs.Prelude.{◌≡◌, ◌≤◌, ◌+◌, ◌∷◌, [], MatchResult, MatchOption};
-ghost use Rattle.script_tree.specs.declared.lexeme.Lexeme.{Lexeme as ALexeme};
+ghost use Rattle.std.specs.Prelude.{◌≡◌, ◌≤◌, ◌+◌, [], MatchResult};
 ghost use Rattle.script_tree.specs.Grammar.{Stmt as AStmt, stmt_fixed, stmt_after, script_of};
 ghost use Rattle.script_tree.specs.Spelling.{fixed, statements_fit};
 ghost use Rattle.script_parser.specs.Reads.{ReadsStatement};
+ghost use Rattle.expression_parser.specs.Reads.{ReadsFirst};
 ghost use Rattle.expression_parser.specs.Takes.{Begun, begins};
 ghost use Rattle.script_parser.specs.Bodies.{TookStmts, FailStmts, TookBlock, FailsBlock, starts_stmt, block_word_at, block_word_in};
 ghost use Rattle.script_tree.specs.Tree.{statements_of};
@@ -95,7 +95,7 @@ pub fn statements(alloc: Global, ts: Lexemes, depth: u32) -> Result<(Vec<Stmt>, 
 
 /// The word with which a statement with a block begins, and what follows it.
 fn block_word(ts: Lexemes) -> Option<(BlockWord, Lexemes)>
-    ensures { MatchOption result (block_word_in ts.now ≡ None) (λ x. (block_word_in ts.now ≡ Some x.0) × ((first : ALexeme) × (ts.now ≡ first ∷ x.1.now))) }
+    ensures { ReadsFirst (block_word_in ts.now) ts.now result }
 {
     let [first, rest @ ..] = ts else {
         return None;

@@ -1,10 +1,10 @@
 //! `timer`: the time at which it is due, its repetition, and what is kept of missed occurrences.
-ghost use Rattle.std.specs.Prelude.{◌≡◌, ◌≢◌, ◌≤◌, ◌∷◌, [], true, Err, MatchResult, MatchOption, IfOk};
-ghost use Rattle.script_tree.specs.declared.lexeme.Lexeme.{Lexeme as ALexeme};
+ghost use Rattle.std.specs.Prelude.{◌≡◌, ◌≢◌, ◌≤◌, ◌∷◌, [], true, Err, IfOk};
 ghost use Rattle.script_tree.specs.Grammar.{Stmt as AStmt, MoreRepeat, MoreKeep, KeepWord};
 ghost use Rattle.script_tree.specs.Spelling.{fixed, spell_repeat, spell_keep, keep_token, option_fits, repeat_fits};
 ghost use Rattle.script_parser.specs.Reads.{ReadsStatement};
-ghost use Rattle.expression_parser.specs.Takes.{Begun, Fails, TookAll};
+ghost use Rattle.expression_parser.specs.Reads.{ReadsFirst, ReadsMore};
+ghost use Rattle.expression_parser.specs.Takes.{Begun};
 ghost use Rattle.script_parser.specs.Options.{repeat_set, keep_set, keep_at, keep_in, repeat_in};
 ghost use Rattle.script_tree.specs.Tree.{repeat_of, tree_of};
 
@@ -50,7 +50,7 @@ fn repeat(
     depth: u32,
 ) -> Result<(Option<Box<Repeat>>, Lexemes), ReadError>
     requires { depth ≤ 64 }
-    ensures { MatchResult result (λ x. TookAll (MoreRepeat ∷ []) [] depth depth ts.now (spell_repeat (repeat_in x.0)) (repeat_set (repeat_in x.0)) (option_fits (repeat_fits depth) (repeat_in x.0)) x.1.now) (λ e. Fails MoreRepeat depth ts.now e) }
+    ensures { ReadsMore MoreRepeat (λ r. spell_repeat (repeat_in r)) (λ r. repeat_set (repeat_in r)) (λ r. option_fits (repeat_fits depth) (repeat_in r)) depth ts.now result }
 {
     let Some(behind) = behind_word(ts, Fixed::Every) else {
         return Ok((None, ts));
@@ -83,7 +83,7 @@ fn unboxed(repeat: Option<Box<Repeat>>) -> Option<Repeat>
 /// `keep` and its word, where it comes.
 fn keep(ts: Lexemes, depth: u32) -> Result<(Option<Keep>, Lexemes), ReadError>
     requires { depth ≤ 64 }
-    ensures read { MatchResult result (λ x. TookAll (MoreKeep ∷ []) [] depth depth ts.now (spell_keep x.0) (keep_set x.0) true x.1.now) (λ e. Fails MoreKeep depth ts.now e) }
+    ensures read { ReadsMore MoreKeep spell_keep keep_set (λ _. true) depth ts.now result }
     ensures memory { result ≢ Err ReadError.NoMemory }
 {
     let Some(behind) = behind_word(ts, Fixed::Keep) else {
@@ -96,7 +96,7 @@ fn keep(ts: Lexemes, depth: u32) -> Result<(Option<Keep>, Lexemes), ReadError>
 /// `all`, `last` or `none`.
 fn keep_word(ts: Lexemes, depth: u32) -> Result<(Keep, Lexemes), ReadError>
     requires { depth ≤ 64 }
-    ensures read { MatchResult result (λ x. TookAll (KeepWord ∷ []) [] depth depth ts.now (keep_token x.0 ∷ []) (keep_set (Some x.0)) true x.1.now) (λ e. Fails KeepWord depth ts.now e) }
+    ensures read { ReadsMore KeepWord (λ k. keep_token k ∷ []) (λ k. keep_set (Some k)) (λ _. true) depth ts.now result }
     ensures memory { result ≢ Err ReadError.NoMemory }
 {
     let Some((keep, rest)) = keep_in(ts) else {
@@ -107,7 +107,7 @@ fn keep_word(ts: Lexemes, depth: u32) -> Result<(Keep, Lexemes), ReadError>
 
 /// The word behind `keep`, and what follows it.
 fn keep_in(ts: Lexemes) -> Option<(Keep, Lexemes)>
-    ensures { MatchOption result (keep_in ts.now ≡ None) (λ x. (keep_in ts.now ≡ Some x.0) × ((first : ALexeme) × (ts.now ≡ first ∷ x.1.now))) }
+    ensures { ReadsFirst (keep_in ts.now) ts.now result }
 {
     let [first, rest @ ..] = ts else {
         return None;
