@@ -4,4 +4,4 @@
 mod run;
 
 pub use run::run_script;
-pub use script_run::{Before, Keys, Known, Run};
+pub use script_run::{Before, Keys, Known, Run, word_of};

@@ -4,31 +4,9 @@ use crate::effects::write_effects;
 use crate::state_keys::write_key;
 use crate::trouble::Trouble;
 use handler_meaning::{FailKind, Key, Outcome};
-use handler_run::Run;
+use handler_run::{Run, word_of};
 use slee_effect::Effect;
 use std::alloc::AllocError;
-
-/// The word of a failure.
-fn failure_word(kind: FailKind) -> &'static str {
-    match kind {
-        FailKind::Thrown => "thrown",
-        FailKind::Overflow => "overflow",
-        FailKind::ZeroDivisor => "zero-divisor",
-        FailKind::Budget => "budget",
-        FailKind::Gone => "gone",
-        FailKind::Ending => "ending",
-        FailKind::NotNull => "not-null",
-        FailKind::Bound => "bound",
-        FailKind::Unbound => "unbound",
-        FailKind::Detached => "detached",
-        FailKind::NoRow => "no-row",
-        FailKind::Depth => "depth",
-        FailKind::Observed => "observed",
-        FailKind::Range => "range",
-        FailKind::TooLong => "too-long",
-        FailKind::TooMuch => "too-much",
-    }
-}
 
 /// Writes how a run ended. The text of a failure is told where it isn't the word of its kind.
 fn write_outcome(line: &mut String, outcome: Outcome, failure: &str) -> Result<(), AllocError> {
@@ -47,8 +25,8 @@ fn write_outcome(line: &mut String, outcome: Outcome, failure: &str) -> Result<(
             failure
         }
         Outcome::Broken(kind) => {
-            write!(line, "failed {}", failure_word(kind))?;
-            failure_word(kind)
+            write!(line, "failed {}", word_of(kind))?;
+            word_of(kind)
         }
     };
     if failure == expected {

@@ -10,3 +10,4 @@ mod words;
 pub use before::Before;
 pub use keys::{Keys, Known};
 pub use run::{Run, Unfinished, run_in};
+pub use words::word_of;

@@ -5,7 +5,7 @@ ghost use Rattle.handler_meaning.specs.Running.{word_of};
 use handler_meaning::FailKind;
 
 /// The word of a failure's kind.
-pub(crate) fn word_of(kind: FailKind) -> &'static str
+pub fn word_of(kind: FailKind) -> &'static str
     ensures { result.now ≡ word_of kind }
 {
     match kind {
