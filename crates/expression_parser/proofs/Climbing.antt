@@ -1,5 +1,5 @@
 -- An expression is read from its first operand on, and then level by level: the table goes the same way.
-use Rattle.std.proofs.Common.{◌≡◌, ◌≤◌, ◌<◌, ◌+◌, ◌-◌, ℕ, zero, suc, List, [], ◌∷◌, ◌++◌, length, Some, None, Bool, true, false, ◌&&◌, refl, sym, ap, ◌∙◌, arith, append_assoc}
+use Rattle.std.proofs.Common.{◌≡◌, ◌≤◌, ◌<◌, ◌+◌, ◌-◌, ℕ, zero, suc, List, [], ◌∷◌, ◌++◌, length, Option, Some, None, Bool, true, false, ◌&&◌, refl, sym, ap, ◌∙◌, arith, append_assoc}
 use Rattle.std.specs.Prelude.{nat_le, nat_lt, ◌==◌, if◌then◌else◌}
 use Rattle.std.proofs.lemmas.Bool.Decides.{nat_tests}
 use Rattle.script_tree.specs.declared.symbol.Operator.{Operator}
@@ -10,14 +10,12 @@ use Rattle.script_tree.specs.declared.lexeme.Lexeme.{Lexeme}
 use Rattle.script_tree.specs.declared.lexeme.Lexeme.TheVariants as t
 use Rattle.script_tree.specs.declared.tree.Prefix.{Prefix}
 use Rattle.script_tree.specs.declared.tree.Prefix.TheVariants as prefixes
-use Rattle.expression_parser.specs.declared.refusal.ReadError.{ReadError}
-use Rattle.expression_parser.specs.declared.refusal.ReadError.TheVariants as errors
 use Rattle.script_tree.specs.Tree.{Expression, Unary, Binary}
-use Rattle.script_tree.specs.Spelling.{fits, prefix_level, chain_level, left_level, spell_expression}
-use Rattle.script_tree.specs.Grammar.{Part, Item, Make, Prefixing, Operating, Level, More, ATree, verdict, again, level_of}
-use Rattle.expression_parser.specs.Takes.{fits_at, prefix_at, prefix_in, operator_at, operator_in, Took, Fails}
-use Rattle.expression_parser.specs.Levels.{mores, joining_at, joining, next_level, prefix_up_to, prefix_next, TookOperand, TookChain, FailsChain}
-use Rattle.expression_parser.proofs.Machine.{made, fails_at}
+use Rattle.script_tree.specs.Spelling.{prefix_level, chain_level, left_level, spell_expression}
+use Rattle.script_tree.specs.Grammar.{Part, Item, Make, Prefixing, Operating, Level, More, ATree, Verdict, verdict, again, level_of}
+use Rattle.expression_parser.specs.Takes.{fits_at, prefix_at, prefix_in, operator_at, operator_in, Took}
+use Rattle.expression_parser.specs.Levels.{mores, joining_at, joining, next_level, prefix_up_to, prefix_next, TookOperand, TookChain}
+use Rattle.expression_parser.proofs.Machine.{made}
 use Rattle.expression_parser.proofs.Operators.{opens, skip_more, operates, prefixed, unary_took, fits_weaker, fits_unchained, and_join, and_split, le_self}
 
 -- ---- which operators come next
@@ -201,6 +199,10 @@ none_of_prefix op (token ∷ ts) = none_at (prefix_level op) token (no_joining_p
 
 -- ---- what the readers take
 
+-- the parts where no prefix comes
+to_plain : (n : ℕ) (ps : List Part) (is : List Item) (d : ℕ) (ts : List Lexeme) → prefix_next n ts ≡ None → verdict (Level n ∷ ps) is d ts ≡ verdict (Level 0 ∷ (mores (n - 0) 0 ++ ps)) is d ts
+to_plain n ps is d ts h = down (n - 0) n 0 ps is d ts (omega arith) (λ k lt le. no_prefix_in n k ts h le)
+
 -- an operand without a prefix
 pub plain_operand : (n d : ℕ) (ts rest : List Lexeme) (a : Expression) → prefix_next n ts ≡ None → Took (Level 0) [] d ts (ATree a ∷ []) (fits_at 0 d a) rest → TookOperand n 0 d ts a rest
 plain_operand n d ts rest a h took = record {
@@ -209,19 +211,38 @@ plain_operand n d ts rest a h took = record {
     shorter = took.shorter;
     spelled = took.spelled;
     good_one = took.good_one;
-    goes_on = λ ps i. down (n - 0) n 0 ps i d ts (omega arith) (λ k lt le. no_prefix_in n k ts h le) ∙ took.goes_on (mores (n - 0) 0 ++ ps) i;
+    goes_on = λ ps i. to_plain n ps i d ts h ∙ took.goes_on (mores (n - 0) 0 ++ ps) i;
   };
 }
 
-pub plain_fails : (n d : ℕ) (ts : List Lexeme) (error : ReadError) → prefix_next n ts ≡ None → Fails (Level 0) d ts error → Fails (Level n) d ts error
-plain_fails n d ts error h f =
-    fails_at (Level n) (Level 0) d d ts ts (λ ps. mores (n - 0) 0 ++ ps) (λ i. i) (λ ps i. down (n - 0) n 0 ps i d ts (omega arith) (λ k lt le. no_prefix_in n k ts h le)) error f
+some_level : (op : Prefix) → 0 < prefix_level op
+some_level prefixes.Negative = omega arith
+some_level prefixes.Not = omega arith
 
--- the parts behind a prefix
-to_prefix : (n d : ℕ) (ts behind : List Lexeme) (op : Prefix) (first : Lexeme) → prefix_next n ts ≡ Some op → ts ≡ first ∷ behind → (ps : List Part) (is : List Item) → verdict (Level n ∷ ps) is d ts ≡ verdict (Level (prefix_level op) ∷ (mores (n - prefix_level op) (prefix_level op) ++ ps)) is d ts
-to_prefix n d ts behind op first h e ps is =
-    let own = own_prefix n first op (ap (prefix_next n) (sym e) ∙ h) in
-    down (n - prefix_level op) n (prefix_level op) ps is d ts (omega (arith, own.0)) (λ k lt le. ap (prefix_in k) e ∙ other_prefix k first op own.1 (λ g. absurd (omega (arith, lt, g))))
+-- the parts before a prefix, and behind it
+to_prefix : (n : ℕ) (ps : List Part) (is : List Item) (d : ℕ) (first : Lexeme) (behind : List Lexeme) (op : Prefix) → prefix_next n (first ∷ behind) ≡ Some op → verdict (Level n ∷ ps) is d (first ∷ behind) ≡ verdict (Level (prefix_level op) ∷ (mores (n - prefix_level op) (prefix_level op) ++ ps)) is d (first ∷ behind)
+to_prefix n ps is d first behind op h =
+    let own = own_prefix n first op h in
+    down (n - prefix_level op) n (prefix_level op) ps is d (first ∷ behind) (omega (arith, own.0)) (λ k lt le. other_prefix k first op own.1 (λ g. absurd (omega (arith, lt, g))))
+
+to_prefixed : (n : ℕ) (ps : List Part) (is : List Item) (d : ℕ) (first : Lexeme) (behind : List Lexeme) (op : Prefix) → prefix_next n (first ∷ behind) ≡ Some op → verdict (Level n ∷ ps) is d (first ∷ behind) ≡ verdict (Level (prefix_level op - 1) ∷ Make (Prefixing op) ∷ More (prefix_level op) ∷ (mores (n - prefix_level op) (prefix_level op) ++ ps)) is d behind
+to_prefixed n ps is d first behind op h =
+    let p = prefix_level op in
+    to_prefix n ps is d first behind op h ∙ prefixed p (mores (n - p) p ++ ps) is d first behind op (some_level op) (own_prefix n first op h).1
+
+-- how an operand goes on, by the prefix that comes
+abbrev pub operand_at : ℕ → Option Prefix → List Part → List Item → ℕ → List Lexeme → Verdict
+operand_at n None ps is d ts = verdict (Level 0 ∷ (mores (n - 0) 0 ++ ps)) is d ts
+operand_at n (Some op) ps is d [] = verdict (Level n ∷ ps) is d []
+operand_at n (Some op) ps is d (first ∷ behind) = verdict (Level (prefix_level op - 1) ∷ Make (Prefixing op) ∷ More (prefix_level op) ∷ (mores (n - prefix_level op) (prefix_level op) ++ ps)) is d behind
+
+pub operand_begins : (n : ℕ) (ps : List Part) (is : List Item) (d : ℕ) (ts : List Lexeme) → verdict (Level n ∷ ps) is d ts ≡ operand_at n (prefix_next n ts) ps is d ts
+operand_begins n ps is d [] = to_plain n ps is d [] refl
+operand_begins n ps is d (first ∷ behind) = by_prefix (prefix_next n (first ∷ behind)) refl
+  where
+    by_prefix : (p : Option Prefix) → prefix_next n (first ∷ behind) ≡ p → verdict (Level n ∷ ps) is d (first ∷ behind) ≡ operand_at n p ps is d (first ∷ behind)
+    by_prefix None h = to_plain n ps is d (first ∷ behind) h
+    by_prefix (Some op) h = to_prefixed n ps is d first behind op h
 
 -- an operand behind its prefix
 pub prefixed_operand : (n d : ℕ) (ts behind rest : List Lexeme) (op : Prefix) (first : Lexeme) (a b : Expression) → prefix_next n ts ≡ Some op → ts ≡ first ∷ behind → Took (Level (prefix_level op - 1)) [] d behind (ATree a ∷ []) (fits_at (prefix_level op - 1) d a) rest → b ≡ a → TookOperand n (prefix_level op) d ts (Unary op b) rest
@@ -236,24 +257,9 @@ prefixed_operand n d ts behind rest op first a b h e took same =
         shorter = one.shorter;
         spelled = one.spelled;
         good_one = fits_unchained p d (Unary op b) one.good_one;
-        goes_on = λ ps i. to_prefix n d ts behind op first h e ps i ∙ one.goes_on (mores (n - p) p ++ ps) i ∙ skip_more p (mores (n - p) p ++ ps) (ATree (Unary op b) ∷ i) d rest (none_of_prefix op rest);
+        goes_on = λ ps i. ap (verdict (Level n ∷ ps) i d) e ∙ to_prefix n ps i d first behind op (ap (prefix_next n) (sym e) ∙ h) ∙ ap (verdict (Level p ∷ (mores (n - p) p ++ ps)) i d) (sym e) ∙ one.goes_on (mores (n - p) p ++ ps) i ∙ skip_more p (mores (n - p) p ++ ps) (ATree (Unary op b) ∷ i) d rest (none_of_prefix op rest);
       };
     }
-  where
-    some_level : (op : Prefix) → 0 < prefix_level op
-    some_level prefixes.Negative = omega arith
-    some_level prefixes.Not = omega arith
-
-pub prefixed_fails : (n d : ℕ) (ts behind : List Lexeme) (op : Prefix) (first : Lexeme) (error : ReadError) → prefix_next n ts ≡ Some op → ts ≡ first ∷ behind → Fails (Level (prefix_level op - 1)) d behind error → Fails (Level n) d ts error
-prefixed_fails n d ts behind op first error h e f =
-    let p = prefix_level op in
-    let own = own_prefix n first op (ap (prefix_next n) (sym e) ∙ h) in
-    fails_at (Level n) (Level (p - 1)) d d ts behind (λ ps. Make (Prefixing op) ∷ More p ∷ (mores (n - p) p ++ ps)) (λ is. is)
-    (λ ps i. to_prefix n d ts behind op first h e ps i ∙ ap (verdict (Level p ∷ (mores (n - p) p ++ ps)) i d) e ∙ prefixed p (mores (n - p) p ++ ps) i d first behind op (some_level op) own.1) error f
-  where
-    some_level : (op : Prefix) → 0 < prefix_level op
-    some_level prefixes.Negative = omega arith
-    some_level prefixes.Not = omega arith
 
 -- nothing was taken yet
 pub no_chain : (n d : ℕ) (ts : List Lexeme) (a : Expression) → TookChain (More n ∷ []) n (chain_level n) d ts a a ts
@@ -284,20 +290,24 @@ chain_ends n d ts rest a b took none = record {
   goes_on = λ ps i. took.goes_on ps i ∙ skip_more n ps (ATree b ∷ i) d rest none;
 }
 
--- a fault in a right operand
-pub chain_fails : (n d : ℕ) (ts mid behind : List Lexeme) (op : Operator) (a b : Expression) (error : ReadError) → TookChain (More n ∷ []) n (chain_level n) d ts a b mid → mid ≡ t.Symbol (s.Operator op) ∷ behind → level_of op ≡ n → Fails (Level (n - 1)) d behind error → FailsChain n d ts a error
-chain_fails n d ts mid behind op a b errors.NoMemory left is on f = tt
-chain_fails n d ts mid behind op a b (errors.Misfit misfit) left is on f =
-    λ ps i. left.goes_on ps i ∙ ap (verdict (More n ∷ ps) (ATree b ∷ i) d) is ∙ operates n ps (ATree b ∷ i) d op behind on ∙ f (Make (Operating op) ∷ (again n ++ ps)) (ATree b ∷ i)
+-- of the operators that may come those of the next level do
+to_next : (n m k : ℕ) (ps : List Part) (is : List Item) (d : ℕ) (ts : List Lexeme) → m ≤ n → next_level m n ts ≡ Some k → verdict (mores (n - m) m ++ ps) is d ts ≡ verdict (More k ∷ (mores (n - k) k ++ ps)) is d ts
+to_next n m k ps is d ts order next =
+    let p = next_some m n k ts next in
+    let whole : m + (n - m) - k ≡ n - k = omega (arith, order) in
+    reaches (n - m) m k ps is d ts p.1.1 p.0 (omega (arith, order, p.1.0)) ∙ ap (λ i. verdict (More k ∷ (mores i k ++ ps)) is d ts) whole
 
--- the operators of the next level were taken
-to_next : (n m k d : ℕ) (ts mid : List Lexeme) (a : Expression) → TookOperand n m d ts a mid → next_level m n mid ≡ Some k → (ps : List Part) (is : List Item) → verdict (Level n ∷ ps) is d ts ≡ verdict (More k ∷ (mores (n - k) k ++ ps)) (ATree a ∷ is) d mid
-to_next n m k d ts mid a left next ps is =
-    let p = next_some m n k mid next in
-    let whole : m + (n - m) - k ≡ n - k = omega (arith, left.order) in
-    left.took.goes_on ps is
-    ∙ reaches (n - m) m k ps (ATree a ∷ is) d mid p.1.1 p.0 (omega (arith, left.order, p.1.0))
-    ∙ ap (λ i. verdict (More k ∷ (mores i k ++ ps)) (ATree a ∷ is) d mid) whole
+-- which operators are still to come, by the level that comes next
+abbrev pub mores_from : ℕ → Option ℕ → List Part → List Part
+mores_from n None ps = ps
+mores_from n (Some k) ps = More k ∷ (mores (n - k) k ++ ps)
+
+pub next_begins : (n m : ℕ) (ps : List Part) (is : List Item) (d : ℕ) (ts : List Lexeme) → m ≤ n → verdict (mores (n - m) m ++ ps) is d ts ≡ verdict (mores_from n (next_level m n ts) ps) is d ts
+next_begins n m ps is d ts order = by_level (next_level m n ts) refl
+  where
+    by_level : (next : Option ℕ) → next_level m n ts ≡ next → verdict (mores (n - m) m ++ ps) is d ts ≡ verdict (mores_from n next ps) is d ts
+    by_level None h = past (n - m) m ps is d ts (λ k lt le. next_none m n ts h k lt (omega (arith, le, order)))
+    by_level (Some k) h = to_next n m k ps is d ts order h
 
 pub climbed : (n m k d : ℕ) (ts mid rest : List Lexeme) (a b : Expression) → TookOperand n m d ts a mid → next_level m n mid ≡ Some k → TookChain [] k k d mid a b rest → TookOperand n k d ts b rest
 climbed n m k d ts mid rest a b left next right =
@@ -309,13 +319,9 @@ climbed n m k d ts mid rest a b left next right =
         shorter = omega (arith, left.took.shorter, right.shorter);
         spelled = left.took.spelled ∙ right.spelled;
         good_one = right.good_one (fits_weaker m (chain_level k) d a below left.took.good_one);
-        goes_on = λ ps i. to_next n m k d ts mid a left next ps i ∙ right.goes_on (mores (n - k) k ++ ps) i;
+        goes_on = λ ps i. left.took.goes_on ps i ∙ to_next n m k ps (ATree a ∷ i) d mid left.order next ∙ right.goes_on (mores (n - k) k ++ ps) i;
       };
     }
-
-pub climb_fails : (n m k d : ℕ) (ts mid : List Lexeme) (a : Expression) (error : ReadError) → TookOperand n m d ts a mid → next_level m n mid ≡ Some k → FailsChain k d mid a error → Fails (Level n) d ts error
-climb_fails n m k d ts mid a errors.NoMemory left next f = tt
-climb_fails n m k d ts mid a (errors.Misfit misfit) left next f = λ ps i. to_next n m k d ts mid a left next ps i ∙ f (mores (n - k) k ++ ps) i
 
 -- no operator of the levels comes
 pub climb_ends : (n m d : ℕ) (ts rest : List Lexeme) (a : Expression) → TookOperand n m d ts a rest → next_level m n rest ≡ None → Took (Level n) [] d ts (ATree a ∷ []) (fits_at n d a) rest

@@ -13,11 +13,10 @@ use Rattle.script_tree.specs.Tree.{Bytes, Expression, tree_of, field_of}
 use Rattle.script_tree.specs.Words.{is_identifier}
 use Rattle.script_tree.specs.Spelling.{fixed, spell_expression, spell_arguments, spell_more, spell_field, spell_fields, spell_more_fields, fits, field_fits}
 use Rattle.script_tree.specs.Grammar.{Part, Item, AName, ATree, Make, Level, One, Name, MoreFields, NextField, WithField, Arguments, NextArgument, WithArgument, verdict}
-use Rattle.expression_parser.specs.declared.refusal.ReadError.{ReadError}
 use Rattle.expression_parser.specs.declared.refusal.ReadError.TheVariants as errors
-use Rattle.expression_parser.specs.Takes.{Fails, FailsAll, Took, Turned, TookAll, starts}
+use Rattle.expression_parser.specs.Takes.{Fails, Took, Turned, TookAll, starts}
 use Rattle.expression_parser.specs.Lists.{TookField, has_some, spell_further, spell_list, with_fields, with_arguments}
-use Rattle.expression_parser.proofs.Machine.{made, fails_at}
+use Rattle.expression_parser.proofs.Machine.{made}
 use Rattle.expression_parser.proofs.Operators.{and_join, and_split}
 use Rattle.expression_parser.proofs.ListSteps.{skip_next_field, more_next_field, more_fields, deep_fields, with_fields_more, skip_next_argument, more_next_argument, with_arguments_more, first_argument, skip_arguments}
 
@@ -29,19 +28,6 @@ left_out p d ts tokens set good skips same fine none = record {
   good_one = fine;
   goes_on = λ ps i. skips ps i ∙ ap (λ l. verdict ps l d ts) (sym (same i));
 }
-
--- the fault of a part among others
-pub fails_among : (parts : List Part) (q : Part) (d e : ℕ) (ts us : List Lexeme) (more : List Part → List Part) (read : List Item → List Item) → ((ps : List Part) (is : List Item) → verdict (parts ++ ps) is d ts ≡ verdict (q ∷ more ps) (read is) e us) → (error : ReadError) → Fails q e us error → FailsAll parts d ts error
-fails_among parts q d e ts us more read h errors.NoMemory f = tt
-fails_among parts q d e ts us more read h (errors.Misfit misfit) f = λ ps i. h ps i ∙ f (more ps) (read i)
-
-pub fails_behind : (parts others : List Part) (d e : ℕ) (ts us : List Lexeme) (more : List Part → List Part) (read : List Item → List Item) → ((ps : List Part) (is : List Item) → verdict (parts ++ ps) is d ts ≡ verdict (others ++ more ps) (read is) e us) → (error : ReadError) → FailsAll others e us error → FailsAll parts d ts error
-fails_behind parts others d e ts us more read h errors.NoMemory f = tt
-fails_behind parts others d e ts us more read h (errors.Misfit misfit) f = λ ps i. h ps i ∙ f (more ps) (read i)
-
-pub fails_within : (p : Part) (others : List Part) (d e : ℕ) (ts us : List Lexeme) (more : List Part → List Part) (read : List Item → List Item) → ((ps : List Part) (is : List Item) → verdict (p ∷ ps) is d ts ≡ verdict (others ++ more ps) (read is) e us) → (error : ReadError) → FailsAll others e us error → Fails p d ts error
-fails_within p others d e ts us more read h errors.NoMemory f = tt
-fails_within p others d e ts us more read h (errors.Misfit misfit) f = λ ps i. h ps i ∙ f (more ps) (read i)
 
 all_more : {A : Type 0} (p : A → Bool) (ys : List A) (y : A) → list_all p ys ≡ true → p y ≡ true → list_all p (ys ++ y ∷ []) ≡ true
 all_more p [] y h k = and_join _ _ k refl
@@ -88,9 +74,6 @@ field_took d ts r1 r2 r3 name a named turned took = record {
   goes_on = λ ps i. named.goes_on (One x.Colon ∷ Level 8 ∷ Make WithField ∷ ps) i ∙ turned.goes_on (Level 8 ∷ Make WithField ∷ ps) (AName name ∷ i) ∙ took.goes_on (Make WithField ∷ ps) (AName name ∷ i) ∙ made WithField ps (ATree a ∷ AName name ∷ i) d r3;
 }
 
-abbrev one_field : List Part
-one_field = Name ∷ One x.Colon ∷ Level 8 ∷ Make WithField ∷ []
-
 abbrev some_fields : List Part
 some_fields = Name ∷ One x.Colon ∷ Level 8 ∷ Make WithField ∷ NextField ∷ []
 
@@ -114,7 +97,7 @@ fields_more d ts mid behind rest xs ys y some comma took is =
       spelled = some.spelled ∙ ap (λ l. before ++ l) (comma ∙ ap (λ l. fixed x.Comma ∷ l) took.spelled) ∙ sym (append_assoc before (fixed x.Comma ∷ spell_field (field_of y)) rest)
           ∙ ap (λ l. l ++ rest) (sym (list_more (map field_of xs) (field_of y) good.0)) ∙ ap (λ l. spell_list l ++ rest) (sym e);
       good_one = ap (λ l. has_some l && list_all (field_fits d) l) e ∙ and_join _ _ (some_more (map field_of xs) (field_of y)) (all_more (field_fits d) (map field_of xs) (field_of y) good.1 took.good_one);
-      goes_on = λ ps i. some.goes_on ps i ∙ more_next_field ps (with_fields (map field_of xs) i) d mid behind comma ∙ took.goes_on (NextField ∷ ps) (with_fields (map field_of xs) i)
+      goes_on = λ ps i. some.goes_on ps i ∙ ap (verdict (NextField ∷ ps) (with_fields (map field_of xs) i) d) comma ∙ more_next_field ps (with_fields (map field_of xs) i) d behind ∙ took.goes_on (NextField ∷ ps) (with_fields (map field_of xs) i)
           ∙ ap (λ l. verdict (NextField ∷ ps) l d rest) (sym (with_fields_more (map field_of xs) (field_of y) i)) ∙ ap (λ l. verdict (NextField ∷ ps) (with_fields l i) d rest) (sym e);
     }
 
@@ -133,14 +116,8 @@ fields_took d ts inner mid rest fs is lt list turned = record {
   spelled = is ∙ ap (λ l. fixed x.OpenCurly ∷ l) (list.spelled ∙ ap (λ l. spell_list fs ++ l) turned.spelled ∙ sym (append_assoc (spell_list fs) (fixed x.CloseCurly ∷ []) rest))
       ∙ ap (λ l. l ++ rest) (sym (list_closed fs (and_split _ _ list.good_one).0));
   good_one = (and_split _ _ list.good_one).1;
-  goes_on = λ ps i. more_fields ps i d ts inner is lt ∙ list.goes_on (One x.CloseCurly ∷ ps) i ∙ turned.goes_on ps (with_fields fs i);
+  goes_on = λ ps i. ap (verdict (MoreFields ∷ ps) i d) is ∙ more_fields ps i d inner lt ∙ list.goes_on (One x.CloseCurly ∷ ps) i ∙ turned.goes_on ps (with_fields fs i);
 }
-
-pub fields_fail : (d : ℕ) (ts inner : List Lexeme) (e : ReadError) → ts ≡ t.Symbol (s.Fixed x.OpenCurly) ∷ inner → d < 64 → FailsAll some_fields (d + 1) inner e → Fails MoreFields d ts e
-fields_fail d ts inner e is lt f = fails_within MoreFields some_fields d (d + 1) ts inner (λ ps. One x.CloseCurly ∷ ps) (λ i. i) (λ ps i. more_fields ps i d ts inner is lt) e f
-
-pub fields_open : (d : ℕ) (ts inner tokens mid : List Lexeme) (set : List Item → List Item) (good : Bool) (e : ReadError) → ts ≡ t.Symbol (s.Fixed x.OpenCurly) ∷ inner → d < 64 → TookAll some_fields [] (d + 1) (d + 1) inner tokens set good mid → Fails (One x.CloseCurly) (d + 1) mid e → Fails MoreFields d ts e
-fields_open d ts inner tokens mid set good e is lt list f = fails_at MoreFields (One x.CloseCurly) d (d + 1) ts mid (λ ps. ps) set (λ ps i. more_fields ps i d ts inner is lt ∙ list.goes_on (One x.CloseCurly ∷ ps) i) e f
 
 pub fields_deep : (d : ℕ) (ts inner : List Lexeme) → ts ≡ t.Symbol (s.Fixed x.OpenCurly) ∷ inner → d ≡ 64 → Fails MoreFields d ts (errors.Misfit (record { left = length ts; kind = bad.Deep }))
 fields_deep d ts inner is at = λ ps i. deep_fields ps i d ts inner is at
@@ -169,7 +146,7 @@ arguments_more d ts mid behind rest xs ys y some comma took is =
       spelled = some.spelled ∙ ap (λ l. before ++ l) (comma ∙ ap (λ l. fixed x.Comma ∷ l) took.spelled) ∙ sym (append_assoc before (fixed x.Comma ∷ spell_expression (tree_of y)) rest)
           ∙ ap (λ l. l ++ rest) (sym (arguments_longer (map tree_of xs) (tree_of y) good.0)) ∙ ap (λ l. spell_arguments l ++ rest) (sym e);
       good_one = ap (λ l. has_some l && list_all (fits d) l) e ∙ and_join _ _ (some_more (map tree_of xs) (tree_of y)) (all_more (fits d) (map tree_of xs) (tree_of y) good.1 took.good_one);
-      goes_on = λ ps i. some.goes_on ps i ∙ more_next_argument ps (with_arguments (map tree_of xs) i) d mid behind comma ∙ took.goes_on (Make WithArgument ∷ NextArgument ∷ ps) (with_arguments (map tree_of xs) i)
+      goes_on = λ ps i. some.goes_on ps i ∙ ap (verdict (NextArgument ∷ ps) (with_arguments (map tree_of xs) i) d) comma ∙ more_next_argument ps (with_arguments (map tree_of xs) i) d behind ∙ took.goes_on (Make WithArgument ∷ NextArgument ∷ ps) (with_arguments (map tree_of xs) i)
           ∙ made WithArgument (NextArgument ∷ ps) (ATree (tree_of y) ∷ with_arguments (map tree_of xs) i) d rest
           ∙ ap (λ l. verdict (NextArgument ∷ ps) l d rest) (sym (with_arguments_more (map tree_of xs) (tree_of y) i)) ∙ ap (λ l. verdict (NextArgument ∷ ps) (with_arguments l i) d rest) (sym e);
     }
@@ -200,9 +177,3 @@ arguments_took d ts mid rest xs h list turned = record {
   good_one = (and_split _ _ list.good_one).1;
   goes_on = λ ps i. first_argument ps i (d + 1) ts h ∙ list.goes_on (One x.CloseRound ∷ ps) i ∙ turned.goes_on ps (with_arguments xs i);
 }
-
-pub arguments_fail : (d : ℕ) (ts : List Lexeme) (e : ReadError) → starts x.CloseRound ts ≡ false → FailsAll some_arguments d ts e → FailsAll (Arguments ∷ One x.CloseRound ∷ []) d ts e
-arguments_fail d ts e h f = fails_behind (Arguments ∷ One x.CloseRound ∷ []) some_arguments d d ts ts (λ ps. One x.CloseRound ∷ ps) (λ i. i) (λ ps i. first_argument ps i d ts h) e f
-
-pub arguments_open : (d : ℕ) (ts tokens mid : List Lexeme) (set : List Item → List Item) (good : Bool) (e : ReadError) → starts x.CloseRound ts ≡ false → TookAll some_arguments [] d d ts tokens set good mid → Fails (One x.CloseRound) d mid e → FailsAll (Arguments ∷ One x.CloseRound ∷ []) d ts e
-arguments_open d ts tokens mid set good e h list f = fails_among (Arguments ∷ One x.CloseRound ∷ []) (One x.CloseRound) d d ts mid (λ ps. ps) set (λ ps i. first_argument ps i d ts h ∙ list.goes_on (One x.CloseRound ∷ ps) i) e f

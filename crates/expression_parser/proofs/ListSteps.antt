@@ -1,5 +1,5 @@
 -- How the table goes through lists of arguments and fields.
-use Rattle.std.proofs.Common.{◌≡◌, ◌<◌, ◌+◌, ◌-◌, ℕ, List, [], ◌∷◌, ◌++◌, length, false, refl, ap, ◌∙◌, arith, append_assoc, add-one}
+use Rattle.std.proofs.Common.{◌≡◌, ◌<◌, ◌+◌, ◌-◌, ℕ, List, [], ◌∷◌, ◌++◌, length, false, refl, ap, arith, append_assoc, add-one}
 use Rattle.std.specs.Prelude.{nat_le}
 use Rattle.script_tree.specs.declared.symbol.Fixed.TheVariants as x
 use Rattle.script_tree.specs.declared.symbol.Symbol.TheVariants as s
@@ -17,29 +17,29 @@ unfolding verdict
 skip_next_field ps is d [] h = refl
 skip_next_field ps is d (token ∷ ts) h = rw h refl
 
-pub more_next_field : (ps : List Part) (is : List Item) (d : ℕ) (ts rest : List Lexeme) → ts ≡ t.Symbol (s.Fixed x.Comma) ∷ rest → verdict (NextField ∷ ps) is d ts ≡ verdict (Name ∷ One x.Colon ∷ Level 8 ∷ Make WithField ∷ NextField ∷ ps) is d rest
+pub more_next_field : (ps : List Part) (is : List Item) (d : ℕ) (rest : List Lexeme) → verdict (NextField ∷ ps) is d (t.Symbol (s.Fixed x.Comma) ∷ rest) ≡ verdict (Name ∷ One x.Colon ∷ Level 8 ∷ Make WithField ∷ NextField ∷ ps) is d rest
 unfolding verdict
-more_next_field ps is d ts rest h = ap (verdict (NextField ∷ ps) is d) h
+more_next_field ps is d rest = refl
 
 pub skip_next_argument : (ps : List Part) (is : List Item) (d : ℕ) (ts : List Lexeme) → starts x.Comma ts ≡ false → verdict (NextArgument ∷ ps) is d ts ≡ verdict ps is d ts
 unfolding verdict
 skip_next_argument ps is d [] h = refl
 skip_next_argument ps is d (token ∷ ts) h = rw h refl
 
-pub more_next_argument : (ps : List Part) (is : List Item) (d : ℕ) (ts rest : List Lexeme) → ts ≡ t.Symbol (s.Fixed x.Comma) ∷ rest → verdict (NextArgument ∷ ps) is d ts ≡ verdict (Level 8 ∷ Make WithArgument ∷ NextArgument ∷ ps) is d rest
+pub more_next_argument : (ps : List Part) (is : List Item) (d : ℕ) (rest : List Lexeme) → verdict (NextArgument ∷ ps) is d (t.Symbol (s.Fixed x.Comma) ∷ rest) ≡ verdict (Level 8 ∷ Make WithArgument ∷ NextArgument ∷ ps) is d rest
 unfolding verdict
-more_next_argument ps is d ts rest h = ap (verdict (NextArgument ∷ ps) is d) h
+more_next_argument ps is d rest = refl
 
 pub skip_fields : (ps : List Part) (is : List Item) (d : ℕ) (ts : List Lexeme) → starts x.OpenCurly ts ≡ false → verdict (MoreFields ∷ ps) is d ts ≡ verdict ps is d ts
 unfolding verdict
 skip_fields ps is d [] h = refl
 skip_fields ps is d (token ∷ ts) h = rw h refl
 
-pub more_fields : (ps : List Part) (is : List Item) (d : ℕ) (ts rest : List Lexeme) → ts ≡ t.Symbol (s.Fixed x.OpenCurly) ∷ rest → d < 64 → verdict (MoreFields ∷ ps) is d ts ≡ verdict (Name ∷ One x.Colon ∷ Level 8 ∷ Make WithField ∷ NextField ∷ One x.CloseCurly ∷ ps) is (d + 1) rest
+pub more_fields : (ps : List Part) (is : List Item) (d : ℕ) (rest : List Lexeme) → d < 64 → verdict (MoreFields ∷ ps) is d (t.Symbol (s.Fixed x.OpenCurly) ∷ rest) ≡ verdict (Name ∷ One x.Colon ∷ Level 8 ∷ Make WithField ∷ NextField ∷ One x.CloseCurly ∷ ps) is (d + 1) rest
 unfolding verdict
-more_fields ps is d ts rest h lt =
+more_fields ps is d rest lt =
     let e : nat_le 64 d ≡ false = grind (arith, nat_tests) in
-    ap (verdict (MoreFields ∷ ps) is d) h ∙ rw e refl
+    rw e refl
 
 pub deep_fields : (ps : List Part) (is : List Item) (d : ℕ) (ts rest : List Lexeme) → ts ≡ t.Symbol (s.Fixed x.OpenCurly) ∷ rest → d ≡ 64 → verdict (MoreFields ∷ ps) is d ts ≡ Faulty (record { left = length ts; kind = bad.Deep })
 unfolding verdict

@@ -3,9 +3,8 @@ use Rattle.std.proofs.Common.{◌≡◌, ℕ, List, [], ◌∷◌, ◌++◌, len
 use Rattle.script_tree.specs.declared.symbol.Fixed.{Fixed}
 use Rattle.script_tree.specs.declared.lexeme.Lexeme.{Lexeme}
 use Rattle.script_tree.specs.declared.lexeme.Lexeme.TheVariants as t
-use Rattle.expression_parser.specs.declared.refusal.ReadError.{ReadError}
 use Rattle.expression_parser.specs.declared.refusal.ReadError.TheVariants as errors
-use Rattle.script_tree.specs.Grammar.{Part, Name, Text, Item, Next, Stops, Goes, One, Make, Level, verdict, verdict_at, make, after, optional, passed, goes_on, turn, Stays, Stmt, stmt_after, prim_after}
+use Rattle.script_tree.specs.Grammar.{Part, Name, Text, Item, Next, Stops, Goes, One, Make, Level, verdict, verdict_at, make, after, optional, goes_on, turn, Stays, Stmt, stmt_after, prim_after}
 use Rattle.expression_parser.specs.Takes.{Fails, kind_at, Begun, parts_of, items_of, begins, starts}
 
 -- what has been read is made up
@@ -19,12 +18,6 @@ pub refuse : (part : Part) (d : ℕ) (ts : List Lexeme) → optional part ≡ fa
 unfolding verdict
 refuse part d [] opt h = λ ps is. rw opt refl
 refuse part d (token ∷ rest) opt h = λ ps is. rw (opt, h token rest refl, add-one) refl
-
--- a part that may be left out, and can't begin here
-pub skip : (part : Part) (ps : List Part) (is : List Item) (d : ℕ) (ts : List Lexeme) → optional part ≡ true → ((token : Lexeme) (rest : List Lexeme) → ts ≡ token ∷ rest → after part token ≡ Stops) → verdict (part ∷ ps) is d ts ≡ verdict ps (passed part is) d ts
-unfolding verdict
-skip part ps is d [] opt h = rw opt refl
-skip part ps is d (token ∷ rest) opt h = rw (opt, h token rest refl) refl
 
 pub refuse_fixed : (y : Fixed) (d : ℕ) (ts : List Lexeme) → starts y ts ≡ false → Fails (One y) d ts (errors.Misfit (record { left = length ts; kind = kind_at ts }))
 unfolding verdict
@@ -49,11 +42,6 @@ refuse_text d (t.Int n ∷ rest) h = λ ps is. rw add-one refl
 refuse_text d (t.Name n ∷ rest) h = λ ps is. rw add-one refl
 refuse_text d (t.Symbol y ∷ rest) h = λ ps is. rw add-one refl
 refuse_text d (t.Bad ∷ rest) h = λ ps is. rw add-one refl
-
--- a fault of what comes next is one of the whole
-pub fails_at : (p q : Part) (d e : ℕ) (ts us : List Lexeme) (more : List Part → List Part) (read : List Item → List Item) → ((ps : List Part) (is : List Item) → verdict (p ∷ ps) is d ts ≡ verdict (q ∷ more ps) (read is) e us) → (error : ReadError) → Fails q e us error → Fails p d ts error
-fails_at p q d e ts us more read h errors.NoMemory f = tt
-fails_at p q d e ts us more read h (errors.Misfit misfit) f = λ ps is. h ps is ∙ f (more ps) (read is)
 
 begun_at : (next : Next) (ps : List Part) (is : List Item) (d : ℕ) (token : Lexeme) (ts : List Lexeme) → turn token ≡ Stays → begins next ≡ true → verdict_at (goes_on next ps is Stops) d token ts (λ ps is d. verdict ps is d ts) ≡ verdict (parts_of next ++ ps) (items_of next ++ is) d ts
 begun_at Stops ps is d token ts h k = cc

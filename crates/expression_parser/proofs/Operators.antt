@@ -191,11 +191,11 @@ pub not_five : (n : ℕ) → (n ≡ 5 → ⊥) → (chain_level n ≡ n) × (Mor
 not_five n h = let e : (n == 5) ≡ false = grind (arith, nat_tests) in (rw e refl, rw e refl)
 
 -- an expression in brackets
-pub group_opens : (d : ℕ) (ts behind : List Lexeme) → ts ≡ t.Symbol (s.Fixed x.OpenRound) ∷ behind → d < 64 → (ps : List Part) (is : List Item) → verdict (Level 0 ∷ ps) is d ts ≡ verdict (Level 8 ∷ Make Grouping ∷ One x.CloseRound ∷ ps) is (d + 1) behind
+pub group_opens : (ps : List Part) (is : List Item) (d : ℕ) (behind : List Lexeme) → d < 64 → verdict (Level 0 ∷ ps) is d (t.Symbol (s.Fixed x.OpenRound) ∷ behind) ≡ verdict (Level 8 ∷ Make Grouping ∷ One x.CloseRound ∷ ps) is (d + 1) behind
 unfolding verdict
-group_opens d ts behind is lt = λ ps i.
+group_opens ps is d behind lt =
     let e : nat_le 64 d ≡ false = grind (arith, nat_tests) in
-    ap (verdict (Level 0 ∷ ps) i d) is ∙ rw e refl
+    rw e refl
 
 pub group_deep : (d : ℕ) (ts behind : List Lexeme) → ts ≡ t.Symbol (s.Fixed x.OpenRound) ∷ behind → d ≡ 64 → Fails (Level 0) d ts (errors.Misfit (record { left = length ts; kind = bad.Deep }))
 unfolding verdict
@@ -209,6 +209,6 @@ group_took d ts behind mid rest a b is lt took turned same =
       spelled = is
           ∙ ap (λ l. t.Symbol (s.Fixed x.OpenRound) ∷ l) (took.spelled ∙ ap (λ l. spell_expression a ++ l) turned.spelled ∙ ap (λ c. spell_expression c ++ close ∷ rest) (sym same) ∙ sym (append_assoc (spell_expression b) (close ∷ []) rest));
       good_one = ap (fits (d + 1)) same ∙ took.good_one;
-      goes_on = λ ps i. group_opens d ts behind is lt ps i ∙ took.goes_on (Make Grouping ∷ One x.CloseRound ∷ ps) i ∙ made Grouping (One x.CloseRound ∷ ps) (ATree a ∷ i) (d + 1) mid
+      goes_on = λ ps i. ap (verdict (Level 0 ∷ ps) i d) is ∙ group_opens ps i d behind lt ∙ took.goes_on (Make Grouping ∷ One x.CloseRound ∷ ps) i ∙ made Grouping (One x.CloseRound ∷ ps) (ATree a ∷ i) (d + 1) mid
           ∙ turned.goes_on ps (ATree (Group a) ∷ i) ∙ ap (λ c. verdict ps (ATree (Group c) ∷ i) d rest) (sym same);
     }

@@ -8,13 +8,11 @@ use Rattle.script_tree.specs.Tree.{Bytes, Expression, Ask}
 use Rattle.script_tree.specs.Words.{is_identifier}
 use Rattle.script_tree.specs.Spelling.{fixed, before_asked, behind_asked, spell_expression, fits, query_fits}
 use Rattle.script_tree.specs.Grammar.{Part, Name, Level, Make, Making, make, Item, AName, ATree, One, verdict, prim_after}
-use Rattle.expression_parser.specs.declared.refusal.ReadError.{ReadError}
-use Rattle.expression_parser.specs.declared.refusal.ReadError.TheVariants as errors
 use Rattle.expression_parser.specs.declared.query.QueryWord.{QueryWord}
 use Rattle.expression_parser.specs.declared.query.QueryWord.TheVariants as w
 use Rattle.expression_parser.specs.declared.query.QueryHead.{QueryHead}
-use Rattle.expression_parser.specs.Takes.{Took, TookAll, Turned, Begun, Fails, FailsAll, fits_at, parts_of, items_of}
-use Rattle.expression_parser.specs.Queries.{TookTail, FailsTail, TookHead, TookNamed, FailsNamed, word_token, word_of, tokens_before, tokens_inside, word_parts, parts_behind, items_before, head_fits}
+use Rattle.expression_parser.specs.Takes.{Took, TookAll, Turned, Begun, fits_at, parts_of, items_of}
+use Rattle.expression_parser.specs.Queries.{TookTail, TookHead, TookNamed, word_token, word_of, tokens_before, tokens_inside, word_parts, parts_behind, items_before, head_fits}
 use Rattle.expression_parser.proofs.Machine.{made}
 use Rattle.expression_parser.proofs.Operators.{and_join}
 
@@ -26,21 +24,13 @@ named_took d ts mid rest name took turned = record {
   goes_on = λ m ps i. took.goes_on (Make m ∷ One x.CloseRound ∷ ps) i ∙ made m (One x.CloseRound ∷ ps) (AName name ∷ i) (d + 1) mid ∙ turned.goes_on ps (make m (AName name ∷ i));
 }
 
-pub named_open : (d : ℕ) (ts mid : List Lexeme) (name : Bytes) → Took Name [] (d + 1) ts (AName name ∷ []) (is_identifier name) mid → (error : ReadError) → Fails (One x.CloseRound) (d + 1) mid error → FailsNamed [] (d + 1) ts error
-named_open d ts mid name took errors.NoMemory f = tt
-named_open d ts mid name took (errors.Misfit misfit) f = λ m ps i. took.goes_on (Make m ∷ One x.CloseRound ∷ ps) i ∙ made m (One x.CloseRound ∷ ps) (AName name ∷ i) (d + 1) mid ∙ f ps (make m (AName name ∷ i))
-
-word_opens : (word : QueryWord) (d : ℕ) (ts : List Lexeme) (ps : List Part) (is : List Item) → verdict (parts_of (prim_after (word_token word)) ++ ps) (items_of (prim_after (word_token word)) ++ is) d ts ≡ verdict (One x.OpenRound ∷ (word_parts word ++ ps)) is d ts
+-- what comes behind the word
+pub word_opens : (word : QueryWord) (d : ℕ) (ts : List Lexeme) (ps : List Part) (is : List Item) → verdict (parts_of (prim_after (word_token word)) ++ ps) (items_of (prim_after (word_token word)) ++ is) d ts ≡ verdict (One x.OpenRound ∷ (word_parts word ++ ps)) is d ts
 word_opens (w.Plain f) d ts ps is = refl
 word_opens w.Masked d ts ps is = refl
 word_opens w.Attribute d ts ps is = refl
 word_opens w.Profile d ts ps is = refl
 word_opens w.HasProfile d ts ps is = refl
-
--- a fault in the brackets
-pub head_fails : (word : QueryWord) (d : ℕ) (ts behind inner : List Lexeme) → Begun (Level 0) (word_token word) d ts behind → Turned x.OpenRound d (d + 1) behind inner → (error : ReadError) → FailsAll (word_parts word) (d + 1) inner error → Fails (Level 0) d ts error
-head_fails word d ts behind inner begun turned errors.NoMemory f = tt
-head_fails word d ts behind inner begun turned (errors.Misfit misfit) f = λ ps i. begun.goes_on ps i ∙ word_opens word d behind ps i ∙ turned.goes_on (word_parts word ++ ps) i ∙ f ps i
 
 -- the closing bracket comes right behind the expression
 pub tail_closes : (d : ℕ) (head : QueryHead) (m : Making) (query : Query) (ts rest : List Lexeme) → parts_behind head ≡ Make m ∷ One x.CloseRound ∷ [] → before_asked query ≡ tokens_before head → behind_asked query ≡ fixed x.CloseRound ∷ [] → ((a : Expression) (is : List Item) → make m (ATree a ∷ (items_before head ++ is)) ≡ ATree (Ask query a) ∷ is) → (head_fits head ≡ true → query_fits query ≡ true) → Turned x.CloseRound (d + 1) d ts rest → TookTail d head ts query rest
@@ -52,11 +42,6 @@ tail_closes d head m query ts rest parts front behind makes fine turned = record
   goes_on = λ a ps i. ap (λ l. verdict (l ++ ps) (ATree a ∷ (items_before head ++ i)) (d + 1) ts) parts ∙ made m (One x.CloseRound ∷ ps) (ATree a ∷ (items_before head ++ i)) (d + 1) ts
       ∙ turned.goes_on ps (make m (ATree a ∷ (items_before head ++ i))) ∙ ap (λ l. verdict ps l d rest) (makes a i);
 }
-
-pub tail_open : (d : ℕ) (head : QueryHead) (m : Making) (ts : List Lexeme) → parts_behind head ≡ Make m ∷ One x.CloseRound ∷ [] → (error : ReadError) → Fails (One x.CloseRound) (d + 1) ts error → FailsTail d head ts error
-tail_open d head m ts parts errors.NoMemory f = tt
-tail_open d head m ts parts (errors.Misfit misfit) f = λ a ps i. ap (λ l. verdict (l ++ ps) (ATree a ∷ (items_before head ++ i)) (d + 1) ts) parts ∙ made m (One x.CloseRound ∷ ps) (ATree a ∷ (items_before head ++ i)) (d + 1) ts
-    ∙ f ps (make m (ATree a ∷ (items_before head ++ i)))
 
 -- a function up to its expression
 pub head_took : (word : QueryWord) (head : QueryHead) (d : ℕ) (ts behind inner rest : List Lexeme) → Begun (Level 0) (word_token word) d ts behind → Turned x.OpenRound d (d + 1) behind inner → word_of head ≡ word → TookAll (word_parts word) (Level 8 ∷ parts_behind head) (d + 1) (d + 1) inner (tokens_inside head) (λ is. items_before head ++ is) (head_fits head) rest → TookHead d ts head rest

@@ -31,6 +31,7 @@ pub fn expression(alloc: Global, ts: Lexemes, depth: u32) -> Result<(Expr, Lexem
 }
 
 /// An expression, the word or sign behind it, which is no bracket, and what follows them.
+#[tactic(auto, using(crate::proofs::Machine::made))]
 pub fn before(
     alloc: Global,
     ts: Lexemes,
@@ -79,6 +80,7 @@ pub struct Operand {
 
 /// An expression with operators of this level and below: its first operand, and then level by level what is joined to it.
 #[cycle(exprs)]
+#[tactic(auto, using(crate::proofs::Climbing::next_begins))]
 fn level(alloc: Global, ts: Lexemes, highest: u8, depth: u32) -> Result<(Expr, Lexemes), ReadError>
     requires level { highest ≤ 8 }
     requires deep { depth ≤ 64 }
@@ -98,6 +100,7 @@ fn level(alloc: Global, ts: Lexemes, highest: u8, depth: u32) -> Result<(Expr, L
 
 /// What stands before the first operator of a level up to the highest: an expression without operators, or one behind `-` or `not`.
 #[cycle(exprs)]
+#[tactic(auto, using(crate::proofs::Climbing::operand_begins))]
 fn first_operand(
     alloc: Global,
     ts: Lexemes,
@@ -120,6 +123,7 @@ fn first_operand(
 
 /// An operand and the operators of a level that follow it, each with its right operand. Of comparisons there is one at most.
 #[cycle(exprs)]
+#[tactic(auto, using(crate::proofs::Operators::operates))]
 fn chain(
     alloc: Global,
     first: Expr,
@@ -212,6 +216,7 @@ fn worded<'a>(
 
 /// `( e )`
 #[cycle(exprs)]
+#[tactic(auto, using(crate::proofs::Machine::made, crate::proofs::Operators::group_opens))]
 fn group<'a>(
     alloc: Global,
     ts: Lexemes<'a>,

@@ -16,6 +16,7 @@ use script_tree::{Expr, FieldValue, Fixed, Lexemes};
 use std::alloc::Global;
 
 /// The arguments of a call, and the bracket behind them.
+#[tactic(auto, using(crate::proofs::ListSteps::first_argument))]
 pub fn arguments(alloc: Global, ts: Lexemes, depth: u32) -> Result<(Vec<Expr>, Lexemes), ReadError>
     requires { depth < 64 }
     ensures { ReadsAll (Arguments ∷ One Fixed.CloseRound ∷ []) (λ list. spell_arguments (map tree_of list.items) ++ fixed Fixed.CloseRound ∷ []) (λ list. with_arguments (map tree_of list.items)) (λ list. list_all (fits (depth + 1)) (map tree_of list.items)) (depth + 1) depth ts.now result }
@@ -29,6 +30,7 @@ pub fn arguments(alloc: Global, ts: Lexemes, depth: u32) -> Result<(Vec<Expr>, L
 }
 
 /// An argument and more of them, each behind a comma.
+#[tactic(auto, using(crate::proofs::ListSteps::more_next_argument))]
 fn argument_list(alloc: Global, ts: Lexemes, depth: u32) -> Result<(Vec<Expr>, Lexemes), ReadError>
     requires { depth ≤ 64 }
     ensures { ReadsAll (Level 8 ∷ Make WithArgument ∷ NextArgument ∷ []) (λ list. spell_arguments (map tree_of list.items)) (λ list. with_arguments (map tree_of list.items)) (λ list. has_some (map tree_of list.items) && list_all (fits depth) (map tree_of list.items)) depth depth ts.now result }
@@ -45,6 +47,7 @@ fn argument_list(alloc: Global, ts: Lexemes, depth: u32) -> Result<(Vec<Expr>, L
 }
 
 /// `{ NAME: e, .. }`, where it comes.
+#[tactic(auto, using(crate::proofs::ListSteps::more_fields))]
 pub fn fields(
     alloc: Global,
     ts: Lexemes,
@@ -65,6 +68,7 @@ pub fn fields(
 }
 
 /// A field and more of them, each behind a comma.
+#[tactic(auto, using(crate::proofs::ListSteps::more_next_field))]
 fn field_list(
     alloc: Global,
     ts: Lexemes,

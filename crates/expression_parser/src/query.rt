@@ -35,6 +35,7 @@ pub enum QueryHead {
 }
 
 /// A function up to its expression, and what follows.
+#[tactic(auto, using(crate::proofs::Queries::word_opens))]
 pub fn query_head<'a>(
     alloc: Global,
     ts: Lexemes<'a>,
@@ -105,6 +106,7 @@ fn name_and_comma(
 }
 
 /// What comes behind a function's expression, and what follows its closing bracket.
+#[tactic(auto, using(crate::proofs::Machine::made))]
 pub fn query_tail(
     alloc: Global,
     head: QueryHead,
@@ -149,6 +151,7 @@ fn last_name(alloc: Global, ts: Lexemes, depth: u32) -> Result<(Identifier, Lexe
 }
 
 /// `NAME )`
+#[tactic(auto, using(crate::proofs::Machine::made))]
 pub fn closed_name(
     alloc: Global,
     ts: Lexemes,

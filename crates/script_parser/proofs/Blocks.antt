@@ -14,12 +14,11 @@ use Rattle.script_tree.specs.Spelling.{fixed, braced, spell_expression, spell_st
 use Rattle.script_tree.specs.Words.{is_identifier}
 use Rattle.std.proofs.lemmas.Bool.Decides.{nat_tests}
 use Rattle.script_tree.specs.declared.fault.SyntaxBad.TheVariants as bad
-use Rattle.expression_parser.specs.declared.refusal.ReadError.{ReadError}
-use Rattle.script_tree.specs.Grammar.{Part, Item, ATree, AStatement, ABlock, AnOver, AName, Making, Adding, Branching, Otherwise, Looping, Walking, Stmt as AStmt, Stmts, Block, MoreIf, Name, Over as AnOverPart, One, Level, Make, verdict, make}
-use Rattle.expression_parser.specs.Takes.{Fails, kind_at, Begun, Took, Turned, starts}
+use Rattle.script_tree.specs.Grammar.{Part, Item, ATree, AStatement, ABlock, AnOver, AName, Adding, Branching, Otherwise, Looping, Walking, Stmt as AStmt, Stmts, Block, MoreIf, Name, Over as AnOverPart, One, Level, Make, verdict, make}
+use Rattle.expression_parser.specs.Takes.{kind_at, Begun, Took, Turned, starts}
 use Rattle.script_parser.specs.declared.statement.BlockWord.{BlockWord}
 use Rattle.script_parser.specs.declared.statement.BlockWord.TheVariants as words
-use Rattle.script_parser.specs.Bodies.{TookStmts, FailStmts, TookBlock, FailsBlock, starts_stmt, block_word_at, block_word_in, fixed_of}
+use Rattle.script_parser.specs.Bodies.{TookStmts, TookBlock, FailsBlock, starts_stmt, block_word_at, block_word_in, fixed_of}
 use Rattle.script_parser.specs.Simple.{starts_block, opens_block}
 use Rattle.script_tree.proofs.Rows.{while_tree, if_tree, for_tree, if_else_tree}
 use Rattle.expression_parser.proofs.Machine.{made, stmt_begun}
@@ -38,11 +37,6 @@ spelled_more (Then z xs) y = ap (λ l. spell_statement z ++ l) (spelled_more xs 
 pub fits_more : (d : ℕ) (xs : Statements) (y : Statement) → statements_fit d xs ≡ true → statement_fits d y ≡ true → statements_fit d (add xs y) ≡ true
 fits_more d Nothing y h k = and_join _ _ k refl
 fits_more d (Then z xs) y h k = let p = and_split _ _ h in and_join _ _ p.0 (fits_more d xs y p.1 k)
-
--- the fault of a block, of an item
-pub fails_block : (m : Making) (d e : ℕ) (p : Part) (ts us : List Lexeme) (more : List Part → List Part) (read : List Item → List Item) → ((ps : List Part) (is : List Item) → verdict (p ∷ ps) is d ts ≡ verdict (Block m ∷ more ps) (read is) e us) → (error : ReadError) → FailsBlock e us error → Fails p d ts error
-fails_block m d e p ts us more read h errors.NoMemory f = tt
-fails_block m d e p ts us more read h (errors.Misfit misfit) f = λ ps i. h ps i ∙ f m (more ps) (read i)
 
 pub while_took : (d : ℕ) (ts behind mid rest : List Lexeme) (e : Expr) (v : Vec Stmt Global) → Begun AStmt (fixed x.While) d ts behind → Took (Level 8) [] d behind (ATree (tree_of e) ∷ []) (fits d (tree_of e)) mid → TookBlock d mid (statements_of v.items) (statements_fit (d + 1) (statements_of v.items)) rest → Took AStmt [] d ts (AStatement (statement_of (While e v)) ∷ []) (statement_fits d (statement_of (While e v))) rest
 while_took d ts behind mid rest e v begun took block = record {
@@ -79,7 +73,7 @@ if_took d ts behind mid rest e v begun took block ends = record {
 -- up to the block behind `else`
 pub to_other : (d : ℕ) (ts behind mid r1 r2 : List Lexeme) (e : Expr) (v : Vec Stmt Global) → Begun AStmt (fixed x.If) d ts behind → Took (Level 8) [] d behind (ATree (tree_of e) ∷ []) (fits d (tree_of e)) mid → TookBlock d mid (statements_of v.items) (statements_fit (d + 1) (statements_of v.items)) r1 → r1 ≡ t.Symbol (s.Fixed x.Else) ∷ r2 → (ps : List Part) (is : List Item) → verdict (AStmt ∷ ps) is d ts ≡ verdict (Block Otherwise ∷ ps) (AStatement (tree.If (tree_of e) (statements_of v.items)) ∷ is) d r2
 to_other d ts behind mid r1 r2 e v begun took block is = λ ps i. begun.goes_on ps i ∙ took.goes_on (Block Branching ∷ MoreIf ∷ ps) i ∙ block.goes_on Branching (MoreIf ∷ ps) (ATree (tree_of e) ∷ i)
-    ∙ more_else ps (AStatement (tree.If (tree_of e) (statements_of v.items)) ∷ i) d r1 r2 is
+    ∙ ap (verdict (MoreIf ∷ ps) (AStatement (tree.If (tree_of e) (statements_of v.items)) ∷ i) d) is ∙ more_else ps (AStatement (tree.If (tree_of e) (statements_of v.items)) ∷ i) d r2
 
 pub if_else_took : (d : ℕ) (ts behind mid r1 r2 rest : List Lexeme) (e : Expr) (v w : Vec Stmt Global) → Begun AStmt (fixed x.If) d ts behind → Took (Level 8) [] d behind (ATree (tree_of e) ∷ []) (fits d (tree_of e)) mid → TookBlock d mid (statements_of v.items) (statements_fit (d + 1) (statements_of v.items)) r1 → r1 ≡ t.Symbol (s.Fixed x.Else) ∷ r2 → TookBlock d r2 (statements_of w.items) (statements_fit (d + 1) (statements_of w.items)) rest → Took AStmt [] d ts (AStatement (statement_of (IfElse e v w)) ∷ []) (statement_fits d (statement_of (IfElse e v w))) rest
 if_else_took d ts behind mid r1 r2 rest e v w begun took block is other = record {
@@ -109,10 +103,6 @@ stmts_more d ts mid rest xs ys y some begins took is =
           ∙ made Adding (Stmts ∷ ps) (AStatement (statement_of y) ∷ ABlock (statements_of xs) ∷ i) d rest ∙ ap (λ l. verdict (Stmts ∷ ps) (ABlock l ∷ i) d rest) (sym e);
     }
 
-pub stmts_fail : (d : ℕ) (ts mid : List Lexeme) (xs : List Stmt) → TookStmts (Stmts ∷ []) d ts (statements_of xs) (statements_fit d (statements_of xs)) mid → starts_stmt mid ≡ true → (error : ReadError) → Fails AStmt d mid error → FailStmts d ts error
-stmts_fail d ts mid xs some begins errors.NoMemory f = tt
-stmts_fail d ts mid xs some begins (errors.Misfit misfit) f = λ ps i. some.goes_on ps i ∙ more_stmts ps (ABlock (statements_of xs) ∷ i) d mid begins ∙ f (Make Adding ∷ Stmts ∷ ps) (ABlock (statements_of xs) ∷ i)
-
 pub stmts_end : (d : ℕ) (ts rest : List Lexeme) (xs : List Stmt) → TookStmts (Stmts ∷ []) d ts (statements_of xs) (statements_fit d (statements_of xs)) rest → starts_stmt rest ≡ false → TookStmts [] d ts (statements_of xs) (statements_fit d (statements_of xs)) rest
 stmts_end d ts rest xs some ends = record {
   shorter = some.shorter;
@@ -131,16 +121,8 @@ block_took d ts inner mid rest xs is lt some turned = record {
   spelled = rw (is, some.spelled, turned.spelled) (simp append_assoc);
   good_one = some.good_one;
   room = grind (arith, nat_tests);
-  goes_on = λ m ps i. block_opens m ps i d ts inner is lt ∙ some.goes_on (Make m ∷ One x.CloseCurly ∷ ps) i ∙ made m (One x.CloseCurly ∷ ps) (ABlock (statements_of xs) ∷ i) (d + 1) mid ∙ turned.goes_on ps (make m (ABlock (statements_of xs) ∷ i));
+  goes_on = λ m ps i. ap (verdict (Block m ∷ ps) i d) is ∙ block_opens m ps i d inner lt ∙ some.goes_on (Make m ∷ One x.CloseCurly ∷ ps) i ∙ made m (One x.CloseCurly ∷ ps) (ABlock (statements_of xs) ∷ i) (d + 1) mid ∙ turned.goes_on ps (make m (ABlock (statements_of xs) ∷ i));
 }
-
-pub block_fails : (d : ℕ) (ts inner : List Lexeme) → ts ≡ t.Symbol (s.Fixed x.OpenCurly) ∷ inner → d < 64 → (error : ReadError) → FailStmts (d + 1) inner error → FailsBlock d ts error
-block_fails d ts inner is lt errors.NoMemory f = tt
-block_fails d ts inner is lt (errors.Misfit misfit) f = λ m ps i. block_opens m ps i d ts inner is lt ∙ f (Make m ∷ One x.CloseCurly ∷ ps) i
-
-pub block_open : (d : ℕ) (ts inner mid : List Lexeme) (xs : List Stmt) → ts ≡ t.Symbol (s.Fixed x.OpenCurly) ∷ inner → d < 64 → TookStmts [] (d + 1) inner (statements_of xs) (statements_fit (d + 1) (statements_of xs)) mid → (error : ReadError) → Fails (One x.CloseCurly) (d + 1) mid error → FailsBlock d ts error
-block_open d ts inner mid xs is lt some errors.NoMemory f = tt
-block_open d ts inner mid xs is lt some (errors.Misfit misfit) f = λ m ps i. block_opens m ps i d ts inner is lt ∙ some.goes_on (Make m ∷ One x.CloseCurly ∷ ps) i ∙ made m (One x.CloseCurly ∷ ps) (ABlock (statements_of xs) ∷ i) (d + 1) mid ∙ f ps (make m (ABlock (statements_of xs) ∷ i))
 
 pub block_too_deep : (d : ℕ) (ts inner : List Lexeme) → ts ≡ t.Symbol (s.Fixed x.OpenCurly) ∷ inner → d ≡ 64 → FailsBlock d ts (errors.Misfit (record { left = length ts; kind = bad.Deep }))
 block_too_deep d ts inner is at = λ m ps i. block_deep m ps i d ts inner is at

@@ -5,4 +5,3 @@ pub mod Priority
 pub mod Steps
 pub mod Blocks
 pub mod Whole
-pub mod Exits

@@ -1,5 +1,5 @@
 -- How the table goes through parts that may be left out.
-use Rattle.std.proofs.Common.{◌≡◌, ◌+◌, ◌-◌, ℕ, List, [], ◌∷◌, ◌++◌, Option, Some, None, false, refl, sym, ap, ◌∙◌, append_assoc, append-nil}
+use Rattle.std.proofs.Common.{◌≡◌, ℕ, List, [], ◌∷◌, ◌++◌, Option, Some, None, false, refl, sym, ap, ◌∙◌, append_assoc, append-nil}
 use Rattle.script_tree.specs.declared.symbol.Fixed.TheVariants as x
 use Rattle.script_tree.specs.declared.symbol.Symbol.TheVariants as s
 use Rattle.script_tree.specs.declared.lexeme.Lexeme.{Lexeme}
@@ -18,36 +18,36 @@ unfolding verdict
 skip_service ps is d [] h = refl
 skip_service ps is d (token ∷ ts) h = rw h refl
 
-pub more_service : (ps : List Part) (is : List Item) (d : ℕ) (ts rest : List Lexeme) → ts ≡ t.Symbol (s.Fixed x.For) ∷ rest → verdict (MoreService ∷ ps) is d ts ≡ verdict (Text ∷ Make ForService ∷ ps) is d rest
+pub more_service : (ps : List Part) (is : List Item) (d : ℕ) (rest : List Lexeme) → verdict (MoreService ∷ ps) is d (t.Symbol (s.Fixed x.For) ∷ rest) ≡ verdict (Text ∷ Make ForService ∷ ps) is d rest
 unfolding verdict
-more_service ps is d ts rest h = ap (verdict (MoreService ∷ ps) is d) h
+more_service ps is d rest = refl
 
 pub skip_result : (ps : List Part) (is : List Item) (d : ℕ) (ts : List Lexeme) → starts x.As ts ≡ false → verdict (MoreResult ∷ ps) is d ts ≡ verdict ps is d ts
 unfolding verdict
 skip_result ps is d [] h = refl
 skip_result ps is d (token ∷ ts) h = rw h refl
 
-pub more_result : (ps : List Part) (is : List Item) (d : ℕ) (ts rest : List Lexeme) → ts ≡ t.Symbol (s.Fixed x.As) ∷ rest → verdict (MoreResult ∷ ps) is d ts ≡ verdict (Name ∷ Make WithResult ∷ ps) is d rest
+pub more_result : (ps : List Part) (is : List Item) (d : ℕ) (rest : List Lexeme) → verdict (MoreResult ∷ ps) is d (t.Symbol (s.Fixed x.As) ∷ rest) ≡ verdict (Name ∷ Make WithResult ∷ ps) is d rest
 unfolding verdict
-more_result ps is d ts rest h = ap (verdict (MoreResult ∷ ps) is d) h
+more_result ps is d rest = refl
 
 pub skip_repeat : (ps : List Part) (is : List Item) (d : ℕ) (ts : List Lexeme) → starts x.Every ts ≡ false → verdict (MoreRepeat ∷ ps) is d ts ≡ verdict ps is d ts
 unfolding verdict
 skip_repeat ps is d [] h = refl
 skip_repeat ps is d (token ∷ ts) h = rw h refl
 
-pub more_repeat : (ps : List Part) (is : List Item) (d : ℕ) (ts rest : List Lexeme) → ts ≡ t.Symbol (s.Fixed x.Every) ∷ rest → verdict (MoreRepeat ∷ ps) is d ts ≡ verdict (Level 8 ∷ One x.Times ∷ Level 8 ∷ Make Repeating ∷ ps) is d rest
+pub more_repeat : (ps : List Part) (is : List Item) (d : ℕ) (rest : List Lexeme) → verdict (MoreRepeat ∷ ps) is d (t.Symbol (s.Fixed x.Every) ∷ rest) ≡ verdict (Level 8 ∷ One x.Times ∷ Level 8 ∷ Make Repeating ∷ ps) is d rest
 unfolding verdict
-more_repeat ps is d ts rest h = ap (verdict (MoreRepeat ∷ ps) is d) h
+more_repeat ps is d rest = refl
 
 pub skip_keep : (ps : List Part) (is : List Item) (d : ℕ) (ts : List Lexeme) → starts x.Keep ts ≡ false → verdict (MoreKeep ∷ ps) is d ts ≡ verdict ps is d ts
 unfolding verdict
 skip_keep ps is d [] h = refl
 skip_keep ps is d (token ∷ ts) h = rw h refl
 
-pub more_keep : (ps : List Part) (is : List Item) (d : ℕ) (ts rest : List Lexeme) → ts ≡ t.Symbol (s.Fixed x.Keep) ∷ rest → verdict (MoreKeep ∷ ps) is d ts ≡ verdict (KeepWord ∷ ps) is d rest
+pub more_keep : (ps : List Part) (is : List Item) (d : ℕ) (rest : List Lexeme) → verdict (MoreKeep ∷ ps) is d (t.Symbol (s.Fixed x.Keep) ∷ rest) ≡ verdict (KeepWord ∷ ps) is d rest
 unfolding verdict
-more_keep ps is d ts rest h = ap (verdict (MoreKeep ∷ ps) is d) h
+more_keep ps is d rest = refl
 
 -- a statement with all that was added to it
 pub fired_with_fields : (fs gs : List (Bytes × Expression)) (event : Bytes) (a : Expression) (service : Option Bytes) (is : List Item) → with_fields fs (AStatement (tree.Activity (tree.Fire event a service gs)) ∷ is) ≡ AStatement (tree.Activity (tree.Fire event a service (gs ++ fs))) ∷ is

@@ -1,5 +1,5 @@
 -- Readers of parts that may be left out.
-use Rattle.std.proofs.Common.{◌≡◌, ◌+◌, ◌-◌, ℕ, List, [], ◌∷◌, ◌++◌, length, Option, Some, None, Bool, true, refl, sym, ap, ◌∙◌, arith, append_assoc}
+use Rattle.std.proofs.Common.{◌≡◌, ℕ, List, [], ◌∷◌, ◌++◌, length, Option, Some, None, true, refl, sym, ap, ◌∙◌, arith, append_assoc}
 use Rattle.slee_value.specs.declared.keep.Keep.{Keep}
 use Rattle.slee_value.specs.declared.keep.Keep.TheVariants as keeps
 use Rattle.script_tree.specs.declared.symbol.Fixed.TheVariants as x
@@ -11,13 +11,11 @@ use Rattle.script_tree.specs.Tree.{Bytes, Expression}
 use Rattle.script_tree.specs.Words.{is_identifier, is_literal}
 use Rattle.script_tree.specs.Spelling.{fixed, spell_expression, spell_result, spell_service, spell_repeat, spell_keep, keep_token, fits, option_fits, repeat_fits}
 use Rattle.script_tree.specs.Grammar.{Part, Item, AName, AText, ATree, Stops, Goes, Make, Level, Name, Text, KeepWord, MoreService, ForService, MoreResult, WithResult, MoreRepeat, Repeating, MoreKeep, Keeping, turn, Stays, keep_after, verdict}
-use Rattle.expression_parser.specs.declared.refusal.ReadError.{ReadError}
 use Rattle.expression_parser.specs.declared.refusal.ReadError.TheVariants as errors
-use Rattle.expression_parser.specs.Takes.{Fails, Took, TookAll, TookBefore, FailsBefore, kind_at}
+use Rattle.expression_parser.specs.Takes.{Fails, Took, TookAll, TookBefore, kind_at}
 use Rattle.script_parser.specs.Options.{keep_at, with_service, result_set, repeat_set, keep_set}
 use Rattle.script_parser.specs.Options.{keep_in}
-use Rattle.expression_parser.proofs.Machine.{made, refuse, fails_at}
-use Rattle.expression_parser.proofs.Followed.{fails_before}
+use Rattle.expression_parser.proofs.Machine.{made, refuse}
 use Rattle.expression_parser.proofs.Operators.{and_join}
 use Rattle.script_parser.proofs.Options.{more_service, more_result, more_repeat, more_keep}
 
@@ -27,11 +25,8 @@ service_took d ts mid rest y is took = record {
   shorter = omega (arith, ap length is, took.shorter);
   spelled = is ∙ ap (λ l. fixed x.For ∷ l) took.spelled;
   good_one = took.good_one;
-  goes_on = λ ps i. more_service ps i d ts mid is ∙ took.goes_on (Make ForService ∷ ps) i ∙ made ForService ps (AText y ∷ i) d rest;
+  goes_on = λ ps i. ap (verdict (MoreService ∷ ps) i d) is ∙ more_service ps i d mid ∙ took.goes_on (Make ForService ∷ ps) i ∙ made ForService ps (AText y ∷ i) d rest;
 }
-
-pub service_fails : (d : ℕ) (ts mid : List Lexeme) (e : ReadError) → ts ≡ t.Symbol (s.Fixed x.For) ∷ mid → Fails Text d mid e → Fails MoreService d ts e
-service_fails d ts mid e is f = fails_at MoreService Text d d ts mid (λ ps. Make ForService ∷ ps) (λ i. i) (λ ps i. more_service ps i d ts mid is) e f
 
 -- `as NAME`
 pub result_took : (d : ℕ) (ts mid rest : List Lexeme) (y : Bytes) → ts ≡ t.Symbol (s.Fixed x.As) ∷ mid → Took Name [] d mid (AName y ∷ []) (is_identifier y) rest → TookAll (MoreResult ∷ []) [] d d ts (spell_result (Some y)) (result_set (Some y)) (option_fits is_identifier (Some y)) rest
@@ -39,11 +34,8 @@ result_took d ts mid rest y is took = record {
   shorter = omega (arith, ap length is, took.shorter);
   spelled = is ∙ ap (λ l. fixed x.As ∷ l) took.spelled;
   good_one = took.good_one;
-  goes_on = λ ps i. more_result ps i d ts mid is ∙ took.goes_on (Make WithResult ∷ ps) i ∙ made WithResult ps (AName y ∷ i) d rest;
+  goes_on = λ ps i. ap (verdict (MoreResult ∷ ps) i d) is ∙ more_result ps i d mid ∙ took.goes_on (Make WithResult ∷ ps) i ∙ made WithResult ps (AName y ∷ i) d rest;
 }
-
-pub result_fails : (d : ℕ) (ts mid : List Lexeme) (e : ReadError) → ts ≡ t.Symbol (s.Fixed x.As) ∷ mid → Fails Name d mid e → Fails MoreResult d ts e
-result_fails d ts mid e is f = fails_at MoreResult Name d d ts mid (λ ps. Make WithResult ∷ ps) (λ i. i) (λ ps i. more_result ps i d ts mid is) e f
 
 -- `every e times e`
 pub repeat_took : (d : ℕ) (ts r1 r2 r3 : List Lexeme) (a b : Expression) (r : Option (Expression × Expression)) → ts ≡ t.Symbol (s.Fixed x.Every) ∷ r1 → TookBefore x.Times d r1 a (fits d a) r2 → Took (Level 8) [] d r2 (ATree b ∷ []) (fits d b) r3 → r ≡ Some (a, b) → TookAll (MoreRepeat ∷ []) [] d d ts (spell_repeat r) (repeat_set r) (option_fits (repeat_fits d) r) r3
@@ -52,15 +44,9 @@ repeat_took d ts r1 r2 r3 a b r is period times e = record {
   spelled = is ∙ ap (λ l. fixed x.Every ∷ l) (period.spelled ∙ ap (λ l. spell_expression a ++ fixed x.Times ∷ l) times.spelled ∙ sym (append_assoc (spell_expression a) (fixed x.Times ∷ spell_expression b) r3))
       ∙ ap (λ o. spell_repeat o ++ r3) (sym e);
   good_one = ap (option_fits (repeat_fits d)) e ∙ and_join _ _ period.good_one times.good_one;
-  goes_on = λ ps i. more_repeat ps i d ts r1 is ∙ period.goes_on (Level 8 ∷ Make Repeating ∷ ps) i ∙ times.goes_on (Make Repeating ∷ ps) (ATree a ∷ i)
+  goes_on = λ ps i. ap (verdict (MoreRepeat ∷ ps) i d) is ∙ more_repeat ps i d r1 ∙ period.goes_on (Level 8 ∷ Make Repeating ∷ ps) i ∙ times.goes_on (Make Repeating ∷ ps) (ATree a ∷ i)
       ∙ made Repeating ps (ATree b ∷ ATree a ∷ i) d r3 ∙ ap (λ l. verdict ps (repeat_set l i) d r3) (sym e);
 }
-
-pub period_fails : (d : ℕ) (ts r1 : List Lexeme) (e : ReadError) → ts ≡ t.Symbol (s.Fixed x.Every) ∷ r1 → FailsBefore x.Times d r1 e → Fails MoreRepeat d ts e
-period_fails d ts r1 e is f = fails_before x.Times d d MoreRepeat ts r1 (λ ps. Level 8 ∷ Make Repeating ∷ ps) (λ i. i) (λ ps i. more_repeat ps i d ts r1 is) e f
-
-pub times_fail : (d : ℕ) (ts r1 r2 : List Lexeme) (a : Expression) (good : Bool) (e : ReadError) → ts ≡ t.Symbol (s.Fixed x.Every) ∷ r1 → TookBefore x.Times d r1 a good r2 → Fails (Level 8) d r2 e → Fails MoreRepeat d ts e
-times_fail d ts r1 r2 a good e is period f = fails_at MoreRepeat (Level 8) d d ts r2 (λ ps. Make Repeating ∷ ps) (λ i. ATree a ∷ i) (λ ps i. more_repeat ps i d ts r1 is ∙ period.goes_on (Level 8 ∷ Make Repeating ∷ ps) i) e f
 
 -- `keep` and its word
 pub keep_took : (d : ℕ) (ts mid rest : List Lexeme) (k : Keep) → ts ≡ t.Symbol (s.Fixed x.Keep) ∷ mid → TookAll (KeepWord ∷ []) [] d d mid (keep_token k ∷ []) (keep_set (Some k)) true rest → TookAll (MoreKeep ∷ []) [] d d ts (spell_keep (Some k)) (keep_set (Some k)) true rest
@@ -68,11 +54,8 @@ keep_took d ts mid rest k is took = record {
   shorter = omega (arith, ap length is, took.shorter);
   spelled = is ∙ ap (λ l. fixed x.Keep ∷ l) took.spelled;
   good_one = refl;
-  goes_on = λ ps i. more_keep ps i d ts mid is ∙ took.goes_on ps i;
+  goes_on = λ ps i. ap (verdict (MoreKeep ∷ ps) i d) is ∙ more_keep ps i d mid ∙ took.goes_on ps i;
 }
-
-pub keep_fails : (d : ℕ) (ts mid : List Lexeme) (e : ReadError) → ts ≡ t.Symbol (s.Fixed x.Keep) ∷ mid → Fails KeepWord d mid e → Fails MoreKeep d ts e
-keep_fails d ts mid e is f = fails_at MoreKeep KeepWord d d ts mid (λ ps. ps) (λ i. i) (λ ps i. more_keep ps i d ts mid is) e f
 
 keep_goes : (token : Lexeme) (k : Keep) → keep_at token ≡ Some k → (keep_after token ≡ Goes (Make (Keeping k) ∷ []) []) × (turn token ≡ Stays)
 keep_goes (t.Symbol (s.Fixed x.All)) k h = let e : keeps.All ≡ k = cc in (ap (λ k. Goes (Make (Keeping k) ∷ []) []) e, refl)

@@ -1,5 +1,5 @@
 -- The priority of a child that is created, which may be left out.
-use Rattle.std.proofs.Common.{◌≡◌, ℕ, List, [], ◌∷◌, false, refl, ap}
+use Rattle.std.proofs.Common.{◌≡◌, ℕ, List, [], ◌∷◌, false, refl}
 use Rattle.script_tree.specs.declared.symbol.Fixed.TheVariants as x
 use Rattle.script_tree.specs.declared.symbol.Symbol.TheVariants as s
 use Rattle.script_tree.specs.declared.lexeme.Lexeme.{Lexeme}
@@ -12,6 +12,6 @@ unfolding verdict
 skip_priority ps is d [] h = refl
 skip_priority ps is d (token ∷ ts) h = rw h refl
 
-pub more_priority : (ps : List Part) (is : List Item) (d : ℕ) (ts rest : List Lexeme) → ts ≡ t.Symbol (s.Fixed x.Priority) ∷ rest → verdict (MorePriority ∷ ps) is d ts ≡ verdict (Level 8 ∷ Make WithPriority ∷ ps) is d rest
+pub more_priority : (ps : List Part) (is : List Item) (d : ℕ) (rest : List Lexeme) → verdict (MorePriority ∷ ps) is d (t.Symbol (s.Fixed x.Priority) ∷ rest) ≡ verdict (Level 8 ∷ Make WithPriority ∷ ps) is d rest
 unfolding verdict
-more_priority ps is d ts rest h = ap (verdict (MorePriority ∷ ps) is d) h
+more_priority ps is d rest = refl

@@ -1,5 +1,5 @@
 -- How the table goes through statements and blocks.
-use Rattle.std.proofs.Common.{◌≡◌, ◌<◌, ◌+◌, ℕ, List, [], ◌∷◌, ◌++◌, length, true, false, refl, ap, ◌∙◌, arith, append_assoc, add-one}
+use Rattle.std.proofs.Common.{◌≡◌, ◌<◌, ◌+◌, ℕ, List, [], ◌∷◌, ◌++◌, length, true, false, refl, ap, arith, append_assoc, add-one}
 use Rattle.std.specs.Prelude.{nat_le}
 use Rattle.script_tree.specs.declared.symbol.Fixed.TheVariants as x
 use Rattle.script_tree.specs.declared.symbol.Symbol.TheVariants as s
@@ -18,9 +18,9 @@ unfolding verdict
 skip_else ps is d [] h = refl
 skip_else ps is d (token ∷ ts) h = rw h refl
 
-pub more_else : (ps : List Part) (is : List Item) (d : ℕ) (ts rest : List Lexeme) → ts ≡ t.Symbol (s.Fixed x.Else) ∷ rest → verdict (MoreIf ∷ ps) is d ts ≡ verdict (Block Otherwise ∷ ps) is d rest
+pub more_else : (ps : List Part) (is : List Item) (d : ℕ) (rest : List Lexeme) → verdict (MoreIf ∷ ps) is d (t.Symbol (s.Fixed x.Else) ∷ rest) ≡ verdict (Block Otherwise ∷ ps) is d rest
 unfolding verdict
-more_else ps is d ts rest h = ap (verdict (MoreIf ∷ ps) is d) h
+more_else ps is d rest = refl
 
 -- statements in a block or a script
 pub more_stmts : (ps : List Part) (is : List Item) (d : ℕ) (ts : List Lexeme) → starts_stmt ts ≡ true → verdict (Stmts ∷ ps) is d ts ≡ verdict (Stmt ∷ Make Adding ∷ Stmts ∷ ps) is d ts
@@ -41,11 +41,11 @@ skip_stmts ps is d (token ∷ ts) h = skip_on (stmt_after token) ps is d token t
     skip_on Stops ps is d token ts continue h = refl
     skip_on (Goes qs js) ps is d token ts continue h = cc
 
-pub block_opens : (m : Making) (ps : List Part) (is : List Item) (d : ℕ) (ts rest : List Lexeme) → ts ≡ t.Symbol (s.Fixed x.OpenCurly) ∷ rest → d < 64 → verdict (Block m ∷ ps) is d ts ≡ verdict (Stmts ∷ Make m ∷ One x.CloseCurly ∷ ps) (ABlock tree.Nothing ∷ is) (d + 1) rest
+pub block_opens : (m : Making) (ps : List Part) (is : List Item) (d : ℕ) (rest : List Lexeme) → d < 64 → verdict (Block m ∷ ps) is d (t.Symbol (s.Fixed x.OpenCurly) ∷ rest) ≡ verdict (Stmts ∷ Make m ∷ One x.CloseCurly ∷ ps) (ABlock tree.Nothing ∷ is) (d + 1) rest
 unfolding verdict
-block_opens m ps is d ts rest h lt =
+block_opens m ps is d rest lt =
     let e : nat_le 64 d ≡ false = grind (arith, nat_tests) in
-    ap (verdict (Block m ∷ ps) is d) h ∙ rw e refl
+    rw e refl
 
 pub block_deep : (m : Making) (ps : List Part) (is : List Item) (d : ℕ) (ts rest : List Lexeme) → ts ≡ t.Symbol (s.Fixed x.OpenCurly) ∷ rest → d ≡ 64 → verdict (Block m ∷ ps) is d ts ≡ Faulty (record { left = length ts; kind = bad.Deep })
 unfolding verdict

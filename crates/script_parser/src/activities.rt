@@ -78,6 +78,7 @@ pub fn unmask<'a>(
 }
 
 /// `null as NAME;`
+#[tactic(auto, using(expression_parser::proofs::Machine::made))]
 pub fn null<'a>(
     alloc: Global,
     ts: Lexemes<'a>,

@@ -1,9 +1,9 @@
 //! `call`: a method of a child with its arguments, and the name for what it returns.
-ghost use Rattle.std.specs.Prelude.{◌≤◌};
-ghost use Rattle.script_tree.specs.Grammar.{Stmt as AStmt, MoreResult};
+ghost use Rattle.std.specs.Prelude.{◌≤◌, ◌∷◌, ◌++◌, []};
+ghost use Rattle.script_tree.specs.Grammar.{Stmt as AStmt, MoreResult, One};
 ghost use Rattle.script_tree.specs.Spelling.{fixed, spell_result, option_fits};
 ghost use Rattle.script_parser.specs.Reads.{ReadsStatement};
-ghost use Rattle.expression_parser.specs.Reads.{ReadsMore};
+ghost use Rattle.expression_parser.specs.Reads.{ReadsAll, ReadsMore};
 ghost use Rattle.expression_parser.specs.Takes.{Begun};
 ghost use Rattle.script_parser.specs.Options.{result_set};
 ghost use Rattle.script_tree.specs.Words.{is_identifier};
@@ -13,6 +13,7 @@ use script_tree::{EntityStmt, Fixed, Identifier, Lexemes, Stmt};
 use std::alloc::Global;
 
 /// `call CHILD.METHOD(e, ..) as NAME;`
+#[tactic(auto, using(expression_parser::proofs::Machine::made))]
 pub fn call<'a>(
     alloc: Global,
     ts: Lexemes<'a>,
@@ -28,15 +29,29 @@ pub fn call<'a>(
     let (method, rest) = name(alloc, rest, depth)?;
     let inner = open(rest, Fixed::OpenRound, depth)?;
     let (list, rest) = arguments(alloc, inner, depth)?;
-    let (result, rest) = returned(alloc, rest, depth)?;
-    let rest = want(rest, Fixed::Semicolon, depth)?;
+    let (result, rest) = ending(alloc, rest, depth)?;
     Ok((
         Stmt::Entity(EntityStmt::Call(child, method, list, result)),
         rest,
     ))
 }
 
+/// `as NAME`, where it comes, and `;`.
+fn ending(
+    alloc: Global,
+    ts: Lexemes,
+    depth: u32,
+) -> Result<(Option<Identifier>, Lexemes), ReadError>
+    requires { depth ≤ 64 }
+    ensures { ReadsAll (MoreResult ∷ One Fixed.Semicolon ∷ []) (λ name. spell_result name ++ fixed Fixed.Semicolon ∷ []) result_set (option_fits is_identifier) depth depth ts.now result }
+{
+    let (result, rest) = returned(alloc, ts, depth)?;
+    let rest = want(rest, Fixed::Semicolon, depth)?;
+    Ok((result, rest))
+}
+
 /// `as NAME`, where it comes.
+#[tactic(auto, using(crate::proofs::Options::more_result))]
 fn returned(
     alloc: Global,
     ts: Lexemes,

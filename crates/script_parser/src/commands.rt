@@ -44,6 +44,7 @@ pub fn usage<'a>(
 }
 
 /// `rollback;`
+#[tactic(auto, using(expression_parser::proofs::Machine::made))]
 pub fn rollback<'a>(
     ts: Lexemes<'a>,
     behind: Lexemes<'a>,

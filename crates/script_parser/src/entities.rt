@@ -10,6 +10,7 @@ use script_tree::{EntityStmt, Fixed, Lexemes, Stmt};
 use std::alloc::Global;
 
 /// `create RELATION as NAME priority e;`
+#[tactic(auto, using(expression_parser::proofs::Machine::made, crate::proofs::Priority::skip_priority, crate::proofs::Priority::more_priority))]
 pub fn create<'a>(
     alloc: Global,
     ts: Lexemes<'a>,
@@ -38,6 +39,7 @@ pub fn create<'a>(
 }
 
 /// `remove NAME;`
+#[tactic(auto, using(expression_parser::proofs::Machine::made))]
 pub fn remove<'a>(
     alloc: Global,
     ts: Lexemes<'a>,

@@ -13,6 +13,7 @@ use script_tree::{ActivityStmt, Fixed, Lexemes, Literal, Stmt};
 use std::alloc::Global;
 
 /// `fire TEXT on a for TEXT { NAME: e, .. };`
+#[tactic(auto, using(expression_parser::proofs::Machine::made))]
 pub fn fire<'a>(
     alloc: Global,
     ts: Lexemes<'a>,
@@ -36,6 +37,7 @@ pub fn fire<'a>(
 }
 
 /// `for TEXT`, where it comes.
+#[tactic(auto, using(crate::proofs::Options::more_service))]
 fn service(alloc: Global, ts: Lexemes, depth: u32) -> Result<(Option<Literal>, Lexemes), ReadError>
     requires { depth ≤ 64 }
     ensures { ReadsMore MoreService spell_service with_service (option_fits is_literal) depth ts.now result }

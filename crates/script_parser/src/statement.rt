@@ -75,6 +75,7 @@ fn is_first(word: Fixed) -> bool
 
 /// As many statements as come, and what follows them. The list has room for no more.
 #[cycle(stmts)]
+#[tactic(auto, using(crate::proofs::Steps::more_stmts))]
 pub fn statements(alloc: Global, ts: Lexemes, depth: u32) -> Result<(Vec<Stmt>, Lexemes), ReadError>
     requires { depth ≤ 64 }
     ensures { MatchResult result (λ x. TookStmts [] depth ts.now (statements_of x.0.items) (statements_fit depth (statements_of x.0.items)) x.1.now) (λ e. FailStmts depth ts.now e) }
@@ -133,6 +134,7 @@ fn statement(alloc: Global, ts: Lexemes, depth: u32) -> Result<(Stmt, Lexemes), 
 
 /// `if e { .. } else { .. }`
 #[cycle(stmts)]
+#[tactic(auto, using(crate::proofs::Steps::more_else))]
 fn branch<'a>(
     alloc: Global,
     ts: Lexemes<'a>,
@@ -190,6 +192,7 @@ fn walk<'a>(
 
 /// Statements in braces, and what follows them.
 #[cycle(stmts)]
+#[tactic(auto, using(expression_parser::proofs::Machine::made, crate::proofs::Steps::block_opens))]
 fn block(alloc: Global, ts: Lexemes, depth: u32) -> Result<(Vec<Stmt>, Lexemes), ReadError>
     requires { depth ≤ 64 }
     ensures { MatchResult result (λ x. TookBlock depth ts.now (statements_of x.0.items) (statements_fit (depth + 1) (statements_of x.0.items)) x.1.now) (λ e. FailsBlock depth ts.now e) }

@@ -16,6 +16,7 @@ use slee_value::{Keep, NoMemory};
 use std::alloc::Global;
 
 /// `timer NAME on a at e every e times e keep ..;`
+#[tactic(auto, using(expression_parser::proofs::Machine::made))]
 pub fn timer<'a>(
     alloc: Global,
     ts: Lexemes<'a>,
@@ -44,6 +45,7 @@ pub fn timer<'a>(
 }
 
 /// `every e times e`, where it comes.
+#[tactic(auto, using(expression_parser::proofs::Machine::made, crate::proofs::Options::more_repeat))]
 fn repeat(
     alloc: Global,
     ts: Lexemes,
@@ -81,6 +83,7 @@ fn unboxed(repeat: Option<Box<Repeat>>) -> Option<Repeat>
 }
 
 /// `keep` and its word, where it comes.
+#[tactic(auto, using(crate::proofs::Options::more_keep))]
 fn keep(ts: Lexemes, depth: u32) -> Result<(Option<Keep>, Lexemes), ReadError>
     requires { depth ≤ 64 }
     ensures read { ReadsMore MoreKeep spell_keep keep_set (λ _. true) depth ts.now result }

@@ -1,19 +1,18 @@
-use Rattle.std.proofs.Common.{rules, ◌≡◌, ◌+◌, ◌-◌, ℕ, arith, ◌∷◌, [], refl, sym, ap, subst, ◌∙◌}
-use Rattle.std.proofs.lemmas.Result.{err_from_is_err_and}
+use Rattle.std.proofs.Common.{rules, ◌≡◌, ◌-◌, ℕ, arith, ◌∷◌, [], refl, sym, ap, subst, ◌∙◌}
 use Rattle.script_tree.specs.declared.lexeme.Lexeme.TheVariants as t
 use Rattle.script_tree.specs.declared.symbol.Symbol.TheVariants as s
 use Rattle.script_tree.specs.declared.symbol.Fixed.TheVariants as x
-use Rattle.script_tree.specs.Grammar.{Level, More, Make, Grouping, One, ATree, again}
+use Rattle.script_tree.specs.Grammar.{Level, More, ATree, again}
 use Rattle.script_tree.specs.Spelling.{chain_level}
-use Rattle.expression_parser.specs.Takes.{Took, Fails, fits_at}
+use Rattle.expression_parser.specs.Takes.{Took, fits_at}
 use Rattle.expression_parser.specs.Levels.{TookOperand, TookChain}
 use Rattle.script_tree.specs.declared.tree.Query.{Query}
 use Rattle.script_tree.specs.declared.tree.Expr.{Expr}
-use Rattle.script_tree.specs.Tree.{Expression, Unary, Binary, Ask, Group, tree_of, binary_of, joined}
-use Rattle.expression_parser.proofs.Machine.{made, fails_at, prim_begun}
+use Rattle.script_tree.specs.Tree.{Expression, Unary, Binary, Ask, tree_of, binary_of, joined}
+use Rattle.expression_parser.proofs.Machine.{prim_begun}
 use Rattle.expression_parser.proofs.Queries.{asked_took}
-use Rattle.expression_parser.proofs.Operators.{no_prim, refuse_prim, not_five, group_took, group_opens, group_deep}
-use Rattle.expression_parser.proofs.Climbing.{plain_operand, plain_fails, prefixed_operand, prefixed_fails, no_chain, chain_more, chain_ends, chain_fails, climbed, climb_fails, climb_ends}
+use Rattle.expression_parser.proofs.Operators.{no_prim, refuse_prim, not_five, group_took, group_deep}
+use Rattle.expression_parser.proofs.Climbing.{plain_operand, prefixed_operand, no_chain, chain_more, chain_ends, climbed, climb_ends}
 use Rattle.expression_parser.proofs.Chains.{one_joined, joined_last}
 use Rattle.expression_parser.proofs.levels.+exprs.Goals as goal
 
@@ -52,19 +51,6 @@ worded-priority-requires m c = record { deep = c.requires.deep; begun = prim_beg
 pub group-returns-then-depth-eq64 : goal.group-returns-then-depth-eq64
 group-returns-then-depth-eq64 m c = rw c.too_deep.ensures (group_deep c.args.depth c.args.ts.now c.args.behind.now c.requires.begins c.if-depth-eq64.true)
 
-pub group-returns-in_err-e : goal.group-returns-in_err-e
-group-returns-in_err-e m c =
-    let p = err_from_is_err_and c.from_residual.result c.from_residual.ensures.1 in
-    let d = c.args.depth in
-    rw (p.1, p.2) (fails_at (Level 0) (Level 8) d (d + 1) c.args.ts.now c.args.behind.now (λ ps. Make Grouping ∷ One x.CloseRound ∷ ps) (λ is. is) (group_opens d c.args.ts.now c.args.behind.now c.requires.begins (omega arith)) _ c.in_err-e.ensures)
-
-pub group-returns-in_err-rest : goal.group-returns-in_err-rest
-group-returns-in_err-rest m c =
-    let p = err_from_is_err_and c.from_residual-in_err-rest.result c.from_residual-in_err-rest.ensures.1 in
-    let d = c.args.depth in
-    let e = tree_of c.in_ok-e.e in
-    rw (p.1, p.2) (fails_at (Level 0) (One x.CloseRound) d (d + 1) c.args.ts.now c.in_ok-e.rest.now (λ ps. ps) (λ is. ATree (Group e) ∷ is) (λ ps i. group_opens d c.args.ts.now c.args.behind.now c.requires.begins (omega arith) ps i ∙ c.in_ok-e.ensures.goes_on (Make Grouping ∷ One x.CloseRound ∷ ps) i ∙ made Grouping (One x.CloseRound ∷ ps) (ATree e ∷ i) (d + 1) c.in_ok-e.rest.now) _ c.in_err-rest.ensures.read)
-
 pub worded-query-requires : goal.worded-query-requires
 worded-query-requires m c = (search rules, (c.requires.deep, prim_begun (t.Symbol (s.Fixed x.Masked)) c.args.depth c.args.ts.now c.args.behind.now (c.requires.begins ∙ ap (λ y. t.Symbol (s.Fixed y) ∷ c.args.behind.now) c.in-Masked.is) refl refl))
 
@@ -77,20 +63,8 @@ worded-query-requires-in-Profile m c = (search rules, (c.requires.deep, prim_beg
 pub worded-query-requires-in-HasProfile : goal.worded-query-requires-in-HasProfile
 worded-query-requires-in-HasProfile m c = (search rules, (c.requires.deep, prim_begun (t.Symbol (s.Fixed x.HasProfile)) c.args.depth c.args.ts.now c.args.behind.now (c.requires.begins ∙ ap (λ y. t.Symbol (s.Fixed y) ∷ c.args.behind.now) c.in-HasProfile.is) refl refl))
 
-pub first_operand-returns-in_err-tree : goal.first_operand-returns-in_err-tree
-first_operand-returns-in_err-tree m c =
-    let p = err_from_is_err_and c.from_residual.result c.from_residual.ensures.1 in
-    rw (p.1, p.2) (plain_fails c.args.highest c.args.depth c.args.ts.now _ c.in_default.ensures c.in_err-tree.ensures)
-
 pub first_operand-returns-in_default : goal.first_operand-returns-in_default
 first_operand-returns-in_default m c = plain_operand c.args.highest c.args.depth c.args.ts.now c.in_ok-tree.rest.now (tree_of c.in_ok-tree.tree) c.in_default.ensures c.in_ok-tree.ensures
-
-pub first_operand-returns-in_err-inner : goal.first_operand-returns-in_err-inner
-first_operand-returns-in_err-inner m c =
-    let p = err_from_is_err_and c.from_residual-in_err-inner.result c.from_residual-in_err-inner.ensures.1 in
-    let found = c.in-Some.ensures in
-    let fails = subst (λ (n : ℕ). Fails (Level (n - 1)) c.args.depth c.in-Some.behind.now c.in_err-inner.field-0.0) c.level-own.ensures.level c.in_err-inner.ensures in
-    rw (p.1, p.2) (prefixed_fails c.args.highest c.args.depth c.args.ts.now c.in-Some.behind.now c.in-Some.op found.1.0 _ found.0 found.1.1 fails)
 
 pub first_operand-returns : goal.first_operand-returns
 first_operand-returns m c =
@@ -100,11 +74,6 @@ first_operand-returns m c =
     let took = subst (λ (n : ℕ). Took (Level (n - 1)) [] c.args.depth c.in-Some.behind.now (ATree a ∷ []) (fits_at (n - 1) c.args.depth a) c.in_ok-inner.rest.now) c.level-own.ensures.level c.in_ok-inner.ensures in
     subst (λ (n : ℕ). TookOperand c.args.highest n c.args.depth c.args.ts.now (Unary c.in-Some.op b) c.in_ok-inner.rest.now) (sym c.level-own.ensures.level)
     (prefixed_operand c.args.highest c.args.depth c.args.ts.now c.in-Some.behind.now c.in_ok-inner.rest.now c.in-Some.op found.1.0 a b found.0 found.1.1 took (ap tree_of c.in_ok-new.ensures.ok))
-
-pub level-returns-in_err-longer : goal.level-returns-in_err-longer
-level-returns-in_err-longer m c =
-    let p = err_from_is_err_and c.from_residual-in_err-longer.result c.from_residual-in_err-longer.ensures.1 in
-    rw (p.1, p.2) (climb_fails c.args.highest c.levels.done c.in-Some.next c.args.depth c.args.ts.now c.levels.rest.now (tree_of c.levels.tree) _ c.levels.invariant (sym c.next_level.ensures ∙ c.in-Some.is) c.in_err-longer.ensures)
 
 pub level-levels-preserved : goal.level-levels-preserved
 level-levels-preserved m c =
@@ -118,13 +87,6 @@ chain-returns-in_default m c =
     let n = c.args.level_now in
     let a = tree_of c.args.first in
     chain_ends n c.args.depth c.args.ts.now c.args.ts.now a a (no_chain n c.args.depth c.args.ts.now a) c.in_default.ensures
-
-pub chain-returns-in_err-right : goal.chain-returns-in_err-right
-chain-returns-in_err-right m c =
-    let p = err_from_is_err_and c.from_residual.result c.from_residual.ensures.1 in
-    let n = c.args.level_now in
-    let a = tree_of c.args.first in
-    rw (p.1, p.2) (chain_fails n c.args.depth c.args.ts.now c.args.ts.now c.in-Some.behind.now c.in-Some.op a a _ (no_chain n c.args.depth c.args.ts.now a) c.in-Some.ensures.0 c.in-Some.ensures.1 c.in_err-right.ensures)
 
 pub chain-returns-then-level_now-eq-COMPARISON : goal.chain-returns-then-level_now-eq-COMPARISON
 chain-returns-then-level_now-eq-COMPARISON m c =
@@ -145,14 +107,6 @@ chain-operators-init m c =
     let same : joined (binary_of c.in_ok-binary.binary.value) c.new-more.result.items ≡ Binary c.in-Some.op a b = one_joined _ _ _ c.in_ok-binary.ensures.ok c.new-more.ensures.items in
     subst (λ (x : Expression). TookChain (More n ∷ []) n (chain_level n) c.args.depth c.args.ts.now a x c.in_ok-right.rest.now) (sym same)
     (chain_more n (chain_level n) c.args.depth (More n ∷ []) c.args.ts.now c.args.ts.now c.in-Some.behind.now c.in_ok-right.rest.now c.in-Some.op a a b (no_chain n c.args.depth c.args.ts.now a) c.in-Some.ensures.0 c.in-Some.ensures.1 c.in_ok-right.ensures far.0 far.1)
-
-pub chain-returns-in_err-right-2 : goal.chain-returns-in_err-right-2
-chain-returns-in_err-right-2 m c =
-    let p = err_from_is_err_and c.from_residual-in_err-right-2.result c.from_residual-in_err-right-2.ensures.1 in
-    let n = c.args.level_now in
-    let a = tree_of c.args.first in
-    let b = binary_of c.in_ok-binary.binary.value in
-    rw (p.1, p.2) (chain_fails n c.args.depth c.args.ts.now c.operators.rest.now c.in-Some-operator.behind.now c.in-Some-operator.op a (joined b c.operators.more.items) _ c.operators.invariant c.in-Some-operator.ensures.0 c.in-Some-operator.ensures.1 c.in_err-right-2.ensures)
 
 pub chain-operators-preserved : goal.chain-operators-preserved
 chain-operators-preserved m c =

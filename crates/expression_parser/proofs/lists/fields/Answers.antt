@@ -3,13 +3,12 @@ use Rattle.script_tree.specs.Tree.{field_of}
 use Rattle.std.proofs.Common.{◌+◌, ap, arith}
 use Rattle.std.specs.Prelude.{map}
 use Rattle.std.specs.List.{list_all}
-use Rattle.std.proofs.lemmas.Result.{err_from_is_err_and}
 use Rattle.script_tree.specs.Grammar.{MoreFields}
 use Rattle.script_tree.specs.Spelling.{spell_fields, field_fits}
 use Rattle.script_tree.specs.Tree.{field_of}
 use Rattle.expression_parser.specs.Lists.{with_fields}
 use Rattle.expression_parser.proofs.ListSteps.{skip_fields}
-use Rattle.expression_parser.proofs.ListReaders.{left_out, fields_took, fields_fail, fields_open, fields_deep}
+use Rattle.expression_parser.proofs.ListReaders.{left_out, fields_took, fields_deep}
 use Rattle.expression_parser.proofs.lists.fields.Goals as goal
 
 pub returns-in_default : goal.returns-in_default
@@ -19,16 +18,6 @@ returns-in_default c =
 
 pub returns-then-depth-eq64 : goal.returns-then-depth-eq64
 returns-then-depth-eq64 c = rw c.too_deep.ensures (fields_deep _ _ _ c.in-Some.ensures c.if-depth-eq64.true)
-
-pub returns-in_err-list : goal.returns-in_err-list
-returns-in_err-list c =
-    let p = err_from_is_err_and c.from_residual.result c.from_residual.ensures.1 in
-    rw (p.1, p.2) (fields_fail _ _ _ _ c.in-Some.ensures (omega arith) c.in_err-list.ensures)
-
-pub returns-in_err-last : goal.returns-in_err-last
-returns-in_err-last c =
-    let p = err_from_is_err_and c.from_residual-in_err-last.result c.from_residual-in_err-last.ensures.1 in
-    rw (p.1, p.2) (fields_open _ _ _ _ _ _ _ _ c.in-Some.ensures (omega arith) c.in_ok-list.ensures c.in_err-last.ensures.read)
 
 pub returns : goal.returns
 returns c = fields_took _ _ _ _ _ (map field_of c.in_ok-list.list.items) c.in-Some.ensures (omega arith) c.in_ok-list.ensures c.in_ok-last.ensures.read

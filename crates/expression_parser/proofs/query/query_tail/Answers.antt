@@ -1,9 +1,8 @@
-use Rattle.std.proofs.lemmas.Result.{err_from_is_err_and}
 use Rattle.std.proofs.Common.{refl}
 use Rattle.script_tree.specs.declared.tree.Query.TheVariants as q
 use Rattle.script_tree.specs.Grammar.{Asking, AskingMasked, AskingHasProfile}
 use Rattle.expression_parser.specs.declared.query.QueryHead.TheVariants as h
-use Rattle.expression_parser.proofs.Queries.{tail_closes, tail_open}
+use Rattle.expression_parser.proofs.Queries.{tail_closes}
 use Rattle.expression_parser.proofs.query.query_tail.Goals as goal
 
 pub returns-in_ok-rest-in-Plain : goal.returns-in_ok-rest-in-Plain
@@ -14,18 +13,3 @@ returns-in_ok-rest-in-Masked c = rw c.in-Masked.is (tail_closes _ (h.Masked _) A
 
 pub returns-in_ok-rest-in-HasProfile : goal.returns-in_ok-rest-in-HasProfile
 returns-in_ok-rest-in-HasProfile c = rw c.in-HasProfile.is (tail_closes _ (h.HasProfile _) AskingHasProfile (q.HasProfile _) _ _ refl refl refl (λ a is. refl) (λ e. e) c.in_ok-rest-in-HasProfile.ensures.read)
-
-pub returns-in_err-rest-in-Plain : goal.returns-in_err-rest-in-Plain
-returns-in_err-rest-in-Plain c =
-    let p = err_from_is_err_and c.from_residual.result c.from_residual.ensures.1 in
-    rw (p.1, p.2, c.in-Plain.is) (tail_open _ (h.Plain _) (Asking _) _ refl _ c.in_err-rest-in-Plain.ensures.read)
-
-pub returns-in_err-rest-in-Masked : goal.returns-in_err-rest-in-Masked
-returns-in_err-rest-in-Masked c =
-    let p = err_from_is_err_and c.from_residual-in_err-rest-in-Masked.result c.from_residual-in_err-rest-in-Masked.ensures.1 in
-    rw (p.1, p.2, c.in-Masked.is) (tail_open _ (h.Masked _) AskingMasked _ refl _ c.in_err-rest-in-Masked.ensures.read)
-
-pub returns-in_err-rest-in-HasProfile : goal.returns-in_err-rest-in-HasProfile
-returns-in_err-rest-in-HasProfile c =
-    let p = err_from_is_err_and c.from_residual-in_err-rest-in-HasProfile.result c.from_residual-in_err-rest-in-HasProfile.ensures.1 in
-    rw (p.1, p.2, c.in-HasProfile.is) (tail_open _ (h.HasProfile _) AskingHasProfile _ refl _ c.in_err-rest-in-HasProfile.ensures.read)

@@ -1,16 +1,6 @@
 use Rattle.std.proofs.Common.{arith, ◌∙◌, append_assoc}
 use Rattle.expression_parser.proofs.Machine.{made}
-use Rattle.script_parser.proofs.Exits.{stops}
 use Rattle.script_parser.proofs.activities.null.Goals as goal
-
-pub returns-in_err-rest : goal.returns-in_err-rest
-returns-in_err-rest c = stops _ _ _ _ _ _ _ _ _ (λ ps i. c.requires.begun.goes_on ps i) c.from_residual.ensures.1 c.in_err-rest.ensures.read
-
-pub returns-in_err-name : goal.returns-in_err-name
-returns-in_err-name c = stops _ _ _ _ _ _ _ _ _ (λ ps i. c.requires.begun.goes_on ps i ∙ c.in_ok-rest.ensures.read.goes_on _ _) c.from_residual-in_err-name.ensures.1 c.in_err-name.ensures
-
-pub returns-in_err-rest-2 : goal.returns-in_err-rest-2
-returns-in_err-rest-2 c = stops _ _ _ _ _ _ _ _ _ (λ ps i. c.requires.begun.goes_on ps i ∙ c.in_ok-rest.ensures.read.goes_on _ _ ∙ c.in_ok-name.ensures.goes_on _ _ ∙ made _ _ _ _ _) c.from_residual-in_err-rest-2.ensures.1 c.in_err-rest-2.ensures.read
 
 pub returns : goal.returns
 returns c = record {

@@ -1,15 +1,5 @@
 use Rattle.std.proofs.Common.{arith, refl, ◌∙◌, append_assoc}
-use Rattle.script_parser.proofs.Exits.{stops, stops_making}
 use Rattle.script_parser.proofs.assignments.new_variable.Goals as goal
-
-pub returns-in_err-name : goal.returns-in_err-name
-returns-in_err-name c = stops _ _ _ _ _ _ _ _ _ (λ ps i. c.requires.begun.goes_on ps i) c.from_residual.ensures.1 c.in_err-name.ensures
-
-pub returns-in_err-rest : goal.returns-in_err-rest
-returns-in_err-rest c = stops _ _ _ _ _ _ _ _ _ (λ ps i. c.requires.begun.goes_on ps i ∙ c.in_ok-name.ensures.goes_on _ _) c.from_residual-in_err-rest.ensures.1 c.in_err-rest.ensures.read
-
-pub returns-in_err-e : goal.returns-in_err-e
-returns-in_err-e c = stops_making _ _ _ _ _ _ _ _ _ _ (λ ps i. c.requires.begun.goes_on ps i ∙ c.in_ok-name.ensures.goes_on _ _ ∙ c.in_ok-rest.ensures.read.goes_on _ _) c.from_residual-in_err-e.ensures.1 c.in_err-e.ensures
 
 pub returns : goal.returns
 returns c = record {

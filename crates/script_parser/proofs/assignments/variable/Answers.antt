@@ -7,14 +7,7 @@ use Rattle.expression_parser.proofs.Operators.{and_join}
 use Rattle.script_tree.specs.declared.lexeme.Lexeme.TheVariants as t
 use Rattle.script_tree.specs.declared.symbol.Fixed.TheVariants as x
 use Rattle.script_tree.specs.Spelling.{fixed, spell_expression}
-use Rattle.script_parser.proofs.Exits.{stops, stops_making}
 use Rattle.script_parser.proofs.assignments.variable.Goals as goal
-
-pub returns-in_err-rest : goal.returns-in_err-rest
-returns-in_err-rest c = stops _ _ _ _ _ _ _ _ _ (λ ps i. c.requires.begun.goes_on ps i) c.from_residual-in_err-rest.ensures.1 c.in_err-rest.ensures.read
-
-pub returns-in_err-e : goal.returns-in_err-e
-returns-in_err-e c = stops_making _ _ _ _ _ _ _ _ _ _ (λ ps i. c.requires.begun.goes_on ps i ∙ c.in_ok-rest.ensures.read.goes_on _ _) c.from_residual-in_err-e.ensures.1 c.in_err-e.ensures
 
 pub returns : goal.returns
 returns c = record {

@@ -1,10 +1,6 @@
 use Rattle.std.proofs.Common.{arith, refl, ◌∙◌, append_assoc}
 use Rattle.expression_parser.proofs.Machine.{made}
-use Rattle.script_parser.proofs.Exits.{stops}
 use Rattle.script_parser.proofs.commands.rollback.Goals as goal
-
-pub returns-in_err-rest-clause-read : goal.returns-in_err-rest-clause-read
-returns-in_err-rest-clause-read c = stops _ _ _ _ _ _ _ _ _ (λ ps i. c.requires.begun.goes_on ps i ∙ made _ _ _ _ _) c.from_residual.ensures.1 c.in_err-rest.ensures.read
 
 pub returns-clause-read : goal.returns-clause-read
 returns-clause-read c = record {

@@ -1,9 +1,5 @@
 use Rattle.std.proofs.Common.{arith, ◌∙◌, append_assoc}
-use Rattle.script_parser.proofs.Exits.{stops_making}
 use Rattle.script_parser.proofs.commands.verb.Goals as goal
-
-pub returns-in_err-e : goal.returns-in_err-e
-returns-in_err-e c = stops_making _ _ _ _ _ _ _ _ _ _ (λ ps i. c.requires.begun.goes_on ps i) c.from_residual.ensures.1 c.in_err-e.ensures
 
 pub returns : goal.returns
 returns c = record {

@@ -1,13 +1,6 @@
 use Rattle.std.proofs.Common.{arith, ◌∙◌, append_assoc}
 use Rattle.expression_parser.proofs.Machine.{made}
-use Rattle.script_parser.proofs.Exits.{stops}
 use Rattle.script_parser.proofs.entities.remove.Goals as goal
-
-pub returns-in_err-child : goal.returns-in_err-child
-returns-in_err-child c = stops _ _ _ _ _ _ _ _ _ (λ ps i. c.requires.begun.goes_on ps i) c.from_residual.ensures.1 c.in_err-child.ensures
-
-pub returns-in_err-rest : goal.returns-in_err-rest
-returns-in_err-rest c = stops _ _ _ _ _ _ _ _ _ (λ ps i. c.requires.begun.goes_on ps i ∙ c.in_ok-child.ensures.goes_on _ _ ∙ made _ _ _ _ _) c.from_residual-in_err-rest.ensures.1 c.in_err-rest.ensures.read
 
 pub returns : goal.returns
 returns c = record {

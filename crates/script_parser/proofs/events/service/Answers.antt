@@ -1,19 +1,13 @@
 use Rattle.std.proofs.Common.{refl, true, None, []}
-use Rattle.std.proofs.lemmas.Result.{err_from_is_err_and}
 use Rattle.script_tree.specs.Grammar.{MoreService}
 use Rattle.script_parser.specs.Options.{with_service}
 use Rattle.script_parser.proofs.Options.{skip_service}
 use Rattle.expression_parser.proofs.ListReaders.{left_out}
-use Rattle.script_parser.proofs.Parts.{service_took, service_fails}
+use Rattle.script_parser.proofs.Parts.{service_took}
 use Rattle.script_parser.proofs.events.service.Goals as goal
 
 pub returns-in_default : goal.returns-in_default
 returns-in_default c = left_out MoreService _ _ [] (with_service None) true (λ ps i. skip_service ps i c.args.depth c.args.ts.now c.in_default.ensures) (λ i. refl) refl refl
-
-pub returns-in_err-service : goal.returns-in_err-service
-returns-in_err-service c =
-    let p = err_from_is_err_and c.from_residual.result c.from_residual.ensures.1 in
-    rw (p.1, p.2) (service_fails _ _ _ _ c.in-Some.ensures c.in_err-service.ensures)
 
 pub returns : goal.returns
 returns c = service_took _ _ _ _ _ c.in-Some.ensures c.in_ok-service.ensures

@@ -1,9 +1,7 @@
 use Rattle.std.proofs.Common.{rules, arith, [], refl, sym, ap, ◌∙◌}
-use Rattle.std.proofs.lemmas.Result.{err_from_is_err_and}
-use Rattle.script_parser.proofs.Blocks.{no_block_word, word_begun, while_took, for_took, if_took, if_else_took, to_other, stmts_more, stmts_fail, stmts_end, stmts_none, block_took, block_fails, block_open, block_too_deep, no_block}
+use Rattle.script_parser.proofs.Blocks.{no_block_word, word_begun, while_took, for_took, if_took, if_else_took, stmts_more, stmts_end, stmts_none, block_took, block_too_deep, no_block}
 use Rattle.script_parser.specs.declared.statement.BlockWord.TheVariants as words
 use Rattle.std.specs.Prelude.{Some}
-use Rattle.script_parser.proofs.Exits.{stops, stops_block}
 use Rattle.script_parser.proofs.statement.+stmts.Goals as goal
 
 pub statement-simple_statement-requires : goal.statement-simple_statement-requires
@@ -18,41 +16,14 @@ statement-repeat-requires m c = (search rules, (c.requires, word_begun words.Whi
 pub statement-walk-requires : goal.statement-walk-requires
 statement-walk-requires m c = (search rules, (c.requires, word_begun words.For _ _ _ _ (c.in-Some.ensures.0 ∙ ap Some c.in-For.is) c.in-Some.ensures.1.1))
 
-pub branch-returns-in_err-test : goal.branch-returns-in_err-test
-branch-returns-in_err-test m c = stops _ _ _ _ _ _ _ _ _ (λ ps i. c.requires.begun.goes_on ps i) c.from_residual.ensures.1 c.in_err-test.ensures
-
-pub branch-returns-in_err-body : goal.branch-returns-in_err-body
-branch-returns-in_err-body m c = stops_block _ _ _ _ _ _ _ _ _ (λ ps i. c.requires.begun.goes_on ps i ∙ c.in_ok-test.ensures.goes_on _ _) c.from_residual-in_err-body.ensures.1 c.in_err-body.ensures
-
-pub branch-returns-in_err-other : goal.branch-returns-in_err-other
-branch-returns-in_err-other m c = stops_block _ _ _ _ _ _ _ _ _ (to_other _ _ _ _ _ _ c.in_ok-test.test c.in_ok-body.body c.requires.begun c.in_ok-test.ensures c.in_ok-body.ensures c.in-Some.ensures) c.from_residual-in_err-other.ensures.1 c.in_err-other.ensures
-
 pub branch-returns-in_default : goal.branch-returns-in_default
 branch-returns-in_default m c = if_took _ _ _ _ _ c.in_ok-test.test c.in_ok-body.body c.requires.begun c.in_ok-test.ensures c.in_ok-body.ensures c.in_default.ensures
 
 pub branch-returns : goal.branch-returns
 branch-returns m c = if_else_took _ _ _ _ _ _ _ c.in_ok-test.test c.in_ok-body.body c.in_ok-other.other c.requires.begun c.in_ok-test.ensures c.in_ok-body.ensures c.in-Some.ensures c.in_ok-other.ensures
 
-pub repeat-returns-in_err-test : goal.repeat-returns-in_err-test
-repeat-returns-in_err-test m c = stops _ _ _ _ _ _ _ _ _ (λ ps i. c.requires.begun.goes_on ps i) c.from_residual.ensures.1 c.in_err-test.ensures
-
-pub repeat-returns-in_err-body : goal.repeat-returns-in_err-body
-repeat-returns-in_err-body m c = stops_block _ _ _ _ _ _ _ _ _ (λ ps i. c.requires.begun.goes_on ps i ∙ c.in_ok-test.ensures.goes_on _ _) c.from_residual-in_err-body.ensures.1 c.in_err-body.ensures
-
 pub repeat-returns : goal.repeat-returns
 repeat-returns m c = while_took _ _ _ _ _ c.in_ok-test.test c.in_ok-body.body c.requires.begun c.in_ok-test.ensures c.in_ok-body.ensures
-
-pub walk-returns-in_err-name : goal.walk-returns-in_err-name
-walk-returns-in_err-name m c = stops _ _ _ _ _ _ _ _ _ (λ ps i. c.requires.begun.goes_on ps i) c.from_residual.ensures.1 c.in_err-name.ensures
-
-pub walk-returns-in_err-rest : goal.walk-returns-in_err-rest
-walk-returns-in_err-rest m c = stops _ _ _ _ _ _ _ _ _ (λ ps i. c.requires.begun.goes_on ps i ∙ c.in_ok-name.ensures.goes_on _ _) c.from_residual-in_err-rest.ensures.1 c.in_err-rest.ensures.read
-
-pub walk-returns-in_err-over : goal.walk-returns-in_err-over
-walk-returns-in_err-over m c = stops _ _ _ _ _ _ _ _ _ (λ ps i. c.requires.begun.goes_on ps i ∙ c.in_ok-name.ensures.goes_on _ _ ∙ c.in_ok-rest.ensures.read.goes_on _ _) c.from_residual-in_err-over.ensures.1 c.in_err-over.ensures
-
-pub walk-returns-in_err-body : goal.walk-returns-in_err-body
-walk-returns-in_err-body m c = stops_block _ _ _ _ _ _ _ _ _ (λ ps i. c.requires.begun.goes_on ps i ∙ c.in_ok-name.ensures.goes_on _ _ ∙ c.in_ok-rest.ensures.read.goes_on _ _ ∙ c.in_ok-over.ensures.goes_on _ _) c.from_residual-in_err-body.ensures.1 c.in_err-body.ensures
 
 pub walk-returns : goal.walk-returns
 walk-returns m c = for_took _ _ _ _ _ _ _ _ _ c.in_ok-body.body c.requires.begun c.in_ok-name.ensures c.in_ok-rest.ensures.read c.in_ok-over.ensures c.in_ok-body.ensures
@@ -63,31 +34,11 @@ block-returns-in_default m c = rw c.unexpected.ensures (no_block _ _ c.in_defaul
 pub block-returns-then-depth-eq64 : goal.block-returns-then-depth-eq64
 block-returns-then-depth-eq64 m c = rw c.too_deep.ensures (block_too_deep _ _ _ c.in-Some.ensures c.if-depth-eq64.true)
 
-pub block-returns-in_err-body : goal.block-returns-in_err-body
-block-returns-in_err-body m c =
-    let p = err_from_is_err_and c.from_residual.result c.from_residual.ensures.1 in
-    rw (p.1, p.2) (block_fails _ _ _ c.in-Some.ensures (omega arith) _ c.in_err-body.ensures)
-
-pub block-returns-in_err-rest : goal.block-returns-in_err-rest
-block-returns-in_err-rest m c =
-    let p = err_from_is_err_and c.from_residual-in_err-rest.result c.from_residual-in_err-rest.ensures.1 in
-    rw (p.1, p.2) (block_open _ _ _ _ _ c.in-Some.ensures (omega arith) c.in_ok-body.ensures _ c.in_err-rest.ensures.read)
-
 pub block-returns : goal.block-returns
 block-returns m c = block_took _ _ _ _ _ _ c.in-Some.ensures (omega arith) c.in_ok-body.ensures c.in_ok-rest.ensures.read
 
 pub statements-returns-then-not-starts : goal.statements-returns-then-not-starts
 statements-returns-then-not-starts m c = stmts_end _ _ _ _ (stmts_none _ _ _ c.new.ensures.items) (sym c.starts.ensures ∙ c.if-not-starts.true)
-
-pub statements-returns-in_err-first : goal.statements-returns-in_err-first
-statements-returns-in_err-first m c =
-    let p = err_from_is_err_and c.from_residual.result c.from_residual.ensures.1 in
-    rw (p.1, p.2) (stmts_fail _ _ _ [] (stmts_none _ _ [] refl) (sym c.starts.ensures ∙ c.if-not-starts.false) _ c.in_err-first.ensures)
-
-pub statements-returns-in_err-next : goal.statements-returns-in_err-next
-statements-returns-in_err-next m c =
-    let p = err_from_is_err_and c.from_residual-in_err-next.result c.from_residual-in_err-next.ensures.1 in
-    rw (p.1, p.2) (stmts_fail _ _ _ _ c.more.invariant (sym c.starts-in-more.ensures ∙ c.more-test.true) _ c.in_err-next.ensures)
 
 pub statements-more-init : goal.statements-more-init
 statements-more-init m c = stmts_more _ _ _ _ [] _ _ (stmts_none _ _ [] refl) (sym c.starts.ensures ∙ c.if-not-starts.false) c.in_ok-first.ensures c.in_ok-list.ensures.items

@@ -1,24 +1,13 @@
 use Rattle.std.proofs.Common.{refl, true, None, []}
-use Rattle.std.proofs.lemmas.Result.{err_from_is_err_and}
 use Rattle.script_tree.specs.Grammar.{MoreRepeat}
 use Rattle.script_parser.specs.Options.{repeat_set}
 use Rattle.script_parser.proofs.Options.{skip_repeat}
 use Rattle.expression_parser.proofs.ListReaders.{left_out}
-use Rattle.script_parser.proofs.Parts.{repeat_took, period_fails, times_fail}
+use Rattle.script_parser.proofs.Parts.{repeat_took}
 use Rattle.script_parser.proofs.timers.repeat.Goals as goal
 
 pub returns-in_default : goal.returns-in_default
 returns-in_default c = left_out MoreRepeat _ _ [] (repeat_set None) true (λ ps i. skip_repeat ps i c.args.depth c.args.ts.now c.in_default.ensures) (λ i. refl) refl refl
-
-pub returns-in_err-period : goal.returns-in_err-period
-returns-in_err-period c =
-    let p = err_from_is_err_and c.from_residual.result c.from_residual.ensures.1 in
-    rw (p.1, p.2) (period_fails _ _ _ _ c.in-Some.ensures c.in_err-period.ensures)
-
-pub returns-in_err-times : goal.returns-in_err-times
-returns-in_err-times c =
-    let p = err_from_is_err_and c.from_residual-in_err-times.result c.from_residual-in_err-times.ensures.1 in
-    rw (p.1, p.2) (times_fail _ _ _ _ _ _ _ c.in-Some.ensures c.in_ok-period.ensures c.in_err-times.ensures)
 
 pub returns : goal.returns
 returns c = repeat_took _ _ _ _ _ _ _ _ c.in-Some.ensures c.in_ok-period.ensures c.in_ok-times.ensures c.in_ok-repeat.ensures

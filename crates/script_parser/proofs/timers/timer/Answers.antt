@@ -2,29 +2,7 @@ use Rattle.std.proofs.Common.{arith, refl, ap, ◌∙◌, append_assoc}
 use Rattle.script_tree.specs.Grammar.{verdict}
 use Rattle.expression_parser.proofs.Machine.{made}
 use Rattle.script_parser.proofs.Options.{timer_with_all}
-use Rattle.script_parser.proofs.Exits.{stops, stops_before}
 use Rattle.script_parser.proofs.timers.timer.Goals as goal
-
-pub returns-in_err-name : goal.returns-in_err-name
-returns-in_err-name c = stops _ _ _ _ _ _ _ _ _ (λ ps i. c.requires.begun.goes_on ps i) c.from_residual.ensures.1 c.in_err-name.ensures
-
-pub returns-in_err-rest : goal.returns-in_err-rest
-returns-in_err-rest c = stops _ _ _ _ _ _ _ _ _ (λ ps i. c.requires.begun.goes_on ps i ∙ c.in_ok-name.ensures.goes_on _ _) c.from_residual-in_err-rest.ensures.1 c.in_err-rest.ensures.read
-
-pub returns-in_err-activity : goal.returns-in_err-activity
-returns-in_err-activity c = stops_before _ _ _ _ _ _ _ _ _ (λ ps i. c.requires.begun.goes_on ps i ∙ c.in_ok-name.ensures.goes_on _ _ ∙ c.in_ok-rest.ensures.read.goes_on _ _) c.from_residual-in_err-activity.ensures.1 c.in_err-activity.ensures
-
-pub returns-in_err-start : goal.returns-in_err-start
-returns-in_err-start c = stops _ _ _ _ _ _ _ _ _ (λ ps i. c.requires.begun.goes_on ps i ∙ c.in_ok-name.ensures.goes_on _ _ ∙ c.in_ok-rest.ensures.read.goes_on _ _ ∙ c.in_ok-activity.ensures.goes_on _ _) c.from_residual-in_err-start.ensures.1 c.in_err-start.ensures
-
-pub returns-in_err-repeat : goal.returns-in_err-repeat
-returns-in_err-repeat c = stops _ _ _ _ _ _ _ _ _ (λ ps i. c.requires.begun.goes_on ps i ∙ c.in_ok-name.ensures.goes_on _ _ ∙ c.in_ok-rest.ensures.read.goes_on _ _ ∙ c.in_ok-activity.ensures.goes_on _ _ ∙ c.in_ok-start.ensures.goes_on _ _ ∙ made _ _ _ _ _) c.from_residual-in_err-repeat.ensures.1 c.in_err-repeat.ensures
-
-pub returns-in_err-keep : goal.returns-in_err-keep
-returns-in_err-keep c = stops _ _ _ _ _ _ _ _ _ (λ ps i. c.requires.begun.goes_on ps i ∙ c.in_ok-name.ensures.goes_on _ _ ∙ c.in_ok-rest.ensures.read.goes_on _ _ ∙ c.in_ok-activity.ensures.goes_on _ _ ∙ c.in_ok-start.ensures.goes_on _ _ ∙ made _ _ _ _ _ ∙ c.in_ok-repeat.ensures.goes_on _ _) c.from_residual-in_err-keep.ensures.1 c.in_err-keep.ensures.read
-
-pub returns-in_err-rest-2 : goal.returns-in_err-rest-2
-returns-in_err-rest-2 c = stops _ _ _ _ _ _ _ _ _ (λ ps i. c.requires.begun.goes_on ps i ∙ c.in_ok-name.ensures.goes_on _ _ ∙ c.in_ok-rest.ensures.read.goes_on _ _ ∙ c.in_ok-activity.ensures.goes_on _ _ ∙ c.in_ok-start.ensures.goes_on _ _ ∙ made _ _ _ _ _ ∙ c.in_ok-repeat.ensures.goes_on _ _ ∙ c.in_ok-keep.ensures.read.goes_on _ _) c.from_residual-in_err-rest-2.ensures.1 c.in_err-rest-2.ensures.read
 
 pub returns : goal.returns
 returns c = rw (c.in_ok-new.ensures.ok, c.into_inner.ensures, c.into_inner-2.ensures, c.unboxed.ensures) (record {
