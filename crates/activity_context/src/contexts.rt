@@ -6,7 +6,8 @@ ghost use Rattle.slee_state.specs.Contexts.{activity_at, external, with_activity
 ghost use Rattle.activity_context.specs.Faults.{fault_of, start_fault, active_fault, bind_fault, unbind_fault};
 ghost use Rattle.activity_context.specs.Views.{HasRoom, activity_before, parts_of_link, parts_of_name, parts_of_attribute};
 
-use crate::{AcFault, activities, attributes, links, names};
+use crate::activities::Activities;
+use crate::{AcFault, attributes, links, names};
 use slee_state::{AcKind, Activity, Attribute, Link, Named};
 use slee_value::{ActivityId, EntityId, Name, NoMemory, Text, Value};
 use sorted_rows::{cut_row, cut_rows_of, put_row, row_of, rows_of};
@@ -16,7 +17,7 @@ use std::marker::Model;
 /// Activities with their attributes, attachments and names; each activity has a number that is drawn once.
 #[derive(Drop)]
 pub struct Contexts {
-    activities: Vec<Activity>,
+    activities: Activities,
     attributes: Vec<Attribute>,
     links: Vec<Link>,
     names: Vec<Named>,
@@ -45,7 +46,7 @@ impl Contexts {
         ensures next { result.next ≡ 1 }
     {
         Contexts {
-            activities: Vec::new(alloc),
+            activities: Activities::new(alloc),
             attributes: Vec::new(alloc),
             links: Vec::new(alloc),
             names: Vec::new(alloc),
@@ -62,6 +63,7 @@ impl Contexts {
         ensures names { IsTrue (rises_by name_before self.now.names) }
     {
         let _next = self.next;
+        self.activities.ordered();
     }
 
     /// Makes room for so many more rows in each list.
@@ -73,7 +75,7 @@ impl Contexts {
         ensures links { self.old.rooms.links ≤ self.new.rooms.links }
         ensures names { self.old.rooms.names ≤ self.new.rooms.names }
     {
-        self.activities.reserve(rows as usize)?;
+        self.activities.reserve(rows)?;
         self.attributes.reserve(rows as usize)?;
         self.links.reserve(rows as usize)?;
         self.names.reserve(rows as usize)?;
@@ -88,7 +90,7 @@ impl Contexts {
         ensures room { self.old.rooms.activities ≤ self.new.rooms.activities + 1 }
     {
         let number = self.next;
-        activities::push_activity(&mut self.activities, number, kind);
+        self.activities.push(number, kind);
         self.next += 1;
         ActivityId(number)
     }
@@ -103,7 +105,7 @@ impl Contexts {
         ensures room { OnOk result (self.old.rooms.activities ≤ self.new.rooms.activities + 1) }
         ensures kept { OnErr result (self.new ≡ self.old) }
     {
-        match activities::fault_of_start(&self.activities, &kind) {
+        match self.activities.fault_of_start(&kind) {
             Some(fault) => Err(fault),
             None => Ok(self.add_activity(kind)),
         }
@@ -116,10 +118,10 @@ impl Contexts {
         ensures room { self.old.rooms.activities ≤ self.new.rooms.activities }
         ensures kept { OnErr result (self.new ≡ self.old) }
     {
-        match activities::fault_of_use(&self.activities, activity) {
+        match self.activities.fault_of_use(activity) {
             Some(fault) => Err(fault),
             None => {
-                activities::end_activity(&mut self.activities, activity);
+                self.activities.end(activity);
                 Ok(())
             }
         }
@@ -137,7 +139,7 @@ impl Contexts {
         ensures link_room { self.old.rooms.links ≤ self.new.rooms.links }
         ensures name_room { self.old.rooms.names ≤ self.new.rooms.names }
     {
-        activities::cut_activity(&mut self.activities, activity);
+        self.activities.cut(activity);
         cut_rows_of(&mut self.attributes, activity.0);
         cut_rows_of(&mut self.links, activity.0);
         names::cut_names_of(&mut self.names, activity);
@@ -178,7 +180,7 @@ impl Contexts {
     fn fault_of_bind(&self, name: &Text, activity: ActivityId) -> Option<AcFault>
         ensures { result ≡ bind_fault self.now.activities self.now.names name.now activity.0 }
     {
-        match activities::fault_of_use(&self.activities, activity) {
+        match self.activities.fault_of_use(activity) {
             Some(fault) => Some(fault),
             None => match names::activity_named(&self.names, name) {
                 Some(to) => Some(AcFault::Bound { to }),
@@ -227,7 +229,7 @@ impl Contexts {
         ensures restored { self.new ≡ record self.old { activities = put activity_before activity self.old.activities; rooms = record self.old.rooms { activities = self.new.rooms.activities } } }
         ensures room { self.old.rooms.activities ≤ self.new.rooms.activities + 1 }
     {
-        activities::put_activity(&mut self.activities, activity);
+        self.activities.put(activity);
     }
 
     /// Puts an attachment back.
@@ -267,7 +269,7 @@ impl Contexts {
     pub fn len(&self) -> u64
         ensures { result ≡ length self.now.activities }
     {
-        self.activities.len() as u64
+        self.activities.rows().len() as u64
     }
 
     /// The activity at this place; they rise by number.
@@ -275,7 +277,7 @@ impl Contexts {
         requires { place < length self.now.activities }
         ensures { slice_get self.now.activities place ≡ Some result.now }
     {
-        &self.activities[place as usize]
+        &self.activities.rows()[place as usize]
     }
 
     /// How many attachments there are.
@@ -330,14 +332,14 @@ impl Contexts {
     pub fn find(&self, activity: ActivityId) -> Option<&Activity>
         ensures { option_copied result ≡ activity_at self.now.activities activity.0 }
     {
-        activities::activity_in(&self.activities, activity)
+        self.activities.find(activity)
     }
 
-    /// The external activity of this name. All activities are looked at.
+    /// The external activity of this name.
     pub fn external(&self, name: &Name) -> Option<ActivityId>
         ensures { result ≡ option_map (λ row. row.number) (external self.now.activities name.now) }
     {
-        match activities::external_in(&self.activities, name) {
+        match self.activities.external(name) {
             Some(row) => Some(row.number),
             None => None,
         }

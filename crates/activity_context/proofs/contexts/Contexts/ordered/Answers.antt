@@ -1,10 +1,7 @@
 -- as they are kept
 use Rattle.std.proofs.Common.{sym, ◌∙◌}
-use Rattle.sorted_rows.proofs.AgreeLemmas.{activity_order, link_order}
+use Rattle.sorted_rows.proofs.AgreeLemmas.{link_order}
 use Rattle.activity_context.proofs.contexts.Contexts.ordered.Goals as goal
-
-pub returns-clause-activities : goal.returns-clause-activities
-returns-clause-activities c = rw (← c.self.view_is) (sym (activity_order c.self.inside.activities.items) ∙ c.self.invariant.activities)
 
 pub returns-clause-attributes : goal.returns-clause-attributes
 returns-clause-attributes c = rw (← c.self.view_is) c.self.invariant.attributes
