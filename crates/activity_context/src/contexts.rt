@@ -7,10 +7,11 @@ ghost use Rattle.activity_context.specs.Faults.{fault_of, start_fault, active_fa
 ghost use Rattle.activity_context.specs.Views.{HasRoom, activity_before, parts_of_link, parts_of_name, parts_of_attribute};
 
 use crate::activities::Activities;
-use crate::{AcFault, attributes, links, names};
-use slee_state::{AcKind, Activity, Attribute, Link, Named};
+use crate::names::Names;
+use crate::{AcFault, attributes, links};
+use slee_state::{AcKind, Activity, Attribute, Link};
 use slee_value::{ActivityId, EntityId, Name, NoMemory, Text, Value};
-use sorted_rows::{cut_row, cut_rows_of, put_row, row_of, rows_of};
+use sorted_rows::{cut_rows_of, row_of, rows_of};
 use std::alloc::Global;
 use std::marker::Model;
 
@@ -20,7 +21,7 @@ pub struct Contexts {
     activities: Activities,
     attributes: Vec<Attribute>,
     links: Vec<Link>,
-    names: Vec<Named>,
+    names: Names,
     next: u64,
 }
 
@@ -49,7 +50,7 @@ impl Contexts {
             activities: Activities::new(alloc),
             attributes: Vec::new(alloc),
             links: Vec::new(alloc),
-            names: Vec::new(alloc),
+            names: Names::new(alloc),
             next: 1,
         }
     }
@@ -64,6 +65,7 @@ impl Contexts {
     {
         let _next = self.next;
         self.activities.ordered();
+        self.names.rows();
     }
 
     /// Makes room for so many more rows in each list.
@@ -78,7 +80,7 @@ impl Contexts {
         self.activities.reserve(rows)?;
         self.attributes.reserve(rows as usize)?;
         self.links.reserve(rows as usize)?;
-        self.names.reserve(rows as usize)?;
+        self.names.reserve(rows)?;
         Ok(())
     }
 
@@ -142,7 +144,7 @@ impl Contexts {
         self.activities.cut(activity);
         cut_rows_of(&mut self.attributes, activity.0);
         cut_rows_of(&mut self.links, activity.0);
-        names::cut_names_of(&mut self.names, activity);
+        self.names.cut_of(activity);
     }
 
     /// The entity is attached to the activity. Answers whether it wasn't.
@@ -182,7 +184,7 @@ impl Contexts {
     {
         match self.activities.fault_of_use(activity) {
             Some(fault) => Some(fault),
-            None => match names::activity_named(&self.names, name) {
+            None => match self.names.activity_named(name) {
                 Some(to) => Some(AcFault::Bound { to }),
                 None => None,
             },
@@ -200,7 +202,7 @@ impl Contexts {
         match self.fault_of_bind(&name, activity) {
             Some(fault) => Err(fault),
             None => {
-                put_row(&mut self.names, Named { name, activity });
+                self.names.put(name, activity);
                 Ok(())
             }
         }
@@ -213,9 +215,9 @@ impl Contexts {
         ensures room { self.old.rooms.names ≤ self.new.rooms.names }
         ensures kept { OnErr result (self.new ≡ self.old) }
     {
-        match names::activity_named(&self.names, name) {
+        match self.names.activity_named(name) {
             Some(_) => {
-                cut_row(&mut self.names, 0, 0, name.as_bytes());
+                self.names.cut(name);
                 Ok(())
             }
             None => Err(AcFault::Unbound),
@@ -247,7 +249,7 @@ impl Contexts {
         ensures restored { self.new ≡ record self.old { names = with_name self.old.names name activity.0; rooms = record self.old.rooms { names = self.new.rooms.names } } }
         ensures room { self.old.rooms.names ≤ self.new.rooms.names + 1 }
     {
-        put_row(&mut self.names, Named { name, activity });
+        self.names.put(name, activity);
     }
 
     /// The number that the next activity has.
@@ -300,7 +302,7 @@ impl Contexts {
     pub fn names_len(&self) -> u64
         ensures { result ≡ length self.now.names }
     {
-        self.names.len() as u64
+        self.names.rows().len() as u64
     }
 
     /// The name at this place, with its activity; they rise in byte order.
@@ -308,7 +310,7 @@ impl Contexts {
         requires { place < length self.now.names }
         ensures { option_map parts_of_name (slice_get self.now.names place) ≡ Some (result.0.now, result.1) }
     {
-        let row = &self.names[place as usize];
+        let row = &self.names.rows()[place as usize];
         (&row.name, row.activity)
     }
 
@@ -349,7 +351,7 @@ impl Contexts {
     pub fn named(&self, name: &Text) -> Option<ActivityId>
         ensures { result ≡ named_at self.now.names name.now }
     {
-        names::activity_named(&self.names, name)
+        self.names.activity_named(name)
     }
 
     /// The value of an attribute that was set.

@@ -1,8 +1,6 @@
-//! An index of rows that are found by texts: the number that a text is made into, and the places of rows, which move as rows come and go.
+//! An index by texts: the number that a text is made into, under which rows are found.
 #![tactic(auto)]
 
 mod number;
-mod places;
 
 pub use number::number_of;
-pub use places::{close_place, open_place};

@@ -8,6 +8,3 @@ returns-clause-attributes c = rw (← c.self.view_is) c.self.invariant.attribute
 
 pub returns-clause-links : goal.returns-clause-links
 returns-clause-links c = rw (← c.self.view_is) (sym (link_order c.self.inside.links.items) ∙ c.self.invariant.links)
-
-pub returns-clause-names : goal.returns-clause-names
-returns-clause-names c = rw (← c.self.view_is) c.self.invariant.names

@@ -1,7 +1,0 @@
--- the entries before this one are done, and the others stand as they were
-use Rattle.std.proofs.Common.{◌≡◌, ◌++◌, map, take, drop}
-use Rattle.text_index.specs.Placed.{closed}
-use Rattle.text_index.proofs.places.move_all_near.Given as goal
-
-abbrev pub invariant-loop-entry : goal.invariant-loop-entry
-invariant-loop-entry l = l.entries ≡ map (closed l.place) (take l.entry-index l.fn.entries) ++ drop l.entry-index l.fn.entries
