@@ -8,6 +8,7 @@ use Rattle.std.proofs.lemmas.Bool.Decides.{nat_tests}
 use Rattle.std.proofs.lemmas.List.Sums.{sum_by-cons}
 use Rattle.slee_state.specs.Orders.{put}
 use Rattle.sorted_rows.specs.Keys.{Key, is_key, key_before, Rises}
+use Rattle.sorted_rows.proofs.HalvingLemmas.{PlacesBy}
 use Rattle.sorted_rows.proofs.OrderLemmas.{AllInOrder, IsBefore, all_from_all, in_order, filter_rises, put_rises}
 use Rattle.row_index.proofs.FoundLemmas.{lower_number, none_at}
 use Rattle.row_index.proofs.IndexLemmas.{sum_put}
@@ -41,8 +42,16 @@ sum_cut R q once g found (x ∷ xs) order is = elim (cases_Bool (q x)) [
 abbrev pub share : (ℕ → ℕ) → Tally → ℕ
 share f t = t.count * f t.key
 
-once : (k : ℕ) (x y : Tally) → IsBefore tally_key x y → (x.key == k) ≡ true → (y.key == k) ≡ false
+pub once : (k : ℕ) (x y : Tally) → IsBefore tally_key x y → (x.key == k) ≡ true → (y.key == k) ≡ false
 once k x y before mine = grind (arith, nat_tests)
+
+-- where the tally of a key stands
+pub tally_places : (k : ℕ) → PlacesBy (IsBefore tally_key) (λ t. nat_lt t.key k) (λ t. t.key == k)
+tally_places k = record {
+  before = λ x low. grind (arith, nat_tests, low);
+  later = λ x y before high. grind (arith, nat_tests, before, high);
+  once = once k;
+}
 
 found_key : (k : ℕ) (found : Tally) (ts : List Tally) → find (λ t. t.key == k) ts ≡ Some found → found.key ≡ k
 found_key k found [] is = cc
@@ -97,16 +106,15 @@ share_more f k ts rises =
     let old = share_apart f k ts rises in
     omega (arith, new, old)
 
--- how many stand under a key, of rows
-pub count_is : {Row : Type 0} (keys : Row → List ℕ) (k : ℕ) (rows : List Row) (ts : List Tally) → IsTally keys rows ts → count_at ts k ≡ sum_by (λ row. sum_by (λ n. cond (n == k) 1 0) (keys row)) rows
-count_is keys k rows ts tally =
+-- how many stand under a key, as a sum
+pub count_is_sum : (k : ℕ) (ts : List Tally) → Rises tally_key ts → count_at ts k ≡ sum_by (share (λ n. cond (n == k) 1 0)) ts
+count_is_sum k ts rises =
     let f = λ (n : ℕ). cond (n == k) 1 0 in
     let own : f k ≡ 1 = let mine : (k == k) ≡ true = grind (arith, nat_tests) in rw mine refl in
-    let apart = share_apart f k ts tally.rises in
+    let apart = share_apart f k ts rises in
     let rest = none_of ts in
     let one : count_at ts k * f k ≡ count_at ts k = ap (λ n. count_at ts k * n) own ∙ (omega arith) in
-    let is = tally.same f in
-    omega (arith, apart, rest, one, is)
+    omega (arith, apart, rest, one)
   where
     none_of : (ts : List Tally) → sum_by (share (λ n. cond (n == k) 1 0)) (without_key k ts) ≡ 0
     none_of [] = refl
@@ -118,6 +126,10 @@ count_is keys k rows ts tally =
           let rest = none_of ts in
           rw other (omega (arith, step, nothing, rest))
     ]
+
+-- how many stand under a key, of rows
+pub count_is : {Row : Type 0} (keys : Row → List ℕ) (k : ℕ) (rows : List Row) (ts : List Tally) → IsTally keys rows ts → count_at ts k ≡ sum_by (λ row. sum_by (λ n. cond (n == k) 1 0) (keys row)) rows
+count_is keys k rows ts tally = count_is_sum k ts tally.rises ∙ tally.same (λ n. cond (n == k) 1 0)
 
 pub share_less : (f : ℕ → ℕ) (k : ℕ) (ts : List Tally) → Rises tally_key ts → 0 < count_at ts k → f k + sum_by (share f) (one_less k ts) ≡ sum_by (share f) ts
 share_less f k ts rises some = elim (cases_Bool (nat_lt 1 (count_at ts k))) [

@@ -17,3 +17,7 @@ number_from n (byte ∷ text) = number_from ((n + byte + 1) * factor % limit) te
 -- the number of a text
 abbrev pub number_of : List ℕ → ℕ
 number_of text = number_from 0 text * factor % limit
+
+-- the number of a text behind another number
+abbrev pub number_with : ℕ → List ℕ → ℕ
+number_with before text = number_from (before % limit) text * factor % limit

@@ -3,4 +3,4 @@
 
 mod number;
 
-pub use number::number_of;
+pub use number::{number_of, number_with};
