@@ -8,6 +8,11 @@ use Rattle.slee_state.specs.declared.rows.Activity.{Activity}
 use Rattle.sorted_rows.specs.Keys.{activity_key, number_key, Rises}
 use Rattle.sorted_rows.proofs.OrderLemmas.{AllInOrder, IsBefore, all_from_all, in_order}
 use Rattle.sorted_rows.proofs.HalvingLemmas.{absent_from}
+use Rattle.sorted_rows.proofs.NumberLemmas.{rises_map}
+use Rattle.row_index.specs.declared.entry.Entry.{Entry}
+use Rattle.row_index.specs.Index.{IsIndex}
+use Rattle.row_index.proofs.IndexLemmas.{index_map}
+use Rattle.activity_context.specs.Indexed.{name_entry}
 
 none_ends : (a : ℕ) (rows : List Activity) → AllByRecursion (λ row. (row.number.0 == a) ≡ false) rows → map (ends a) rows ≡ rows
 none_ends a [] all = refl
@@ -47,5 +52,19 @@ one_ends a k rows d rises is =
 pub number_stays : (a : ℕ) (x : Activity) → (ends a x).number.0 ≡ x.number.0
 number_stays a x = elim (cases_Bool (x.number.0 == a)) [ inl mine ↦ rw mine refl | inr other ↦ rw other refl ]
 
-pub key_stays : (a : ℕ) (x : Activity) → activity_key (ends a x) ≡ activity_key x
+key_stays : (a : ℕ) (x : Activity) → activity_key (ends a x) ≡ activity_key x
 key_stays a x = ap number_key (number_stays a x)
+
+entry_stays : (a : ℕ) (x : Activity) → name_entry (ends a x) ≡ name_entry x
+entry_stays a x = elim (cases_Bool (x.number.0 == a)) [ inl mine ↦ rw mine refl | inr other ↦ rw other refl ]
+
+each_stays : (a : ℕ) (rows : List Activity) → AllByRecursion (λ row. name_entry (ends a row) ≡ name_entry row) rows
+each_stays a [] = tt
+each_stays a (x ∷ xs) = (entry_stays a x, each_stays a xs)
+
+pub end_rises : (a : ℕ) (rows : List Activity) → Rises activity_key rows → Rises activity_key (map (ends a) rows)
+end_rises a rows rises = rises_map activity_key (ends a) (key_stays a) rows rises
+
+-- the activities keep their entries
+pub end_stays_indexed : (a : ℕ) (rows : List Activity) (entries : List Entry) → IsIndex name_entry rows entries → IsIndex name_entry (map (ends a) rows) entries
+end_stays_indexed a rows entries index = index_map name_entry (ends a) rows entries index (each_stays a rows)

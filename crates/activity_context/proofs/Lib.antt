@@ -1,2 +1,4 @@
 pub mod EndLemmas
 pub mod LinkLemmas
+pub mod NameLemmas
+pub mod NamedLemmas

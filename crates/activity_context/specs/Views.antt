@@ -24,6 +24,16 @@ pub record ContextsView : Type 0 where
   pub next : ℕ
   pub rooms : Rooms
 
+-- the activities alone, and for how many there is room
+pub record ActivitiesView : Type 0 where
+  pub activities : List Activity
+  pub room : ℕ
+
+-- the names alone, and for how many there is room
+pub record NamesView : Type 0 where
+  pub names : List Named
+  pub room : ℕ
+
 -- there is room for so many rows in each list
 pub record HasRoom (n : ℕ) (rooms : Rooms) : Type 0 where
   pub activities : n ≤ rooms.activities

@@ -1,137 +1,193 @@
-//! Rows of activities.
-ghost use Rattle.std.specs.Prelude.{ℕ, ◌≡◌, ◌+◌, ◌-◌, ◌<◌, ◌≤◌, IsTrue, map, vec_capacity, vec_len, option_copied};
+//! Activities that rise by number, of which an external one is found by its name; clauses see them as a list, with the room.
+ghost use Rattle.std.specs.Prelude.{ℕ, ◌≡◌, ◌+◌, ◌<◌, ◌≤◌, [], None, IsTrue, OnOk, option_copied};
 ghost use Rattle.slee_state.specs.Orders.{put};
-ghost use Rattle.slee_state.specs.Ordered.{are_below};
-ghost use Rattle.slee_state.specs.Contexts.{activity_at, ends, external, has_name, with_activity, with_end, without_activity};
-ghost use Rattle.sorted_rows.specs.Keys.{activity_key, Rises};
+ghost use Rattle.slee_state.specs.Ordered.{are_below, rises_in};
+ghost use Rattle.slee_state.specs.Contexts.{activity_at, external, with_activity, with_end, without_activity};
 ghost use Rattle.activity_context.specs.Faults.{start_fault, active_fault};
 ghost use Rattle.activity_context.specs.Views.{activity_before};
 
 use crate::AcFault;
+use crate::externals::{external_among, name_entry, name_number};
+use row_index::Entry;
 use slee_state::{AcKind, Activity};
-use slee_value::{ActivityId, Name};
-use sorted_rows::{cut_rows_of, first_row_of, place_of_first, put_row};
+use slee_value::{ActivityId, Name, NoMemory};
+use sorted_rows::{cut_row, cut_rows_of, first_row_of, place_of_first, put_row, rows_of};
+use std::alloc::Global;
+use std::marker::Model;
+use text_index::number_of;
 
-fn has_name(kind: &AcKind, name: &Name) -> bool
-    ensures { result ≡ has_name kind.now name.now }
-{
-    match kind {
-        AcKind::External(own) => own.as_bytes() == name.as_bytes(),
-        _ => false,
-    }
+/// Activities by number, with their numbers by the number of their name.
+#[derive(Drop)]
+pub struct Activities {
+    rows: Vec<Activity>,
+    by_name: Vec<Entry>,
 }
 
-/// The external activity of this name. All activities are looked at.
-pub fn external_in<'a>(rows: &'a [Activity], name: &Name) -> Option<&'a Activity>
-    ensures { option_copied result ≡ external rows.now name.now }
-{
-    for row in rows {
-        if has_name(&row.kind, name) {
-            return Some(row);
+impl Model for Activities {
+    ghost use Rattle.activity_context.specs.Views.{ActivitiesView};
+
+    ghost Value = { ActivitiesView };
+
+    ghost use Rattle.activity_context.specs.Indexed.{rows_seen, AreIndexed};
+
+    ghost view = { rows_seen };
+
+    ghost invariant = { AreIndexed };
+}
+
+impl Activities {
+    /// No activities.
+    pub fn new(alloc: Global) -> Self
+        ensures { result.activities ≡ [] }
+    {
+        Activities {
+            rows: Vec::new(alloc),
+            by_name: Vec::new(alloc),
         }
     }
-    None
-}
 
-/// Why no activity of this kind can start, if none can.
-pub fn fault_of_start(rows: &[Activity], kind: &AcKind) -> Option<AcFault>
-    ensures { result ≡ start_fault rows.now kind.now }
-{
-    match kind {
-        AcKind::External(name) => {
-            if external_in(rows, name).is_some() {
-                Some(AcFault::Exists)
-            } else {
-                None
+    /// Passes on that the activities rise.
+    pub fn ordered(&self)
+        ensures { IsTrue (rises_in (λ row. row.number.0) self.now.activities) }
+    {
+        let _count = self.rows.len();
+    }
+
+    /// The activities, by number.
+    pub fn rows(&self) -> &[Activity]
+        ensures { result.now ≡ self.now.activities }
+    {
+        &self.rows
+    }
+
+    /// Makes room for so many more activities.
+    pub fn reserve(&mut self, rows: u64) -> Result<(), NoMemory>
+        ensures activities { self.new.activities ≡ self.old.activities }
+        ensures room { OnOk result (rows ≤ self.new.room) }
+        ensures grown { self.old.room ≤ self.new.room }
+    {
+        self.rows.reserve(rows as usize)?;
+        self.by_name.reserve(rows as usize)?;
+        Ok(())
+    }
+
+    /// The activity of this number.
+    pub fn find(&self, activity: ActivityId) -> Option<&Activity>
+        ensures { option_copied result ≡ activity_at self.now.activities activity.0 }
+    {
+        first_row_of(&self.rows, activity.0)
+    }
+
+    /// The external activity of this name.
+    pub fn external(&self, name: &Name) -> Option<&Activity>
+        ensures { option_copied result ≡ external self.now.activities name.now }
+    {
+        let run = rows_of(&self.by_name, number_of(name.as_bytes()));
+        external_among(&self.rows, run, name)
+    }
+
+    /// Why no activity of this kind can start, if none can.
+    pub fn fault_of_start(&self, kind: &AcKind) -> Option<AcFault>
+        ensures { result ≡ start_fault self.now.activities kind.now }
+    {
+        match kind {
+            AcKind::External(name) => {
+                if self.external(name).is_some() {
+                    Some(AcFault::Exists)
+                } else {
+                    None
+                }
             }
+            _ => None,
         }
-        _ => None,
     }
-}
 
-/// The activity of this number.
-pub fn activity_in(rows: &[Activity], activity: ActivityId) -> Option<&Activity>
-    requires { Rises activity_key rows.now }
-    ensures { option_copied result ≡ activity_at rows.now activity.0 }
-{
-    first_row_of(rows, activity.0)
-}
-
-/// Why the activity can't be used, if it can't.
-pub fn fault_of_use(rows: &[Activity], activity: ActivityId) -> Option<AcFault>
-    requires { Rises activity_key rows.now }
-    ensures { result ≡ active_fault rows.now activity.0 }
-{
-    match activity_in(rows, activity) {
-        Some(row) => {
-            if row.ending {
-                Some(AcFault::Ending)
-            } else {
-                None
+    /// Why the activity can't be used, if it can't.
+    pub fn fault_of_use(&self, activity: ActivityId) -> Option<AcFault>
+        ensures { result ≡ active_fault self.now.activities activity.0 }
+    {
+        match self.find(activity) {
+            Some(row) => {
+                if row.ending {
+                    Some(AcFault::Ending)
+                } else {
+                    None
+                }
             }
+            None => Some(AcFault::Unknown),
         }
-        None => Some(AcFault::Unknown),
     }
-}
 
-/// A new activity goes behind the others.
-pub fn push_activity(rows: &mut Vec<Activity>, number: u64, kind: AcKind)
-    requires rises { Rises activity_key rows.old.items }
-    requires below { IsTrue (are_below (λ row. row.number.0) number rows.old.items) }
-    requires room { vec_len rows.old < vec_capacity rows.old }
-    ensures items { rows.new.items ≡ with_activity rows.old.items number kind }
-    ensures rises { Rises activity_key rows.new.items }
-    ensures below { IsTrue (are_below (λ row. row.number.0) (number + 1) rows.new.items) }
-    ensures room { vec_capacity rows.old - vec_len rows.old ≤ vec_capacity rows.new - vec_len rows.new + 1 }
-{
-    rows.push_reserved(Activity {
-        number: ActivityId(number),
-        kind,
-        ending: false,
-    });
-}
-
-/// The activity stands in its place. Another one of its number gives way.
-pub fn put_activity(rows: &mut Vec<Activity>, activity: Activity)
-    requires rises { Rises activity_key rows.old.items }
-    requires room { vec_len rows.old < vec_capacity rows.old }
-    ensures items { rows.new.items ≡ put activity_before activity rows.old.items }
-    ensures rises { Rises activity_key rows.new.items }
-    ensures below { (n : ℕ) → activity.number.0 < n → IsTrue (are_below (λ row. row.number.0) n rows.old.items) → IsTrue (are_below (λ row. row.number.0) n rows.new.items) }
-    ensures room { vec_capacity rows.old - vec_len rows.old ≤ vec_capacity rows.new - vec_len rows.new + 1 }
-{
-    put_row(rows, activity);
-}
-
-/// The activity is gone.
-pub fn cut_activity(rows: &mut Vec<Activity>, activity: ActivityId)
-    requires { Rises activity_key rows.old.items }
-    ensures items { rows.new.items ≡ without_activity rows.old.items activity.0 }
-    ensures rises { Rises activity_key rows.new.items }
-    ensures below { (n : ℕ) → IsTrue (are_below (λ row. row.number.0) n rows.old.items) → IsTrue (are_below (λ row. row.number.0) n rows.new.items) }
-    ensures room { vec_capacity rows.old - vec_len rows.old ≤ vec_capacity rows.new - vec_len rows.new }
-{
-    cut_rows_of(rows, activity.0);
-}
-
-fn end_at_place(rows: &mut Vec<Activity>, activity: ActivityId)
-    requires { Rises activity_key rows.old.items }
-    ensures items { rows.new.items ≡ map (ends activity.0) rows.old.items }
-    ensures room { vec_capacity rows.old - vec_len rows.old ≤ vec_capacity rows.new - vec_len rows.new }
-{
-    match place_of_first(rows, activity.0) {
-        Some(place) => rows[place].ending = true,
-        None => {}
+    /// A new activity goes behind the others.
+    pub fn push(&mut self, number: u64, kind: AcKind)
+        requires below { IsTrue (are_below (λ row. row.number.0) number self.old.activities) }
+        requires room { 0 < self.old.room }
+        ensures activities { self.new.activities ≡ with_activity self.old.activities number kind }
+        ensures below { IsTrue (are_below (λ row. row.number.0) (number + 1) self.new.activities) }
+        ensures room { self.old.room ≤ self.new.room + 1 }
+    {
+        let activity = Activity {
+            number: ActivityId(number),
+            kind,
+            ending: false,
+        };
+        put_row(&mut self.by_name, name_entry(&activity));
+        self.rows.push_reserved(activity);
     }
-}
 
-/// The activity is Ending.
-pub fn end_activity(rows: &mut Vec<Activity>, activity: ActivityId)
-    requires { Rises activity_key rows.old.items }
-    ensures items { rows.new.items ≡ with_end rows.old.items activity.0 }
-    ensures rises { Rises activity_key rows.new.items }
-    ensures below { (n : ℕ) → IsTrue (are_below (λ row. row.number.0) n rows.old.items) → IsTrue (are_below (λ row. row.number.0) n rows.new.items) }
-    ensures room { vec_capacity rows.old - vec_len rows.old ≤ vec_capacity rows.new - vec_len rows.new }
-{
-    end_at_place(rows, activity);
+    fn add(&mut self, activity: Activity)
+        requires room { 0 < self.old.room }
+        requires absent { activity_at self.old.activities activity.number.0 ≡ None }
+        ensures activities { self.new.activities ≡ put activity_before activity self.old.activities }
+        ensures room { self.old.room ≤ self.new.room + 1 }
+    {
+        put_row(&mut self.by_name, name_entry(&activity));
+        put_row(&mut self.rows, activity);
+    }
+
+    /// The activity stands in its place. Another one of its number gives way.
+    pub fn put(&mut self, activity: Activity)
+        requires room { 0 < self.old.room }
+        ensures activities { self.new.activities ≡ put activity_before activity self.old.activities }
+        ensures below { (n : ℕ) → activity.number.0 < n → IsTrue (are_below (λ row. row.number.0) n self.old.activities) → IsTrue (are_below (λ row. row.number.0) n self.new.activities) }
+        ensures room { self.old.room ≤ self.new.room + 1 }
+    {
+        self.cut(activity.number);
+        self.add(activity);
+    }
+
+    /// The activity is gone.
+    pub fn cut(&mut self, activity: ActivityId)
+        ensures activities { self.new.activities ≡ without_activity self.old.activities activity.0 }
+        ensures below { (n : ℕ) → IsTrue (are_below (λ row. row.number.0) n self.old.activities) → IsTrue (are_below (λ row. row.number.0) n self.new.activities) }
+        ensures room { self.old.room ≤ self.new.room }
+    {
+        match first_row_of(&self.rows, activity.0) {
+            Some(row) => {
+                let name = name_number(&row.kind);
+                cut_row(&mut self.by_name, name, activity.0, &[]);
+                cut_rows_of(&mut self.rows, activity.0);
+            }
+            None => {}
+        }
+    }
+
+    fn end_at_place(&mut self, activity: ActivityId)
+        ensures activities { self.new.activities ≡ with_end self.old.activities activity.0 }
+        ensures room { self.old.room ≤ self.new.room }
+    {
+        match place_of_first(&self.rows, activity.0) {
+            Some(place) => self.rows[place].ending = true,
+            None => {}
+        }
+    }
+
+    /// The activity is Ending.
+    pub fn end(&mut self, activity: ActivityId)
+        ensures activities { self.new.activities ≡ with_end self.old.activities activity.0 }
+        ensures below { (n : ℕ) → IsTrue (are_below (λ row. row.number.0) n self.old.activities) → IsTrue (are_below (λ row. row.number.0) n self.new.activities) }
+        ensures room { self.old.room ≤ self.new.room }
+    {
+        self.end_at_place(activity);
+    }
 }

@@ -6,20 +6,22 @@ ghost use Rattle.slee_state.specs.Contexts.{activity_at, external, with_activity
 ghost use Rattle.activity_context.specs.Faults.{fault_of, start_fault, active_fault, bind_fault, unbind_fault};
 ghost use Rattle.activity_context.specs.Views.{HasRoom, activity_before, parts_of_link, parts_of_name, parts_of_attribute};
 
-use crate::{AcFault, activities, attributes, links, names};
-use slee_state::{AcKind, Activity, Attribute, Link, Named};
+use crate::activities::Activities;
+use crate::names::Names;
+use crate::{AcFault, attributes, links};
+use slee_state::{AcKind, Activity, Attribute, Link};
 use slee_value::{ActivityId, EntityId, Name, NoMemory, Text, Value};
-use sorted_rows::{cut_row, cut_rows_of, put_row, row_of, rows_of};
+use sorted_rows::{cut_rows_of, row_of, rows_of};
 use std::alloc::Global;
 use std::marker::Model;
 
 /// Activities with their attributes, attachments and names; each activity has a number that is drawn once.
 #[derive(Drop)]
 pub struct Contexts {
-    activities: Vec<Activity>,
+    activities: Activities,
     attributes: Vec<Attribute>,
     links: Vec<Link>,
-    names: Vec<Named>,
+    names: Names,
     next: u64,
 }
 
@@ -45,10 +47,10 @@ impl Contexts {
         ensures next { result.next ≡ 1 }
     {
         Contexts {
-            activities: Vec::new(alloc),
+            activities: Activities::new(alloc),
             attributes: Vec::new(alloc),
             links: Vec::new(alloc),
-            names: Vec::new(alloc),
+            names: Names::new(alloc),
             next: 1,
         }
     }
@@ -62,6 +64,8 @@ impl Contexts {
         ensures names { IsTrue (rises_by name_before self.now.names) }
     {
         let _next = self.next;
+        self.activities.ordered();
+        self.names.rows();
     }
 
     /// Makes room for so many more rows in each list.
@@ -73,10 +77,10 @@ impl Contexts {
         ensures links { self.old.rooms.links ≤ self.new.rooms.links }
         ensures names { self.old.rooms.names ≤ self.new.rooms.names }
     {
-        self.activities.reserve(rows as usize)?;
+        self.activities.reserve(rows)?;
         self.attributes.reserve(rows as usize)?;
         self.links.reserve(rows as usize)?;
-        self.names.reserve(rows as usize)?;
+        self.names.reserve(rows)?;
         Ok(())
     }
 
@@ -88,7 +92,7 @@ impl Contexts {
         ensures room { self.old.rooms.activities ≤ self.new.rooms.activities + 1 }
     {
         let number = self.next;
-        activities::push_activity(&mut self.activities, number, kind);
+        self.activities.push(number, kind);
         self.next += 1;
         ActivityId(number)
     }
@@ -103,7 +107,7 @@ impl Contexts {
         ensures room { OnOk result (self.old.rooms.activities ≤ self.new.rooms.activities + 1) }
         ensures kept { OnErr result (self.new ≡ self.old) }
     {
-        match activities::fault_of_start(&self.activities, &kind) {
+        match self.activities.fault_of_start(&kind) {
             Some(fault) => Err(fault),
             None => Ok(self.add_activity(kind)),
         }
@@ -116,10 +120,10 @@ impl Contexts {
         ensures room { self.old.rooms.activities ≤ self.new.rooms.activities }
         ensures kept { OnErr result (self.new ≡ self.old) }
     {
-        match activities::fault_of_use(&self.activities, activity) {
+        match self.activities.fault_of_use(activity) {
             Some(fault) => Err(fault),
             None => {
-                activities::end_activity(&mut self.activities, activity);
+                self.activities.end(activity);
                 Ok(())
             }
         }
@@ -137,10 +141,10 @@ impl Contexts {
         ensures link_room { self.old.rooms.links ≤ self.new.rooms.links }
         ensures name_room { self.old.rooms.names ≤ self.new.rooms.names }
     {
-        activities::cut_activity(&mut self.activities, activity);
+        self.activities.cut(activity);
         cut_rows_of(&mut self.attributes, activity.0);
         cut_rows_of(&mut self.links, activity.0);
-        names::cut_names_of(&mut self.names, activity);
+        self.names.cut_of(activity);
     }
 
     /// The entity is attached to the activity. Answers whether it wasn't.
@@ -178,9 +182,9 @@ impl Contexts {
     fn fault_of_bind(&self, name: &Text, activity: ActivityId) -> Option<AcFault>
         ensures { result ≡ bind_fault self.now.activities self.now.names name.now activity.0 }
     {
-        match activities::fault_of_use(&self.activities, activity) {
+        match self.activities.fault_of_use(activity) {
             Some(fault) => Some(fault),
-            None => match names::activity_named(&self.names, name) {
+            None => match self.names.activity_named(name) {
                 Some(to) => Some(AcFault::Bound { to }),
                 None => None,
             },
@@ -198,7 +202,7 @@ impl Contexts {
         match self.fault_of_bind(&name, activity) {
             Some(fault) => Err(fault),
             None => {
-                put_row(&mut self.names, Named { name, activity });
+                self.names.put(name, activity);
                 Ok(())
             }
         }
@@ -211,9 +215,9 @@ impl Contexts {
         ensures room { self.old.rooms.names ≤ self.new.rooms.names }
         ensures kept { OnErr result (self.new ≡ self.old) }
     {
-        match names::activity_named(&self.names, name) {
+        match self.names.activity_named(name) {
             Some(_) => {
-                cut_row(&mut self.names, 0, 0, name.as_bytes());
+                self.names.cut(name);
                 Ok(())
             }
             None => Err(AcFault::Unbound),
@@ -227,7 +231,7 @@ impl Contexts {
         ensures restored { self.new ≡ record self.old { activities = put activity_before activity self.old.activities; rooms = record self.old.rooms { activities = self.new.rooms.activities } } }
         ensures room { self.old.rooms.activities ≤ self.new.rooms.activities + 1 }
     {
-        activities::put_activity(&mut self.activities, activity);
+        self.activities.put(activity);
     }
 
     /// Puts an attachment back.
@@ -245,7 +249,7 @@ impl Contexts {
         ensures restored { self.new ≡ record self.old { names = with_name self.old.names name activity.0; rooms = record self.old.rooms { names = self.new.rooms.names } } }
         ensures room { self.old.rooms.names ≤ self.new.rooms.names + 1 }
     {
-        put_row(&mut self.names, Named { name, activity });
+        self.names.put(name, activity);
     }
 
     /// The number that the next activity has.
@@ -267,7 +271,7 @@ impl Contexts {
     pub fn len(&self) -> u64
         ensures { result ≡ length self.now.activities }
     {
-        self.activities.len() as u64
+        self.activities.rows().len() as u64
     }
 
     /// The activity at this place; they rise by number.
@@ -275,7 +279,7 @@ impl Contexts {
         requires { place < length self.now.activities }
         ensures { slice_get self.now.activities place ≡ Some result.now }
     {
-        &self.activities[place as usize]
+        &self.activities.rows()[place as usize]
     }
 
     /// How many attachments there are.
@@ -298,7 +302,7 @@ impl Contexts {
     pub fn names_len(&self) -> u64
         ensures { result ≡ length self.now.names }
     {
-        self.names.len() as u64
+        self.names.rows().len() as u64
     }
 
     /// The name at this place, with its activity; they rise in byte order.
@@ -306,7 +310,7 @@ impl Contexts {
         requires { place < length self.now.names }
         ensures { option_map parts_of_name (slice_get self.now.names place) ≡ Some (result.0.now, result.1) }
     {
-        let row = &self.names[place as usize];
+        let row = &self.names.rows()[place as usize];
         (&row.name, row.activity)
     }
 
@@ -330,14 +334,14 @@ impl Contexts {
     pub fn find(&self, activity: ActivityId) -> Option<&Activity>
         ensures { option_copied result ≡ activity_at self.now.activities activity.0 }
     {
-        activities::activity_in(&self.activities, activity)
+        self.activities.find(activity)
     }
 
-    /// The external activity of this name. All activities are looked at.
+    /// The external activity of this name.
     pub fn external(&self, name: &Name) -> Option<ActivityId>
         ensures { result ≡ option_map (λ row. row.number) (external self.now.activities name.now) }
     {
-        match activities::external_in(&self.activities, name) {
+        match self.activities.external(name) {
             Some(row) => Some(row.number),
             None => None,
         }
@@ -347,7 +351,7 @@ impl Contexts {
     pub fn named(&self, name: &Text) -> Option<ActivityId>
         ensures { result ≡ named_at self.now.names name.now }
     {
-        names::activity_named(&self.names, name)
+        self.names.activity_named(name)
     }
 
     /// The value of an attribute that was set.

@@ -4,6 +4,7 @@
 mod activities;
 mod attributes;
 mod contexts;
+mod externals;
 mod fault;
 mod links;
 mod names;

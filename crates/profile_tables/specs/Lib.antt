@@ -1,2 +1,4 @@
 pub mod Views
 pub mod Faults
+pub mod Unique
+pub mod Kept

@@ -3,54 +3,41 @@ ghost use Rattle.std.specs.Prelude.{◌≡◌, ◌+◌, ◌<◌, ◌≤◌, ◌|
 ghost use Rattle.slee_state.specs.Orders.{rises_by};
 ghost use Rattle.slee_state.specs.Fitting.{has_row};
 ghost use Rattle.slee_state.specs.Profiles.{is_row, row_at, row_before, with_row, without_row};
-ghost use Rattle.profile_tables.specs.Faults.{fault_of, fault_of_add, fault_of_asking, fault_of_update, fault_of_values};
+ghost use Rattle.std.specs.List.{position_from};
+ghost use Rattle.profile_tables.specs.Faults.{fault_of, fault_of_add, fault_of_asking, fault_of_update, fault_of_values, is_rival};
 
+use crate::counted::{count_row, reserve_counts, uncount_old};
 use crate::fitting::are_declared;
-use crate::rivals::place_of_rival;
+use crate::rivals::{may_have_rival, place_of_rival};
+use crate::table_spec::{most_of, unique_of};
 use crate::{RowFault, TableSpec};
+use row_tally::Tally;
 use slee_state::ProfileRow;
 use slee_value::{NoMemory, Payload, Text};
 use sorted_rows::{cut_row, put_row, row_of};
 use std::alloc::Global;
 use std::marker::Model;
 
-/// The rows of all profile tables.
+/// The rows of all profile tables, counted by their unique values. There are places for so many rows among the counts.
 #[derive(Debug, Drop)]
 pub struct Profiles {
     tables: Vec<TableSpec>,
     rows: Vec<ProfileRow>,
+    by_value: Vec<Tally>,
+    most: u64,
+    places: u64,
 }
 
 impl Model for Profiles {
-    ghost use Rattle.std.specs.Prelude.{vec_capacity, vec_len, ◌-◌, IsTrue};
-    ghost use Rattle.slee_state.specs.Profiles.{row_before};
-    ghost use Rattle.slee_state.specs.Orders.{rises_by};
     ghost use Rattle.profile_tables.specs.Views.{ProfilesView};
 
     ghost Value = { ProfilesView };
 
-    ghost view = { λ t. record { tables = t.tables.items; rows = t.rows.items; room = vec_capacity t.rows - vec_len t.rows } };
+    ghost use Rattle.profile_tables.specs.Kept.{seen, IsKept};
 
-    ghost invariant = { λ t. IsTrue (rises_by row_before t.rows.items) };
-}
+    ghost view = { seen };
 
-/// Why the values aren't those of a row of the table, if they aren't.
-fn fault_of_values(
-    spec: &TableSpec,
-    rows: &[ProfileRow],
-    table: u32,
-    row: &Text,
-    fields: &Payload,
-) -> Option<RowFault>
-    ensures { result ≡ fault_of_values spec.now rows.now (record { table = table; row = row.now; attributes = fields.now }) }
-{
-    if !are_declared(spec.attributes.as_slice(), fields.as_slice()) {
-        return Some(RowFault::BadAttribute);
-    }
-    match place_of_rival(rows, spec.unique.as_slice(), table, row, fields) {
-        Some(place) => Some(RowFault::Duplicate { place }),
-        None => None,
-    }
+    ghost invariant = { IsKept };
 }
 
 /// A fault as an answer.
@@ -69,9 +56,13 @@ impl Profiles {
         ensures tables { result.tables ≡ tables.items }
         ensures rows { result.rows ≡ [] }
     {
+        let most = most_of(&tables);
         Profiles {
             tables,
             rows: Vec::new(alloc),
+            by_value: Vec::new(alloc),
+            most,
+            places: 0,
         }
     }
 
@@ -82,7 +73,13 @@ impl Profiles {
         ensures room { OnOk result (rows ≤ self.new.room) }
         ensures grown { self.old.room ≤ self.new.room }
     {
+        let places = match (self.rows.len() as u64).checked_add(rows) {
+            Some(places) => places,
+            None => return Err(NoMemory),
+        };
+        reserve_counts(&mut self.by_value, self.most, places)?;
         self.rows.reserve(rows as usize)?;
+        self.places = self.places.max(places);
         Ok(())
     }
 
@@ -107,6 +104,52 @@ impl Profiles {
         }
     }
 
+    /// Where the first other row stands that has one of the unique values. Rows are looked at only where one may have.
+    fn place_of_rival(
+        &self,
+        spec: &TableSpec,
+        table: u32,
+        row: &Text,
+        fields: &Payload,
+    ) -> Option<u64>
+        requires { slice_get self.now.tables table ≡ Some spec.now }
+        ensures { result ≡ position_from (is_rival spec.now.unique (record { table = table; row = row.now; attributes = fields.now })) 0 self.now.rows }
+    {
+        let unique = spec.unique.as_slice();
+        if may_have_rival(
+            &self.by_value,
+            &self.rows,
+            unique,
+            table,
+            row,
+            fields.as_slice(),
+        ) {
+            place_of_rival(&self.rows, unique, table, row, fields)
+        } else {
+            None
+        }
+    }
+
+    /// Why the values aren't those of a row of the table, if they aren't.
+    fn fault_of_values(
+        &self,
+        spec: &TableSpec,
+        table: u32,
+        row: &Text,
+        fields: &Payload,
+    ) -> Option<RowFault>
+        requires { slice_get self.now.tables table ≡ Some spec.now }
+        ensures { result ≡ fault_of_values spec.now self.now.rows (record { table = table; row = row.now; attributes = fields.now }) }
+    {
+        if !are_declared(spec.attributes.as_slice(), fields.as_slice()) {
+            return Some(RowFault::BadAttribute);
+        }
+        match self.place_of_rival(spec, table, row, fields) {
+            Some(place) => Some(RowFault::Duplicate { place }),
+            None => None,
+        }
+    }
+
     fn fault_of_asking(&self, table: u32, row: &Text) -> Option<RowFault>
         ensures { result ≡ fault_of_asking self.now.tables self.now.rows table row.now }
     {
@@ -128,7 +171,7 @@ impl Profiles {
             Some(spec) => if self.has_row(table, row) {
                 Some(RowFault::RowExists)
             } else {
-                fault_of_values(spec, &self.rows, table, row, fields)
+                self.fault_of_values(spec, table, row, fields)
             },
         }
     }
@@ -139,7 +182,7 @@ impl Profiles {
         match self.spec_of(table) {
             None => Some(RowFault::NoTable),
             Some(spec) => if self.has_row(table, row) {
-                fault_of_values(spec, &self.rows, table, row, fields)
+                self.fault_of_values(spec, table, row, fields)
             } else {
                 Some(RowFault::NoRow)
             },
@@ -161,7 +204,6 @@ impl Profiles {
     }
 
     /// The row stands in its place. Another one of its name gives way.
-    #[tactic(auto, using(crate::proofs::RowLemmas::any_row))]
     fn put(&mut self, item: ProfileRow)
         requires { IsTrue (has_row self.old.rows item.table item.row || nat_lt 0 self.old.room) }
         ensures tables { self.new.tables ≡ self.old.tables }
@@ -169,6 +211,20 @@ impl Profiles {
         ensures room { self.old.room ≤ self.new.room + 1 }
         ensures replaced { IsTrue (has_row self.old.rows item.table item.row) → self.old.room ≤ self.new.room }
     {
+        uncount_old(
+            &mut self.by_value,
+            &self.tables,
+            &self.rows,
+            item.table,
+            &item.row,
+        );
+        let unique = unique_of(&self.tables, item.table);
+        count_row(
+            &mut self.by_value,
+            unique,
+            item.table,
+            item.attributes.as_slice(),
+        );
         put_row(&mut self.rows, item);
     }
 
@@ -216,6 +272,15 @@ impl Profiles {
         }
     }
 
+    fn cut(&mut self, table: u32, row: &Text)
+        ensures tables { self.new.tables ≡ self.old.tables }
+        ensures rows { self.new.rows ≡ without_row self.old.rows table row.now }
+        ensures room { self.old.room ≤ self.new.room }
+    {
+        uncount_old(&mut self.by_value, &self.tables, &self.rows, table, row);
+        cut_row(&mut self.rows, table as u64, 0, row.as_bytes());
+    }
+
     /// The row is gone.
     pub fn remove(&mut self, table: u32, row: &Text) -> Result<(), RowFault>
         ensures fault { fault_of result ≡ fault_of_asking self.old.tables self.old.rows table row.now }
@@ -227,7 +292,7 @@ impl Profiles {
         match self.fault_of_asking(table, row) {
             Some(fault) => Err(fault),
             None => {
-                cut_row(&mut self.rows, table as u64, 0, row.as_bytes());
+                self.cut(table, row);
                 Ok(())
             }
         }

@@ -25,7 +25,8 @@ fn is_same_value(one: &Value, other: &Value) -> bool
     }
 }
 
-fn value_of<'a>(fields: &'a [(Name, Value)], name: &Name) -> Option<&'a Value>
+/// The value of this name.
+pub fn value_of<'a>(fields: &'a [(Name, Value)], name: &Name) -> Option<&'a Value>
     ensures { option_copied result ≡ value_of fields.now name.now }
 {
     for (other, value) in fields {

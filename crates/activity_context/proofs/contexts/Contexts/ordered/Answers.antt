@@ -1,16 +1,10 @@
 -- as they are kept
 use Rattle.std.proofs.Common.{sym, ◌∙◌}
-use Rattle.sorted_rows.proofs.AgreeLemmas.{activity_order, link_order}
+use Rattle.sorted_rows.proofs.AgreeLemmas.{link_order}
 use Rattle.activity_context.proofs.contexts.Contexts.ordered.Goals as goal
-
-pub returns-clause-activities : goal.returns-clause-activities
-returns-clause-activities c = rw (← c.self.view_is) (sym (activity_order c.self.inside.activities.items) ∙ c.self.invariant.activities)
 
 pub returns-clause-attributes : goal.returns-clause-attributes
 returns-clause-attributes c = rw (← c.self.view_is) c.self.invariant.attributes
 
 pub returns-clause-links : goal.returns-clause-links
 returns-clause-links c = rw (← c.self.view_is) (sym (link_order c.self.inside.links.items) ∙ c.self.invariant.links)
-
-pub returns-clause-names : goal.returns-clause-names
-returns-clause-names c = rw (← c.self.view_is) c.self.invariant.names

@@ -1,0 +1,19 @@
+-- the activity comes with its entry
+use Rattle.std.proofs.Common.{refl, ◌∙◌}
+use Rattle.slee_state.specs.declared.rows.Activity.{Activity}
+use Rattle.sorted_rows.proofs.AgreeLemmas.{activity_put}
+use Rattle.sorted_rows.specs.Keys.{activity_key}
+use Rattle.row_index.proofs.RowLemmas.{indexed_put}
+use Rattle.activity_context.specs.Indexed.{name_number}
+use Rattle.activity_context.proofs.activities.Activities.add.Goals as goal
+
+pub invariant_of-self : goal.invariant_of-self
+invariant_of-self c =
+    let absent = rw (← c.self.view_is) at c.requires.absent in
+    record {
+      rises = c.put_row-2.ensures.rises;
+      names = rw (c.put_row.ensures.items, c.name_entry.ensures) (indexed_put (λ (row : Activity). row.number.0) (λ (row : Activity). name_number row.kind) activity_key (λ x. refl) c.args.activity c.self.inside.rows.items _ c.self.inside.by_name.items c.self.invariant.rises c.self.invariant.names absent c.put_row-2.ensures.items);
+    }
+
+pub returns-clause-activities : goal.returns-clause-activities
+returns-clause-activities c = rw (← c.self.view_is) (c.put_row-2.ensures.items ∙ activity_put c.args.activity c.self.inside.rows.items)

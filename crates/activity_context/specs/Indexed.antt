@@ -1,0 +1,38 @@
+-- How activities are kept with an index of external names.
+use Rattle.std.specs.Prelude.{ℕ, ◌-◌, min, vec_capacity, vec_len}
+use Rattle.slee_state.specs.declared.rows.AcKind.{AcKind}
+use Rattle.slee_state.specs.declared.rows.AcKind.TheVariants as kinds
+use Rattle.slee_state.specs.declared.rows.Activity.{Activity}
+use Rattle.sorted_rows.specs.Keys.{activity_key, Rises}
+use Rattle.row_index.specs.Index.{IsIndex}
+use Rattle.row_index.specs.declared.entry.Entry.{Entry}
+use Rattle.text_index.specs.Numbers.{number_of}
+use Rattle.activity_context.specs.Views.{ActivitiesView}
+use Rattle.activity_context.specs.declared.activities.Activities.TheInside.{Inside}
+
+-- above the numbers of all names: here stand the activities that have none
+abbrev pub nameless : ℕ
+nameless = 18446744073709551615
+
+-- the number of an activity's name
+abbrev pub name_number : AcKind → ℕ
+name_number (kinds.External name) = number_of name
+name_number kinds.Null = nameless
+name_number (kinds.Service service) = nameless
+name_number (kinds.Table table) = nameless
+
+-- an activity under the number of its name
+abbrev pub name_entry : Activity → Entry
+name_entry row = record { key = name_number row.kind; number = row.number.0 }
+
+-- the activities, with the room beside both lists
+abbrev pub rows_seen : Inside → ActivitiesView
+rows_seen s = record {
+  activities = s.rows.items;
+  room = min (vec_capacity s.rows - vec_len s.rows) (vec_capacity s.by_name - vec_len s.by_name);
+}
+
+-- the activities rise, and the index has them all
+pub record AreIndexed (s : Inside) : Type 0 where
+  pub rises : Rises activity_key s.rows.items
+  pub names : IsIndex name_entry s.rows.items s.by_name.items
