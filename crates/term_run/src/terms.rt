@@ -5,15 +5,16 @@ ghost use Rattle.handler_meaning.specs.Values.{int, flag};
 ghost use Rattle.script_types.specs.ProgramOf.{term_of, ask_of, compare_of, combine_of};
 ghost use Rattle.script_types.specs.declared.term.Question.TheVariants as q;
 ghost use Rattle.script_machine.specs.Agreeing.{Agrees, AgreesAs, EndsFinding};
-ghost use Rattle.script_machine.specs.Kinds.{NoInt, is_arithmetic, is_of_numbers};
+ghost use Rattle.script_machine.specs.Kinds.{NoInt, NoFlag, is_arithmetic, is_of_numbers};
 ghost use Rattle.script_machine.specs.Settings.{setting_of};
 ghost use Rattle.term_run.specs.Links.{linked, chained, asked, compared};
 
-use crate::atoms::{single, single_length, single_number};
+use crate::atoms::{single, single_flag, single_length, single_number};
 use crate::chains::spend;
 use crate::questions::ask;
 use script_machine::{
-    Machine, Scene, Stop, int_within, is_arithmetic, is_decided, is_of_numbers, text_of,
+    Machine, Scene, Stop, flag_within, int_within, is_arithmetic, is_decided, is_of_numbers,
+    text_of,
 };
 use script_types::{Joint, Question, Term, Test};
 use slee_effect::Val;
@@ -41,7 +42,11 @@ pub fn eval(machine: &mut Machine, scene: &Scene, term: &Term) -> Result<Val, St
 
 /// The number that a term gives, if it gives one.
 #[cycle(terms)]
-pub fn eval_number(machine: &mut Machine, scene: &Scene, term: &Term) -> Result<Option<i64>, Stop>
+pub(crate) fn eval_number(
+    machine: &mut Machine,
+    scene: &Scene,
+    term: &Term,
+) -> Result<Option<i64>, Stop>
     ensures finds { EndsFinding int NoInt (eval (setting_of scene.now) (term_of term.now) machine.old) machine.new result }
     ensures spent { machine.new.left ≤ machine.old.left }
 {
@@ -56,6 +61,24 @@ pub fn eval_number(machine: &mut Machine, scene: &Scene, term: &Term) -> Result<
             Ok(None)
         }
         Term::Chain(first, more) => number_in_chain(machine, scene, first, more),
+    }
+}
+
+/// The truth value that a term gives, if it gives one.
+pub fn eval_truth(machine: &mut Machine, scene: &Scene, term: &Term) -> Result<Option<bool>, Stop>
+    ensures finds { EndsFinding flag NoFlag (eval (setting_of scene.now) (term_of term.now) machine.old) machine.new result }
+    ensures spent { machine.new.left ≤ machine.old.left }
+{
+    match term {
+        Term::Single(atom) => {
+            machine.tick()?;
+            single_flag(machine, scene, atom)
+        }
+        Term::Compare(parts) => Ok(Some(eval_compared(machine, scene, parts)?)),
+        Term::Ask(_) | Term::Chain(_, _) => {
+            let x = eval(machine, scene, term)?;
+            Ok(flag_within(&x))
+        }
     }
 }
 
@@ -114,7 +137,7 @@ fn eval_length(machine: &mut Machine, scene: &Scene, term: &Term) -> Result<i64,
 
 /// What a comparison of two terms gives.
 #[cycle(terms)]
-pub fn eval_compared(
+fn eval_compared(
     machine: &mut Machine,
     scene: &Scene,
     parts: &(Test, Term, Term),
