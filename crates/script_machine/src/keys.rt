@@ -1,5 +1,5 @@
 //! Keys: whether one is that which is asked for, whether one was observed, and the answer that was kept for one.
-ghost use Rattle.std.specs.Prelude.{◌≡◌, bytes_eq};
+ghost use Rattle.std.specs.Prelude.{◌≡◌};
 ghost use Rattle.std.specs.List.{list_any};
 ghost use Rattle.std.specs.Option.{option_copied};
 ghost use Rattle.handler_meaning.specs.Seeing.{same_key};
@@ -38,7 +38,12 @@ pub(crate) fn is_asked(one: &Key, asked: &Asked) -> bool
 pub(crate) fn has_key(keys: &[Key], asked: &Asked) -> bool
     ensures { result ≡ list_any (same_key (key_asked asked.now)) keys.now }
 {
-    keys.iter().any(|key| is_asked(key, asked))
+    for key in keys {
+        if is_asked(key, asked) {
+            return true;
+        }
+    }
+    false
 }
 
 /// The answer that was kept for the key that is asked for.

@@ -1,15 +1,16 @@
 //! Terms without parts.
 ghost use Rattle.std.specs.Prelude.{◌≡◌, ◌≤◌, slice_get};
 ghost use Rattle.std.specs.Option.{option_copied};
-ghost use Rattle.handler_meaning.specs.Values.{int, flag};
+ghost use Rattle.handler_meaning.specs.Values.{int, flag, apply};
 ghost use Rattle.handler_meaning.specs.Terms.{single, ask, or_initial, field_at};
 ghost use Rattle.script_types.specs.declared.term.Atom.TheVariants as a;
+ghost use Rattle.script_types.specs.declared.term.Joint.TheVariants as j;
 ghost use Rattle.script_types.specs.declared.term.Question.TheVariants as q;
 ghost use Rattle.script_machine.specs.Agreeing.{Agrees, AgreesAs, EndsFinding};
 ghost use Rattle.script_machine.specs.Kinds.{NoInt, NoFlag};
 ghost use Rattle.script_machine.specs.Settings.{setting_of};
 ghost use Rattle.script_reading.specs.Lending.{value_lent};
-ghost use Rattle.term_run.specs.Links.{measured};
+ghost use Rattle.term_run.specs.Links.{measured, applied};
 
 use script_machine::{Machine, Scene, Stop, flag_in, flag_within, int_in, int_within, text_of};
 use script_reading::{Lent, children, field, field_flag, field_number, now, priority};
@@ -157,6 +158,49 @@ pub(crate) fn single_length(machine: &mut Machine, scene: &Scene, atom: &Atom) -
         _ => {
             let x = single(machine, scene, atom)?;
             length_in(machine, scene, &x)
+        }
+    }
+}
+
+/// Two values as one text, which are to be texts.
+#[tactic(auto, using(script_machine::proofs::KindLemmas::no_text_stays))]
+pub(crate) fn join(machine: &Machine, scene: &Scene, x: Lent, y: Lent) -> Result<Val, Stop>
+    ensures { Agrees (apply j.Join (value_lent x.entry) (value_lent y.entry)) machine.now machine.now result }
+{
+    let Some(m) = x.text() else {
+        return Err(Stop::Unchecked);
+    };
+    let Some(n) = y.text() else {
+        return Err(Stop::Unchecked);
+    };
+    let whole = machine.joined(scene.alloc, m, n)?;
+    Ok(Val::Plain(Value::Text(whole)))
+}
+
+/// A text with that behind it which the variable in this place holds.
+fn join_slot(machine: &Machine, scene: &Scene, x: Lent, place: usize) -> Result<Val, Stop>
+    ensures { Agrees (applied j.Join (value_lent x.entry) (single (setting_of scene.now) (a.Slot place))) machine.now machine.now result }
+{
+    let y = machine.variable_value(place)?;
+    join(machine, scene, x, Lent::Set(y))
+}
+
+/// A text with that behind it which a term without parts gives.
+pub(crate) fn join_single(
+    machine: &mut Machine,
+    scene: &Scene,
+    x: Lent,
+    atom: &Atom,
+) -> Result<Val, Stop>
+    ensures agrees { Agrees (applied j.Join (value_lent x.entry) (single (setting_of scene.now) atom.now)) machine.old machine.new result }
+    ensures spent { machine.new.left ≤ machine.old.left }
+{
+    match atom {
+        Atom::Constant(value) => join(machine, scene, x, Lent::Held(value)),
+        Atom::Slot(place) => join_slot(machine, scene, x, *place),
+        _ => {
+            let y = single(machine, scene, atom)?;
+            join(machine, scene, x, Lent::Set(&y))
         }
     }
 }
