@@ -1,5 +1,5 @@
 //! Fields and attributes, with effects done to them.
-ghost use Rattle.std.specs.Prelude.{◌≡◌, ◌≤◌, ◌++◌, option_map};
+ghost use Rattle.std.specs.Prelude.{◌≡◌, ◌≤◌, ◌++◌, option_map, None};
 ghost use Rattle.handler_meaning.specs.Overlay.{field_after, attr_after, overlay, entities_by, activities_by};
 ghost use Rattle.std.specs.Option.{option_copied};
 ghost use Rattle.handler_meaning.specs.Answers.{fit, held_in};
@@ -11,7 +11,7 @@ ghost use Rattle.script_machine.specs.Agreeing.{Agrees, EndsFinding};
 ghost use Rattle.script_machine.specs.Asking.{key_asked};
 ghost use Rattle.script_machine.specs.Kinds.{NoInt, NoFlag};
 ghost use Rattle.script_machine.specs.Settings.{setting_of};
-ghost use Rattle.script_reading.specs.Done.{done};
+ghost use Rattle.script_reading.specs.Done.{done, field_set, attribute_set};
 ghost use Rattle.script_reading.specs.Lending.{value_lent};
 
 use crate::values::Lent;
@@ -20,11 +20,11 @@ use script_machine::{Asked, Machine, Scene, Stop, is_same_ref};
 use slee_effect::{Effect, Ref, Val};
 use slee_value::{ActivityId, EntityId, Kind, Name, Text};
 
-/// The last value that effects give to a field, or the first one.
-fn field_over<'a>(entity: Ref, name: &Name, effects: &'a [Effect], first: Lent<'a>) -> Lent<'a>
-    ensures { value_lent result ≡ done (field_after entity name.now 0) effects.now (value_lent first.entry) }
+/// The last value that effects give to a field, if they give it one.
+fn last_set_field<'a>(entity: Ref, name: &Name, effects: &'a [Effect]) -> Option<&'a Val>
+    ensures { option_copied result ≡ done (field_set entity name.now) effects.now None }
 {
-    let mut current = first;
+    let mut last = None;
     for effect in effects {
         if let Effect::SetField {
             entity: other,
@@ -33,18 +33,18 @@ fn field_over<'a>(entity: Ref, name: &Name, effects: &'a [Effect], first: Lent<'
         } = effect
         {
             if is_same_ref(*other, entity) && field.as_bytes() == name.as_bytes() {
-                current = Lent::Set(value);
+                last = Some(value);
             }
         }
     }
-    current
+    last
 }
 
-/// The last value that effects give to an attribute, or the first one.
-fn attribute_over<'a>(activity: Ref, key: &Text, effects: &'a [Effect], first: Lent<'a>) -> Lent<'a>
-    ensures { value_lent result ≡ done (attr_after activity key.now 0) effects.now (value_lent first.entry) }
+/// The last value that effects give to an attribute, if they give it one.
+fn last_set_attribute<'a>(activity: Ref, key: &Text, effects: &'a [Effect]) -> Option<&'a Val>
+    ensures { option_copied result ≡ done (attribute_set activity key.now) effects.now None }
 {
-    let mut current = first;
+    let mut last = None;
     for effect in effects {
         if let Effect::SetAttr {
             activity: other,
@@ -53,11 +53,11 @@ fn attribute_over<'a>(activity: Ref, key: &Text, effects: &'a [Effect], first: L
         } = effect
         {
             if is_same_ref(*other, activity) && attribute.as_bytes() == key.as_bytes() {
-                current = Lent::Set(value);
+                last = Some(value);
             }
         }
     }
-    current
+    last
 }
 
 fn field_key(entity: Ref, name: &Name) -> Option<Asked>
@@ -79,7 +79,7 @@ fn attribute_key(activity: Ref, key: &Text) -> Option<Asked>
 }
 
 /// The last value that the effects of the transaction give to a field, or that of the answer.
-#[tactic(auto, using(crate::proofs::OverlayLemmas::field_laid))]
+#[tactic(auto, using(crate::proofs::OverlayLemmas::field_read))]
 fn lend_field<'a, 's: 'a>(
     machine: &'a Machine,
     scene: &Scene<'s>,
@@ -89,8 +89,13 @@ fn lend_field<'a, 's: 'a>(
 ) -> Lent<'a>
     ensures { value_lent result ≡ fit kind (overlay entities_by (field_after scene.now.me name.now) (scene.now.effects.now ++ machine.now.effects) (held_in kind (option_copied seen.entry))) }
 {
-    let before = field_over(scene.me, name, scene.effects, Lent::held_in(kind, seen));
-    field_over(scene.me, name, machine.effects(), before).fit(kind)
+    if let Some(value) = last_set_field(scene.me, name, machine.effects()) {
+        return Lent::Set(value).fit(kind);
+    }
+    if let Some(value) = last_set_field(scene.me, name, scene.effects) {
+        return Lent::Set(value).fit(kind);
+    }
+    Lent::held_in(kind, seen).fit(kind)
 }
 
 /// The entity's field of this name, of the type that the script has there.
@@ -134,7 +139,7 @@ pub fn field_flag(
 }
 
 /// The last value that the effects of the transaction give to an attribute, or that of the answer.
-#[tactic(auto, using(crate::proofs::OverlayLemmas::attribute_laid))]
+#[tactic(auto, using(crate::proofs::OverlayLemmas::attribute_read))]
 fn lend_attribute<'a, 's: 'a>(
     machine: &'a Machine,
     scene: &Scene<'s>,
@@ -145,8 +150,13 @@ fn lend_attribute<'a, 's: 'a>(
 ) -> Lent<'a>
     ensures { value_lent result ≡ fit kind (overlay activities_by (attr_after activity key.now) (scene.now.effects.now ++ machine.now.effects) (held_in kind (option_copied seen.entry))) }
 {
-    let before = attribute_over(activity, key, scene.effects, Lent::held_in(kind, seen));
-    attribute_over(activity, key, machine.effects(), before).fit(kind)
+    if let Some(value) = last_set_attribute(activity, key, machine.effects()) {
+        return Lent::Set(value).fit(kind);
+    }
+    if let Some(value) = last_set_attribute(activity, key, scene.effects) {
+        return Lent::Set(value).fit(kind);
+    }
+    Lent::held_in(kind, seen).fit(kind)
 }
 
 /// The activity's attribute of this key, of the type that the script has there.
