@@ -6,9 +6,9 @@ ghost use Rattle.script_machine.specs.Agreeing.{Agrees};
 ghost use Rattle.script_machine.specs.Settings.{setting_of};
 ghost use Rattle.block_run.specs.Loops.{flag_in};
 
-use script_machine::{Machine, Scene, Stop, flag_of};
+use script_machine::{Machine, Scene, Stop};
 use script_types::Term;
-use term_run::{eval, eval_compared};
+use term_run::eval_truth;
 
 /// What a term gives that is a truth value.
 #[tactic(auto, using(script_machine::proofs::KindLemmas::no_flag_stays))]
@@ -16,11 +16,8 @@ pub(crate) fn eval_flag(machine: &mut Machine, scene: &Scene, term: &Term) -> Re
     ensures agrees { Agrees (flag_in (eval (setting_of scene.now) (term_of term.now))) machine.old machine.new result }
     ensures spent { machine.new.left ≤ machine.old.left }
 {
-    match term {
-        Term::Compare(parts) => eval_compared(machine, scene, parts),
-        _ => {
-            let x = eval(machine, scene, term)?;
-            flag_of(&x)
-        }
+    match eval_truth(machine, scene, term)? {
+        Some(flag) => Ok(flag),
+        None => Err(Stop::Unchecked),
     }
 }

@@ -1,3 +1,4 @@
+pub mod KeyLemmas
 pub mod KindLemmas
 pub mod NumberLemmas
 pub mod VariableLemmas

@@ -1,5 +1,5 @@
 -- What a function of the machine answers: what the meaning of that part of a script says, from the state before to the state behind it.
-use Rattle.std.specs.Prelude.{◌≡◌, Option, Some, None, Result, Ok, Err}
+use Rattle.std.specs.Prelude.{◌≡◌, Option, Some, None, Result, Ok, Err, box_value}
 use Rattle.handler_meaning.specs.declared.outcome.FailKind.TheVariants as f
 use Rattle.handler_meaning.specs.Running.{State, Ending, Gave, Broke, Needs, Stays, Run, word_of}
 use Rattle.slee_effect.specs.declared.value.Val.{Val}
@@ -10,8 +10,8 @@ use Rattle.script_machine.specs.declared.stop.Stop.TheVariants as stop
 abbrev pub Stops : {A : Type 0} → Ending A → State → Stop → Type 0
 Stops ending new stop.NoMemory = Unit {0}
 Stops ending new (stop.Broken kind) = ending ≡ Broke kind (word_of kind) new
-Stops ending new (stop.Thrown text) = ending ≡ Broke f.Thrown text new
-Stops ending new (stop.Need key) = ending ≡ Needs key
+Stops ending new (stop.Thrown text) = ending ≡ Broke f.Thrown (box_value text) new
+Stops ending new (stop.Need key) = ending ≡ Needs (box_value key)
 Stops ending new stop.Unchecked = ending ≡ Stays
 
 abbrev pub Ends : {A : Type 0} → Ending A → State → Result A Stop → Type 0

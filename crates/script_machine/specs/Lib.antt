@@ -2,3 +2,4 @@ pub mod Variables
 pub mod Settings
 pub mod Agreeing
 pub mod Kinds
+pub mod Asking

@@ -1,49 +1,57 @@
-//! Keys: whether two are the same, whether one was observed, and the answer that was kept for one.
+//! Keys: whether one is that which is asked for, whether one was observed, and the answer that was kept for one.
 ghost use Rattle.std.specs.Prelude.{◌≡◌};
 ghost use Rattle.std.specs.List.{list_any};
 ghost use Rattle.std.specs.Option.{option_copied};
 ghost use Rattle.handler_meaning.specs.Seeing.{same_key};
 ghost use Rattle.handler_meaning.specs.Answers.{kept};
+ghost use Rattle.script_machine.specs.Asking.{key_asked};
 
+use crate::Asked;
 use handler_meaning::{Key, Seen};
 
-/// Whether two keys are the same.
-pub fn is_same_key(one: &Key, other: &Key) -> bool
-    ensures { result ≡ same_key one.now other.now }
+/// Whether a key is that which is asked for.
+#[tactic(auto, using(crate::proofs::KeyLemmas::names_turned, crate::proofs::KeyLemmas::numbers_turned))]
+pub(crate) fn is_asked(one: &Key, asked: &Asked) -> bool
+    ensures is { result ≡ same_key one.now (key_asked asked.now) }
+    ensures turned { result ≡ same_key (key_asked asked.now) one.now }
 {
-    match (one, other) {
-        (Key::Next(a), Key::Next(b)) => a.0 == b.0,
-        (Key::Field(e, x), Key::Field(f, y)) => e.0 == f.0 && x.as_bytes() == y.as_bytes(),
-        (Key::Children(e, x), Key::Children(f, y)) => e.0 == f.0 && x.as_bytes() == y.as_bytes(),
-        (Key::Priority(e), Key::Priority(f)) => e.0 == f.0,
-        (Key::AcState(a), Key::AcState(b)) => a.0 == b.0,
-        (Key::Attr(a, x), Key::Attr(b, y)) => a.0 == b.0 && x.as_bytes() == y.as_bytes(),
-        (Key::Attached(e, a), Key::Attached(f, b)) => e.0 == f.0 && a.0 == b.0,
-        (Key::Mask(e, a), Key::Mask(f, b)) => e.0 == f.0 && a.0 == b.0,
-        (Key::Named(x), Key::Named(y)) => x.as_bytes() == y.as_bytes(),
-        (Key::Timer(t), Key::Timer(u)) => t.0 == u.0,
-        (Key::Profile(t, x), Key::Profile(u, y)) => {
+    match (one, asked) {
+        (Key::Field(e, x), Asked::Field(f, y)) => e.0 == f.0 && x.as_bytes() == y.as_bytes(),
+        (Key::Children(e, x), Asked::Children(f, y)) => e.0 == f.0 && x.as_bytes() == y.as_bytes(),
+        (Key::Priority(e), Asked::Priority(f)) => e.0 == f.0,
+        (Key::AcState(a), Asked::AcState(b)) => a.0 == b.0,
+        (Key::Attr(a, x), Asked::Attr(b, y)) => a.0 == b.0 && x.as_bytes() == y.as_bytes(),
+        (Key::Attached(e, a), Asked::Attached(f, b)) => e.0 == f.0 && a.0 == b.0,
+        (Key::Mask(e, a), Asked::Mask(f, b)) => e.0 == f.0 && a.0 == b.0,
+        (Key::Named(x), Asked::Named(y)) => x.as_bytes() == y.as_bytes(),
+        (Key::Timer(t), Asked::Timer(u)) => t.0 == u.0,
+        (Key::Profile(t, x), Asked::Profile(u, y)) => {
             t.as_bytes() == u.as_bytes() && x.as_bytes() == y.as_bytes()
         }
-        (Key::Now, Key::Now) => true,
-        (Key::Activities(e), Key::Activities(f)) => e.0 == f.0,
+        (Key::Now, Asked::Now) => true,
+        (Key::Activities(e), Asked::Activities(f)) => e.0 == f.0,
         _ => false,
     }
 }
 
-/// Whether the key is one of these.
-pub(crate) fn has_key(keys: &[Key], key: &Key) -> bool
-    ensures { result ≡ list_any (same_key key.now) keys.now }
+/// Whether one of these keys is that which is asked for.
+pub(crate) fn has_key(keys: &[Key], asked: &Asked) -> bool
+    ensures { result ≡ list_any (same_key (key_asked asked.now)) keys.now }
 {
-    keys.iter().any(|other| is_same_key(key, other))
+    for key in keys {
+        if is_asked(key, asked) {
+            return true;
+        }
+    }
+    false
 }
 
-/// The answer that was kept for a key.
-pub fn kept_answer<'a>(known: &'a [(Key, Seen)], key: &Key) -> Option<&'a Seen>
-    ensures { option_copied result ≡ kept known.now key.now }
+/// The answer that was kept for the key that is asked for.
+pub(crate) fn kept_answer<'a>(known: &'a [(Key, Seen)], asked: &Asked) -> Option<&'a Seen>
+    ensures { option_copied result ≡ kept known.now (key_asked asked.now) }
 {
-    for (other, seen) in known {
-        if is_same_key(other, key) {
+    for (key, seen) in known {
+        if is_asked(key, asked) {
             return Some(seen);
         }
     }

@@ -27,6 +27,46 @@ pub fn int_within(value: &Val) -> Option<i64>
     }
 }
 
+/// The text in a value, if it is one.
+pub fn text_in(value: &Value) -> Option<&str>
+    ensures { Finds (λ t. text t.now) NoText (Plain value.now) result }
+{
+    match value {
+        Value::Text(text) => Some(text.as_str()),
+        Value::Int(_) | Value::Bool(_) | Value::Activity(_) | Value::Timer(_) => None,
+    }
+}
+
+/// The text in a value of a run, if it is one.
+pub fn text_within(value: &Val) -> Option<&str>
+    ensures { Finds (λ t. text t.now) NoText value.now result }
+{
+    match value {
+        Val::Plain(value) => text_in(value),
+        Val::NewActivity(_) | Val::NewTimer(_) => None,
+    }
+}
+
+/// The truth value in a value, if it is one.
+pub fn flag_in(value: &Value) -> Option<bool>
+    ensures { Finds flag NoFlag (Plain value.now) result }
+{
+    match value {
+        Value::Bool(flag) => Some(*flag),
+        Value::Int(_) | Value::Text(_) | Value::Activity(_) | Value::Timer(_) => None,
+    }
+}
+
+/// The truth value in a value of a run, if it is one.
+pub fn flag_within(value: &Val) -> Option<bool>
+    ensures { Finds flag NoFlag value.now result }
+{
+    match value {
+        Val::Plain(value) => flag_in(value),
+        Val::NewActivity(_) | Val::NewTimer(_) => None,
+    }
+}
+
 /// The number that a value is.
 pub fn int_of(value: &Val) -> Result<i64, Stop>
     ensures { Reads int NoInt value.now result }

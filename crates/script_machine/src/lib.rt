@@ -2,6 +2,7 @@
 #![tactic(auto)]
 
 mod arithmetic;
+mod asked;
 mod comparing;
 mod effect_bytes;
 mod effects;
@@ -18,11 +19,14 @@ mod variable;
 mod variables;
 
 pub use arithmetic::is_arithmetic;
+pub use asked::Asked;
 pub use comparing::{is_decided, is_of_numbers, is_same_ref};
 pub use effects::{EFFECT_BYTES_LIMIT, EFFECT_LIMIT};
 pub use frames::Finished;
-pub use keys::{is_same_key, kept_answer};
-pub use kinds::{activity_of, flag_of, int_in, int_of, int_within, text_of, timer_of};
+pub use kinds::{
+    activity_of, flag_in, flag_of, flag_within, int_in, int_of, int_within, text_in, text_of,
+    text_within, timer_of,
+};
 pub use machine::{Machine, UNIT_LIMIT};
 pub use observing::KEY_LIMIT;
 pub use scene::Scene;

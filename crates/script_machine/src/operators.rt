@@ -41,7 +41,7 @@ impl Machine {
         match joint {
             Joint::Add | Joint::Subtract | Joint::Multiply | Joint::Divide | Joint::Remainder =>
                 self.calculate_values(joint, x, y),
-            Joint::Join => self.joined(alloc, x, y),
+            Joint::Join => self.joined_values(alloc, x, y),
             Joint::Both | Joint::Either => self.right_flag(x, y),
         }
     }

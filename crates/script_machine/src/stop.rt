@@ -6,16 +6,16 @@ use handler_meaning::{FailKind, Key};
 use slee_value::{NoMemory, Text};
 use std::alloc::{AllocError, AllocFailed};
 
-/// Why a run stops before its end.
+/// Why a run stops before its end. What is large stands behind a pointer, since each step hands one on or a value.
 #[derive(Debug, Drop)]
 pub enum Stop {
     NoMemory,
     /// A failure whose text is its kind's word.
     Broken(FailKind),
     /// A failure with a text of its own.
-    Thrown(Text),
+    Thrown(Box<Text>),
     /// Nothing is known of this key.
-    Need(Key),
+    Need(Box<Key>),
     /// No checked script comes here.
     Unchecked,
 }

@@ -1,9 +1,9 @@
 //! Texts that scripts make.
 ghost use Rattle.std.specs.Prelude.{◌≡◌, pos, length, IfOk};
 ghost use Rattle.std.specs.Fmt.{signed_decimal};
-ghost use Rattle.handler_meaning.specs.Values.{two_texts, joined, text_of_int, text_of_bool, with_text, int};
+ghost use Rattle.handler_meaning.specs.Values.{two_texts, joined, text_of_int, text_of_bool, with_text, int, text};
 ghost use Rattle.handler_meaning.specs.Running.{give};
-ghost use Rattle.script_machine.specs.Agreeing.{Agrees};
+ghost use Rattle.script_machine.specs.Agreeing.{Agrees, AgreesAs};
 
 use crate::kinds::{flag_of, int_of, text_of};
 use crate::{Machine, Stop};
@@ -23,19 +23,27 @@ fn decimal(alloc: Global, n: i64) -> Result<Text, NoMemory>
 
 impl Machine {
     /// Two texts as one.
-    #[tactic(auto, using(crate::proofs::KindLemmas::no_text_stays))]
-    pub(crate) fn joined(&self, alloc: Global, x: &Val, y: &Val) -> Result<Val, Stop>
-        ensures { Agrees (two_texts joined x.now y.now) self.now self.now result }
+    pub fn joined(&self, alloc: Global, m: &str, n: &str) -> Result<Text, Stop>
+        ensures { AgreesAs text (joined m.now n.now) self.now self.now result }
     {
-        let m = text_of(x)?;
-        let n = text_of(y)?;
         if m.len() > TEXT_LIMIT || n.len() > TEXT_LIMIT - m.len() {
             return Err(Stop::Broken(FailKind::TooLong));
         }
         let mut whole = String::with_capacity(alloc, m.len() + n.len())?;
-        whole.push_str(m.as_str())?;
-        whole.push_str(n.as_str())?;
-        Ok(Val::Plain(Value::Text(Text::from(whole))))
+        whole.push_str(m)?;
+        whole.push_str(n)?;
+        Ok(Text::from(whole))
+    }
+
+    /// Two values as one text, which are to be texts.
+    #[tactic(auto, using(crate::proofs::KindLemmas::no_text_stays))]
+    pub(crate) fn joined_values(&self, alloc: Global, x: &Val, y: &Val) -> Result<Val, Stop>
+        ensures { Agrees (two_texts joined x.now y.now) self.now self.now result }
+    {
+        let m = text_of(x)?;
+        let n = text_of(y)?;
+        let whole = self.joined(alloc, m.as_str(), n.as_str())?;
+        Ok(Val::Plain(Value::Text(whole)))
     }
 
     /// A number as text.

@@ -1,11 +1,12 @@
 -- Effects done in order, where it doesn't matter how many things were made before.
-use Rattle.std.proofs.Common.{◌≡◌, ℕ, ◌+◌, Bool, List, [], ◌∷◌, ◌++◌, Option, refl, ap, ◌∙◌}
+use Rattle.std.proofs.Common.{◌≡◌, ℕ, ◌+◌, Bool, true, false, ◌&&◌, cond, List, [], ◌∷◌, ◌++◌, Option, Some, None, refl, ap, ◌∙◌}
+use Rattle.std.specs.Prelude.{bytes_eq, unwrap_or}
 use Rattle.slee_effect.specs.declared.reference.Ref.{Ref}
 use Rattle.slee_effect.specs.declared.value.Val.{Val}
 use Rattle.slee_effect.specs.declared.effect.Effect.{Effect}
 use Rattle.slee_effect.specs.declared.effect.Effect.TheVariants as ef
-use Rattle.handler_meaning.specs.Overlay.{overlay, overlay_from, field_after, attr_after, attached_after, named_after, activities_after, entities_by, activities_by}
-use Rattle.script_reading.specs.Done.{done}
+use Rattle.handler_meaning.specs.Overlay.{same_ref, overlay, overlay_from, field_after, attr_after, attached_after, named_after, activities_after, entities_by, activities_by}
+use Rattle.script_reading.specs.Done.{done, field_set, attribute_set}
 
 plain : {A : Type 0} (makes : Effect → ℕ) (does : ℕ → Effect → A → A) → ((n : ℕ) (e : Effect) (x : A) → does n e x ≡ does 0 e x) → (n : ℕ) (es : List Effect) (x : A) → overlay_from makes does n es x ≡ done (does 0) es x
 plain makes does same n [] x = refl
@@ -41,7 +42,7 @@ field_same who name n (ef.Suspend p q) x = refl
 field_same who name n (ef.Resume p) x = refl
 
 -- effects of two lists, one behind the other
-pub field_laid : (who : Ref) (name : List ℕ) (xs ys : List Effect) (x : Val) → overlay entities_by (field_after who name) (xs ++ ys) x ≡ done (field_after who name 0) ys (done (field_after who name 0) xs x)
+field_laid : (who : Ref) (name : List ℕ) (xs ys : List Effect) (x : Val) → overlay entities_by (field_after who name) (xs ++ ys) x ≡ done (field_after who name 0) ys (done (field_after who name 0) xs x)
 field_laid who name xs ys x = plain entities_by (field_after who name) (field_same who name) 0 (xs ++ ys) x ∙ behind (field_after who name 0) xs ys x
 
 attribute_same : (who : Ref) (name : List ℕ) (n : ℕ) (eff : Effect) (x : Val) → attr_after who name n eff x ≡ attr_after who name 0 eff x
@@ -66,8 +67,33 @@ attribute_same who name n (ef.Suspend p q) x = refl
 attribute_same who name n (ef.Resume p) x = refl
 
 -- effects of two lists, one behind the other
-pub attribute_laid : (who : Ref) (name : List ℕ) (xs ys : List Effect) (x : Val) → overlay activities_by (attr_after who name) (xs ++ ys) x ≡ done (attr_after who name 0) ys (done (attr_after who name 0) xs x)
+attribute_laid : (who : Ref) (name : List ℕ) (xs ys : List Effect) (x : Val) → overlay activities_by (attr_after who name) (xs ++ ys) x ≡ done (attr_after who name 0) ys (done (attr_after who name 0) xs x)
 attribute_laid who name xs ys x = plain activities_by (attr_after who name) (attribute_same who name) 0 (xs ++ ys) x ∙ behind (attr_after who name 0) xs ys x
+
+chosen : (b : Bool) (value x : Val) (last : Option Val) → cond b value (unwrap_or last x) ≡ unwrap_or (cond b (Some value) last) x
+chosen true value x last = refl
+chosen false value x last = refl
+
+-- what effects make of a value is that which they set last, or the value itself
+set_last : (does : Effect → Val → Val) (sets : Effect → Option Val → Option Val) → ((e : Effect) (last : Option Val) (x : Val) → does e (unwrap_or last x) ≡ unwrap_or (sets e last) x) → (es : List Effect) (last : Option Val) (x : Val) → done does es (unwrap_or last x) ≡ unwrap_or (done sets es last) x
+set_last does sets one [] last x = refl
+set_last does sets one (e ∷ es) last x = ap (done does es) (one e last x) ∙ set_last does sets one es (sets e last) x
+
+field_one : (who : Ref) (name : List ℕ) (e : Effect) (last : Option Val) (x : Val) → field_after who name 0 e (unwrap_or last x) ≡ unwrap_or (field_set who name e last) x
+field_one who name (ef.SetField p q r) last x = chosen (same_ref p who && bytes_eq q name) r x last
+field_one who name other last x = refl
+
+-- a field behind effects of two lists
+pub field_read : (who : Ref) (name : List ℕ) (xs ys : List Effect) (x : Val) → overlay entities_by (field_after who name) (xs ++ ys) x ≡ unwrap_or (done (field_set who name) ys None) (unwrap_or (done (field_set who name) xs None) x)
+field_read who name xs ys x = field_laid who name xs ys x ∙ ap (done (field_after who name 0) ys) (set_last (field_after who name 0) (field_set who name) (field_one who name) xs None x) ∙ set_last (field_after who name 0) (field_set who name) (field_one who name) ys None (unwrap_or (done (field_set who name) xs None) x)
+
+attribute_one : (who : Ref) (name : List ℕ) (e : Effect) (last : Option Val) (x : Val) → attr_after who name 0 e (unwrap_or last x) ≡ unwrap_or (attribute_set who name e last) x
+attribute_one who name (ef.SetAttr p q r) last x = chosen (same_ref p who && bytes_eq q name) r x last
+attribute_one who name other last x = refl
+
+-- an attribute behind effects of two lists
+pub attribute_read : (who : Ref) (name : List ℕ) (xs ys : List Effect) (x : Val) → overlay activities_by (attr_after who name) (xs ++ ys) x ≡ unwrap_or (done (attribute_set who name) ys None) (unwrap_or (done (attribute_set who name) xs None) x)
+attribute_read who name xs ys x = attribute_laid who name xs ys x ∙ ap (done (attr_after who name 0) ys) (set_last (attr_after who name 0) (attribute_set who name) (attribute_one who name) xs None x) ∙ set_last (attr_after who name 0) (attribute_set who name) (attribute_one who name) ys None (unwrap_or (done (attribute_set who name) xs None) x)
 
 attached_same : (who on : Ref) (n : ℕ) (eff : Effect) (x : Bool) → attached_after who on n eff x ≡ attached_after who on 0 eff x
 attached_same who on n (ef.SetField p q r) x = refl

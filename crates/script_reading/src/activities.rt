@@ -1,16 +1,17 @@
 //! Activities: whether one is there, and in which state.
-ghost use Rattle.std.specs.Prelude.{◌≡◌, ◌≤◌, ◌<◌, ◌+◌, ◌++◌, ◌^◌, length};
+ghost use Rattle.std.specs.Prelude.{◌≡◌, ◌≤◌, ◌<◌, ◌+◌, ◌++◌, ◌^◌, length, option_map};
 ghost use Rattle.handler_meaning.specs.Overlay.{overlay, overlay_from, activities_by, activity_after};
 ghost use Rattle.handler_meaning.specs.Observing as read;
 ghost use Rattle.handler_meaning.specs.Observing.{key_of};
 ghost use Rattle.handler_meaning.specs.declared.key.Key.TheVariants as k;
 ghost use Rattle.script_machine.specs.Agreeing.{Agrees};
+ghost use Rattle.script_machine.specs.Asking.{key_asked};
 ghost use Rattle.script_machine.specs.Settings.{setting_of};
 
 use crate::answers::activity_in;
 use crate::things::{Thing, count_made, made_by};
-use handler_meaning::{AcSeen, FailKind, Key};
-use script_machine::{Machine, Scene, Stop, is_same_ref};
+use handler_meaning::{AcSeen, FailKind};
+use script_machine::{Asked, Machine, Scene, Stop, is_same_ref};
 use slee_effect::{Effect, Ref};
 use slee_value::ActivityId;
 
@@ -67,11 +68,11 @@ fn state_laid(
     state_over(activity, before, machine.effects(), first)
 }
 
-fn state_key(activity: Ref) -> Option<Key>
-    ensures { result ≡ key_of (λ n. k.AcState (record { 0 = n })) activity }
+fn state_key(activity: Ref) -> Option<Asked<'static>>
+    ensures { option_map key_asked result ≡ key_of (λ n. k.AcState (record { 0 = n })) activity }
 {
     match activity {
-        Ref::Known(number) => Some(Key::AcState(ActivityId(number))),
+        Ref::Known(number) => Some(Asked::AcState(ActivityId(number))),
         Ref::Fresh(_) => None,
     }
 }

@@ -49,11 +49,13 @@ pub(crate) fn refers_in(seen: Option<&Seen>) -> Option<Ref>
 pub(crate) fn known_in(alloc: Global, seen: Option<&Seen>) -> Result<Vec<Ref>, NoMemory>
     ensures { IfOk result (λ refs. refs.items ≡ map ref.Known (ids_in (option_copied seen.entry))) }
 {
-    let mut refs = Vec::new(alloc);
-    if let Some(Seen::Ids(ids)) = seen {
-        for number in ids.as_slice() {
-            refs.push(Ref::Known(*number))?;
-        }
+    let Some(Seen::Ids(ids)) = seen else {
+        return Ok(Vec::new(alloc));
+    };
+    let numbers = ids.as_slice();
+    let mut refs = Vec::with_capacity(alloc, numbers.len())?;
+    for number in numbers {
+        refs.push(Ref::Known(*number))?;
     }
     Ok(refs)
 }

@@ -14,11 +14,11 @@ mod things;
 mod values;
 
 pub use activities::{state_of, used, used_active};
-pub use fields::{attribute, field};
+pub use fields::{attribute, attribute_number, field, field_flag, field_number};
 pub use lists::{attached_activities, children};
 pub use masks::is_masked;
 pub use numbers::{now, priority};
 pub use rows::{has_profile, profile_value};
 pub use standing::{attached, named, timer};
 pub use things::{Thing, count_made, made_by, next_number};
-pub use values::{fit, held_in, initial, is_of};
+pub use values::{Lent, initial, is_of};

@@ -1,5 +1,5 @@
 //! Lists that are read, with effects done to them: the children of a relation, and an entity's activities.
-ghost use Rattle.std.specs.Prelude.{◌≡◌, ◌≤◌, ◌<◌, ◌+◌, ◌++◌, ◌^◌, length, map, IfOk, OnOk};
+ghost use Rattle.std.specs.Prelude.{◌≡◌, ◌≤◌, ◌<◌, ◌+◌, ◌++◌, ◌^◌, length, map, IfOk, OnOk, option_map};
 ghost use Rattle.std.specs.Option.{option_copied};
 ghost use Rattle.slee_effect.specs.declared.reference.Ref.TheVariants as ref;
 ghost use Rattle.handler_meaning.specs.Answers.{ids_in};
@@ -8,17 +8,17 @@ ghost use Rattle.handler_meaning.specs.Observing as read;
 ghost use Rattle.handler_meaning.specs.Observing.{key_of};
 ghost use Rattle.handler_meaning.specs.declared.key.Key.TheVariants as k;
 ghost use Rattle.script_machine.specs.Agreeing.{AgreesAs};
+ghost use Rattle.script_machine.specs.Asking.{key_asked};
 ghost use Rattle.script_machine.specs.Settings.{setting_of};
 ghost use Rattle.script_reading.specs.Done.{done};
 
 use crate::answers::known_in;
 use crate::refs::{cut, put};
 use crate::things::{Thing, count_made, made_by};
-use handler_meaning::{Key, Seen};
-use script_machine::{Machine, Scene, Stop, is_same_ref};
+use handler_meaning::Seen;
+use script_machine::{Asked, Machine, Scene, Stop, is_same_ref};
 use slee_effect::{Effect, Ref};
 use slee_value::{EntityId, Name, NoMemory};
-use std::alloc::Global;
 
 /// Does an effect, before which so many entities were made, to the children of a relation.
 fn change_children(
@@ -81,12 +81,12 @@ fn children_laid(
     Ok(refs)
 }
 
-fn children_key(alloc: Global, entity: Ref, relation: &Name) -> Result<Option<Key>, NoMemory>
-    ensures { IfOk result (λ key. key ≡ key_of (λ n. k.Children (record { 0 = n }) relation.now) entity) }
+fn children_key(entity: Ref, relation: &Name) -> Option<Asked>
+    ensures { option_map key_asked result ≡ key_of (λ n. k.Children (record { 0 = n }) relation.now) entity }
 {
     match entity {
-        Ref::Known(number) => Ok(Some(Key::Children(EntityId(number), relation.copy(alloc)?))),
-        Ref::Fresh(_) => Ok(None),
+        Ref::Known(number) => Some(Asked::Children(EntityId(number), relation)),
+        Ref::Fresh(_) => None,
     }
 }
 
@@ -95,8 +95,7 @@ pub fn children(machine: &mut Machine, scene: &Scene, relation: &Name) -> Result
     ensures agrees { AgreesAs (λ refs. refs.items) (read.children (setting_of scene.now) relation.now) machine.old machine.new result }
     ensures spent { machine.new.left ≤ machine.old.left }
 {
-    let key = children_key(scene.alloc, scene.me, relation)?;
-    let seen = machine.look(scene, key)?;
+    let seen = machine.look(scene, children_key(scene.me, relation))?;
     Ok(children_laid(machine, scene, relation, seen)?)
 }
 
@@ -142,11 +141,11 @@ fn activities_laid(
     Ok(refs)
 }
 
-fn activities_key(entity: Ref) -> Option<Key>
-    ensures { result ≡ key_of (λ n. k.Activities (record { 0 = n })) entity }
+fn activities_key(entity: Ref) -> Option<Asked<'static>>
+    ensures { option_map key_asked result ≡ key_of (λ n. k.Activities (record { 0 = n })) entity }
 {
     match entity {
-        Ref::Known(number) => Some(Key::Activities(EntityId(number))),
+        Ref::Known(number) => Some(Asked::Activities(EntityId(number))),
         Ref::Fresh(_) => None,
     }
 }

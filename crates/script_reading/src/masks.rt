@@ -1,5 +1,5 @@
 //! Events that an entity masks on an activity.
-ghost use Rattle.std.specs.Prelude.{◌≡◌, ◌≤◌, ◌++◌, bytes_eq};
+ghost use Rattle.std.specs.Prelude.{◌≡◌, ◌≤◌, ◌++◌, bytes_eq, option_map};
 ghost use Rattle.std.specs.List.{list_any};
 ghost use Rattle.std.specs.Option.{option_copied};
 ghost use Rattle.handler_meaning.specs.Answers.{masks_in};
@@ -8,12 +8,13 @@ ghost use Rattle.handler_meaning.specs.Observing.{key_of_two};
 ghost use Rattle.handler_meaning.specs.Values.{flag};
 ghost use Rattle.handler_meaning.specs.declared.key.Key.TheVariants as k;
 ghost use Rattle.script_machine.specs.Agreeing.{AgreesAs};
+ghost use Rattle.script_machine.specs.Asking.{key_asked};
 ghost use Rattle.script_machine.specs.Settings.{setting_of};
 ghost use Rattle.script_reading.specs.Done.{done};
 ghost use Rattle.script_reading.specs.Masked.{masked, mask_in, mask_after};
 
-use handler_meaning::{FailKind, Key, Seen};
-use script_machine::{Machine, Scene, Stop, is_same_ref};
+use handler_meaning::{FailKind, Seen};
+use script_machine::{Asked, Machine, Scene, Stop, is_same_ref};
 use slee_effect::{Effect, Ref};
 use slee_value::{ActivityId, EntityId, Text};
 
@@ -113,12 +114,12 @@ fn mask_laid(
     )
 }
 
-fn mask_key(entity: Ref, activity: Ref) -> Option<Key>
-    ensures { result ≡ key_of_two (λ m n. k.Mask (record { 0 = m }) (record { 0 = n })) entity activity }
+fn mask_key(entity: Ref, activity: Ref) -> Option<Asked<'static>>
+    ensures { option_map key_asked result ≡ key_of_two (λ m n. k.Mask (record { 0 = m }) (record { 0 = n })) entity activity }
 {
     match (entity, activity) {
         (Ref::Known(entity), Ref::Known(activity)) => {
-            Some(Key::Mask(EntityId(entity), ActivityId(activity)))
+            Some(Asked::Mask(EntityId(entity), ActivityId(activity)))
         }
         _ => None,
     }

@@ -1,16 +1,16 @@
 //! Numbers that are read: the time, and priorities.
-ghost use Rattle.std.specs.Prelude.{◌≡◌, ◌≤◌, ◌<◌, ◌+◌, ◌++◌, ◌^◌, length};
+ghost use Rattle.std.specs.Prelude.{◌≡◌, ◌≤◌, ◌<◌, ◌+◌, ◌++◌, ◌^◌, length, option_map};
 ghost use Rattle.handler_meaning.specs.Overlay.{overlay, overlay_from, entities_by, priority_after};
 ghost use Rattle.handler_meaning.specs.Observing as read;
 ghost use Rattle.handler_meaning.specs.Observing.{key_of};
 ghost use Rattle.handler_meaning.specs.declared.key.Key.TheVariants as k;
 ghost use Rattle.script_machine.specs.Agreeing.{Agrees};
+ghost use Rattle.script_machine.specs.Asking.{key_asked};
 ghost use Rattle.script_machine.specs.Settings.{setting_of};
 
 use crate::answers::number_in;
 use crate::things::{Thing, count_made, made_by};
-use handler_meaning::Key;
-use script_machine::{Machine, Scene, Stop, is_same_ref};
+use script_machine::{Asked, Machine, Scene, Stop, is_same_ref};
 use slee_effect::{Effect, Ref};
 use slee_value::EntityId;
 
@@ -19,7 +19,7 @@ pub fn now(machine: &mut Machine, scene: &Scene) -> Result<i64, Stop>
     ensures agrees { Agrees (read.now (setting_of scene.now)) machine.old machine.new result }
     ensures spent { machine.new.left ≤ machine.old.left }
 {
-    let seen = machine.look(scene, Some(Key::Now))?;
+    let seen = machine.look(scene, Some(Asked::Now))?;
     Ok(number_in(seen))
 }
 
@@ -64,11 +64,11 @@ fn priority_laid(machine: &Machine, scene: &Scene, entity: Ref, first: i64) -> i
     priority_over(entity, before, machine.effects(), first)
 }
 
-fn priority_key(entity: Ref) -> Option<Key>
-    ensures { result ≡ key_of (λ n. k.Priority (record { 0 = n })) entity }
+fn priority_key(entity: Ref) -> Option<Asked<'static>>
+    ensures { option_map key_asked result ≡ key_of (λ n. k.Priority (record { 0 = n })) entity }
 {
     match entity {
-        Ref::Known(number) => Some(Key::Priority(EntityId(number))),
+        Ref::Known(number) => Some(Asked::Priority(EntityId(number))),
         Ref::Fresh(_) => None,
     }
 }

@@ -11,8 +11,8 @@ ghost use Rattle.script_reading.specs.Rows.{profile_value, has_profile};
 
 use crate::answers::row_in;
 use crate::values::is_of;
-use handler_meaning::{FailKind, Key};
-use script_machine::{Machine, Scene, Stop};
+use handler_meaning::FailKind;
+use script_machine::{Asked, Machine, Scene, Stop};
 use slee_effect::Val;
 use slee_value::{Kind, Name, Payload, Text, Value};
 
@@ -26,8 +26,7 @@ fn profile_row<'a>(
     ensures agrees { AgreesAs option_copied (row (setting_of scene.now) table.now key.now) machine.old machine.new result }
     ensures spent { machine.new.left ≤ machine.old.left }
 {
-    let found = Key::Profile(table.copy(scene.alloc)?, key.copy(scene.alloc)?);
-    let seen = machine.look(scene, Some(found))?;
+    let seen = machine.look(scene, Some(Asked::Profile(table, key)))?;
     Ok(row_in(seen))
 }
 

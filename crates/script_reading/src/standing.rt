@@ -1,17 +1,17 @@
 //! Attachments, and the activity on which a name or a timer stands.
-ghost use Rattle.std.specs.Prelude.{◌≡◌, ◌≤◌, ◌<◌, ◌+◌, ◌++◌, ◌^◌, length, IfOk};
+ghost use Rattle.std.specs.Prelude.{◌≡◌, ◌≤◌, ◌<◌, ◌+◌, ◌++◌, ◌^◌, length, option_map};
 ghost use Rattle.handler_meaning.specs.Overlay.{overlay, overlay_from, activities_by, timers_by, attached_after, named_after, timer_after, stands_on};
 ghost use Rattle.handler_meaning.specs.Observing as read;
 ghost use Rattle.handler_meaning.specs.Observing.{key_of, key_of_two};
 ghost use Rattle.handler_meaning.specs.declared.key.Key.TheVariants as k;
 ghost use Rattle.script_machine.specs.Agreeing.{Agrees};
+ghost use Rattle.script_machine.specs.Asking.{key_asked};
 ghost use Rattle.script_machine.specs.Settings.{setting_of};
 ghost use Rattle.script_reading.specs.Done.{done};
 
 use crate::answers::{flag_in, refers_in};
 use crate::things::{Thing, count_made, made_by};
-use handler_meaning::Key;
-use script_machine::{Machine, Scene, Stop, is_same_ref};
+use script_machine::{Asked, Machine, Scene, Stop, is_same_ref};
 use slee_effect::{Effect, Ref};
 use slee_value::{ActivityId, EntityId, Text, TimerId};
 
@@ -36,12 +36,12 @@ fn attached_over(entity: Ref, activity: Ref, effects: &[Effect], first: bool) ->
     current
 }
 
-fn attached_key(entity: Ref, activity: Ref) -> Option<Key>
-    ensures { result ≡ key_of_two (λ m n. k.Attached (record { 0 = m }) (record { 0 = n })) entity activity }
+fn attached_key(entity: Ref, activity: Ref) -> Option<Asked<'static>>
+    ensures { option_map key_asked result ≡ key_of_two (λ m n. k.Attached (record { 0 = m }) (record { 0 = n })) entity activity }
 {
     match (entity, activity) {
         (Ref::Known(entity), Ref::Known(activity)) => {
-            Some(Key::Attached(EntityId(entity), ActivityId(activity)))
+            Some(Asked::Attached(EntityId(entity), ActivityId(activity)))
         }
         _ => None,
     }
@@ -95,8 +95,7 @@ pub fn named(machine: &mut Machine, scene: &Scene, name: &Text) -> Result<Option
     ensures agrees { Agrees (read.named (setting_of scene.now) name.now) machine.old machine.new result }
     ensures spent { machine.new.left ≤ machine.old.left }
 {
-    let key = Key::Named(name.copy(scene.alloc)?);
-    let seen = machine.look(scene, Some(key))?;
+    let seen = machine.look(scene, Some(Asked::Named(name)))?;
     Ok(named_laid(machine, scene, name, refers_in(seen)))
 }
 
@@ -146,11 +145,11 @@ fn timer_laid(machine: &Machine, scene: &Scene, timer: Ref, first: Option<Ref>) 
     timer_over(timer, before, machine.effects(), first)
 }
 
-fn timer_key(timer: Ref) -> Option<Key>
-    ensures { result ≡ key_of (λ n. k.Timer (record { 0 = n })) timer }
+fn timer_key(timer: Ref) -> Option<Asked<'static>>
+    ensures { option_map key_asked result ≡ key_of (λ n. k.Timer (record { 0 = n })) timer }
 {
     match timer {
-        Ref::Known(number) => Some(Key::Timer(TimerId(number))),
+        Ref::Known(number) => Some(Asked::Timer(TimerId(number))),
         Ref::Fresh(_) => None,
     }
 }

@@ -2,11 +2,106 @@
 ghost use Rattle.std.specs.Prelude.{◌≡◌, IfOk};
 ghost use Rattle.std.specs.Option.{option_copied};
 ghost use Rattle.handler_meaning.specs.Answers.{initial, is_of, fit, held_in};
+ghost use Rattle.handler_meaning.specs.Values.{int, flag, text};
+ghost use Rattle.script_machine.specs.Kinds.{Finds, NoInt, NoFlag, NoText};
+ghost use Rattle.script_reading.specs.Lending.{value_lent};
 
 use handler_meaning::Seen;
+use script_machine::{flag_in, flag_within, int_in, int_within, text_in, text_within};
 use slee_effect::Val;
 use slee_value::{ActivityId, Kind, NoMemory, Text, TimerId, Value};
 use std::alloc::Global;
+
+/// A value that is lent where it stands.
+#[derive(Debug, Clone, Copy)]
+pub enum Lent<'a> {
+    /// That which an effect gives.
+    Set(&'a Val),
+    /// That of an answer or of an event.
+    Held(&'a Value),
+    /// The initial value of a type.
+    Initial(Kind),
+}
+
+impl<'a> Lent<'a> {
+    /// The value of a field or an attribute in an answer.
+    pub(crate) fn held_in(kind: Kind, seen: Option<&'a Seen>) -> Lent<'a>
+        ensures { value_lent result ≡ held_in kind (option_copied seen.entry) }
+    {
+        match seen {
+            Some(Seen::Held(Some(value))) => Lent::Held(value),
+            _ => Lent::Initial(kind),
+        }
+    }
+
+    /// Whether it is of the type.
+    fn is_of(&self, kind: Kind) -> bool
+        ensures { result ≡ is_of kind (value_lent self.now) }
+    {
+        match self {
+            Lent::Set(value) => is_of(kind, value),
+            Lent::Held(value) => value.kind() == kind,
+            Lent::Initial(own) => *own == kind,
+        }
+    }
+
+    /// The same where it is of the type, and in place of any other the initial one.
+    pub fn fit(self, kind: Kind) -> Lent<'a>
+        ensures { value_lent result ≡ fit kind (value_lent self.entry) }
+    {
+        if self.is_of(kind) {
+            return self;
+        }
+        Lent::Initial(kind)
+    }
+
+    /// The number that it is, if it is one.
+    pub fn number(&self) -> Option<i64>
+        ensures { Finds int NoInt (value_lent self.now) result }
+    {
+        match self {
+            Lent::Set(value) => int_within(value),
+            Lent::Held(value) => int_in(value),
+            Lent::Initial(Kind::Int) => Some(0),
+            Lent::Initial(_) => None,
+        }
+    }
+
+    /// The truth value that it is, if it is one.
+    pub fn flag(&self) -> Option<bool>
+        ensures { Finds flag NoFlag (value_lent self.now) result }
+    {
+        match self {
+            Lent::Set(value) => flag_within(value),
+            Lent::Held(value) => flag_in(value),
+            Lent::Initial(Kind::Bool) => Some(false),
+            Lent::Initial(_) => None,
+        }
+    }
+
+    /// The text that it is, if it is one.
+    pub fn text(&self) -> Option<&'a str>
+        ensures { Finds (λ t. text t.now) NoText (value_lent self.now) result }
+    {
+        match self {
+            Lent::Set(value) => text_within(value),
+            Lent::Held(value) => text_in(value),
+            Lent::Initial(Kind::Text) => Some(""),
+            Lent::Initial(_) => None,
+        }
+    }
+
+    /// A copy.
+    pub fn copy(&self, alloc: Global) -> Result<Val, NoMemory>
+        ensures { IfOk result (λ x. x ≡ value_lent self.now) }
+    {
+        match self {
+            Lent::Set(value) => value.copy(alloc),
+            Lent::Held(value) => Ok(Val::Plain(value.copy(alloc)?)),
+            Lent::Initial(kind) => initial(alloc, *kind),
+        }
+    }
+}
 
 /// The initial value of a type.
 pub fn initial(alloc: Global, kind: Kind) -> Result<Val, NoMemory>
@@ -30,25 +125,5 @@ pub fn is_of(kind: Kind, value: &Val) -> bool
         Val::Plain(value) => value.kind() == kind,
         Val::NewActivity(_) => kind == Kind::Activity,
         Val::NewTimer(_) => kind == Kind::Timer,
-    }
-}
-
-/// A value of the type, and in place of any other the initial one.
-pub fn fit(alloc: Global, kind: Kind, value: Val) -> Result<Val, NoMemory>
-    ensures { IfOk result (λ x. x ≡ fit kind value) }
-{
-    if is_of(kind, &value) {
-        return Ok(value);
-    }
-    initial(alloc, kind)
-}
-
-/// The value of a field or an attribute in an answer.
-pub fn held_in(alloc: Global, kind: Kind, seen: Option<&Seen>) -> Result<Val, NoMemory>
-    ensures { IfOk result (λ x. x ≡ held_in kind (option_copied seen.entry)) }
-{
-    match seen {
-        Some(Seen::Held(Some(value))) => Ok(Val::Plain(value.copy(alloc)?)),
-        _ => initial(alloc, kind),
     }
 }

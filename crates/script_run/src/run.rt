@@ -97,7 +97,7 @@ fn run_steps(alloc: Global, stage: &Stage, steps: &[Step]) -> Result<Run, Unfini
             let outcome = Outcome::Broken(FailKind::Thrown);
             done(alloc, finished, outcome, text.as_str())
         }
-        Err(Stop::Need(key)) => Ok(Run::Need(key)),
+        Err(Stop::Need(key)) => Ok(Run::Need(Box::into_inner(key))),
         Err(Stop::NoMemory) => Err(Unfinished::NoMemory),
         Err(Stop::Unchecked) => Err(Unfinished::Unchecked),
     }

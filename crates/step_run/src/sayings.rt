@@ -51,7 +51,10 @@ pub fn do_saying(machine: &mut Machine, scene: &Scene, step: &Saying) -> Result<
         Saying::Emit(term) => emit(machine, scene, term),
         Saying::Usage(name, term) => count_usage(machine, scene, name, term),
         Saying::Return(term) => Ok(Flow::Returned(eval(machine, scene, term)?)),
-        Saying::Throw(term) => Err(Stop::Thrown(eval_text(machine, scene, term)?)),
+        Saying::Throw(term) => {
+            let text = eval_text(machine, scene, term)?;
+            Err(Stop::Thrown(Box::new(scene.alloc, text)?))
+        }
         Saying::Rollback => {
             machine.ask_rollback();
             Ok(Flow::Next)

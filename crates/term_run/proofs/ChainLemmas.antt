@@ -17,7 +17,7 @@ use Rattle.script_machine.specs.declared.stop.Stop.TheVariants as stop
 use Rattle.script_machine.specs.Agreeing.{Stops}
 use Rattle.script_machine.specs.Kinds.{NoInt}
 use Rattle.script_machine.proofs.NumberLemmas.{right_stays}
-use Rattle.term_run.specs.Links.{spend, linked, chained}
+use Rattle.term_run.specs.Links.{spend, linked, chained, applied}
 use Rattle.term_run.proofs.RunLemmas.{stops_then, then_give, assoc}
 
 module _ (s : Setting) (a : Term) (y : Joint × TermInMemory) (more : List (Joint × TermInMemory)) where
@@ -57,19 +57,17 @@ spend_stops n i st st' new e lt h t =
     subst (λ n. Stops (spend n st) new e) z (spend_more (n - suc i) (suc i) st new e one)
 
 -- what stops an operator stops the whole
-pub linked_stops : (s : Setting) (xs : List (Joint × TermInMemory)) (i : ℕ) (y : Joint × TermInMemory) (x z : Val) (st new : State) (e : Stop) (total : Ending Val) → i < length xs → y ≡ get_or xs i y → linked s (drop i xs) x st ≡ total → decides y.0 x ≡ false → eval s (term_of y.1) st ≡ Gave z new → Stops (apply y.0 x z new) new e → Stops total new e
-linked_stops s xs i y x z st new e total lt is so_far undecided given h =
-    let go : Bool → Ending Val = λ b. then_run (cond b (give x) (λ st. then_run (eval s (term_of y.1) st) (apply y.0 x)) st) (linked s (drop (i + 1) xs)) in
+pub linked_stops : (s : Setting) (xs : List (Joint × TermInMemory)) (i : ℕ) (y : Joint × TermInMemory) (x : Val) (st new : State) (e : Stop) (total : Ending Val) → i < length xs → y ≡ get_or xs i y → linked s (drop i xs) x st ≡ total → decides y.0 x ≡ false → Stops (applied y.0 x (eval s (term_of y.1)) st) new e → Stops total new e
+linked_stops s xs i y x st new e total lt is so_far undecided stops =
+    let go : Bool → Ending Val = λ b. then_run (cond b (give x) (applied y.0 x (eval s (term_of y.1))) st) (linked s (drop (i + 1) xs)) in
     let split : linked s (drop i xs) x st ≡ go (decides y.0 x) = rw (drop-cons xs i y, add-one, ← is) refl in
-    let stops : Stops (then_run (eval s (term_of y.1) st) (apply y.0 x)) new e = subst (λ (m : Ending Val). Stops (then_run m (apply y.0 x)) new e) (sym given) h in
     subst (λ (t : Ending Val). Stops t new e) (sym (ap go undecided) ∙ sym split ∙ so_far) (stops_then _ (linked s (drop (i + 1) xs)) new e stops)
 
 -- an operand that is joined leaves the rest
-pub linked_step : (s : Setting) (xs : List (Joint × TermInMemory)) (i : ℕ) (y : Joint × TermInMemory) (x z w : Val) (st mid new : State) (total : Ending Val) → i < length xs → y ≡ get_or xs i y → linked s (drop i xs) x st ≡ total → decides y.0 x ≡ false → eval s (term_of y.1) st ≡ Gave z mid → apply y.0 x z mid ≡ Gave w new → linked s (drop (i + 1) xs) w new ≡ total
-linked_step s xs i y x z w st mid new total lt is so_far undecided given applied =
-    let go : Bool → Ending Val = λ b. then_run (cond b (give x) (λ st. then_run (eval s (term_of y.1) st) (apply y.0 x)) st) (linked s (drop (i + 1) xs)) in
+pub linked_step : (s : Setting) (xs : List (Joint × TermInMemory)) (i : ℕ) (y : Joint × TermInMemory) (x w : Val) (st new : State) (total : Ending Val) → i < length xs → y ≡ get_or xs i y → linked s (drop i xs) x st ≡ total → decides y.0 x ≡ false → applied y.0 x (eval s (term_of y.1)) st ≡ Gave w new → linked s (drop (i + 1) xs) w new ≡ total
+linked_step s xs i y x w st new total lt is so_far undecided run =
+    let go : Bool → Ending Val = λ b. then_run (cond b (give x) (applied y.0 x (eval s (term_of y.1))) st) (linked s (drop (i + 1) xs)) in
     let split : linked s (drop i xs) x st ≡ go (decides y.0 x) = rw (drop-cons xs i y, add-one, ← is) refl in
-    let run : then_run (eval s (term_of y.1) st) (apply y.0 x) ≡ Gave w new = ap (λ (m : Ending Val). then_run m (apply y.0 x)) given ∙ applied in
     sym (ap (λ (m : Ending Val). then_run m (linked s (drop (i + 1) xs))) run) ∙ sym (ap go undecided) ∙ sym split ∙ so_far
 
 -- a number alone decides nothing
@@ -85,10 +83,10 @@ undecided j.Either n = refl
 
 module _ (s : Setting) (xs : List (Joint × TermInMemory)) (i : ℕ) (y : Joint × TermInMemory) (n : ℤ) (st : State) (total : Ending Val) (lt : i < length xs) (is : y ≡ get_or xs i y) (so_far : linked s (drop i xs) (int n) st ≡ total) where
   pub number_stops : (z : Val) (new : State) (e : Stop) → eval s (term_of y.1) st ≡ Gave z new → Stops (apply y.0 (int n) z new) new e → Stops total new e
-  number_stops z new e given h = linked_stops s xs i y (int n) z st new e total lt is so_far (undecided y.0 n) given h
+  number_stops z new e given h = linked_stops s xs i y (int n) st new e total lt is so_far (undecided y.0 n) (subst (λ (m : Ending Val). Stops (then_run m (apply y.0 (int n))) new e) (sym given) h)
 
   pub number_lacks : (z : Val) (new : State) → NoInt z → eval s (term_of y.1) st ≡ Gave z new → total ≡ Stays
-  number_lacks z new other given = linked_stops s xs i y (int n) z st new stop.Unchecked total lt is so_far (undecided y.0 n) given (right_stays y.0 n z new other)
+  number_lacks z new other given = number_stops z new stop.Unchecked given (right_stays y.0 n z new other)
 
   pub number_step : (z w : Val) (mid new : State) → eval s (term_of y.1) st ≡ Gave z mid → apply y.0 (int n) z mid ≡ Gave w new → linked s (drop (i + 1) xs) w new ≡ total
-  number_step z w mid new given applied = linked_step s xs i y (int n) z w st mid new total lt is so_far (undecided y.0 n) given applied
+  number_step z w mid new given applied_there = linked_step s xs i y (int n) w st new total lt is so_far (undecided y.0 n) (ap (λ (m : Ending Val). then_run m (apply y.0 (int n))) given ∙ applied_there)

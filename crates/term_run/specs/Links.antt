@@ -3,6 +3,7 @@ use Rattle.std.specs.Prelude.{ℕ, zero, suc, List, [], ◌∷◌, length}
 use Rattle.slee_effect.specs.declared.value.Val.{Val}
 use Rattle.script_types.specs.declared.term.Atom.{Atom}
 use Rattle.script_types.specs.declared.term.Joint.{Joint}
+use Rattle.script_types.specs.declared.term.Joint.TheVariants as j
 use Rattle.script_types.specs.declared.term.Question.{Question}
 use Rattle.script_types.specs.declared.term.Question.TheVariants as q
 use Rattle.script_types.specs.declared.term.Test.{Test}
@@ -11,7 +12,7 @@ use Rattle.script_types.specs.Program.{Term}
 use Rattle.script_types.specs.ProgramOf.{term_of}
 use Rattle.handler_meaning.specs.Running.{Setting, Run, ◌>>=◌, give, tick}
 use Rattle.handler_meaning.specs.Terms.{eval, combine, single, ask}
-use Rattle.handler_meaning.specs.Values.{compare}
+use Rattle.handler_meaning.specs.Values.{compare, apply}
 
 -- so many units
 abbrev pub spend : ℕ → Run (Unit {0})
@@ -51,3 +52,15 @@ abbrev pub measured : Setting → Atom → Run Val
 measured s atom = do
   x ← single s atom
   ask s q.Len x
+
+-- an operator between a value and what a part gives
+abbrev pub applied : Joint → Val → Run Val → Run Val
+applied joint x m = do
+  y ← m
+  apply joint x y
+
+-- two texts as one, of which a part gives the first
+abbrev pub joined_pair : Run Val → Run Val → Run Val
+joined_pair m n = do
+  x ← m
+  applied j.Join x n

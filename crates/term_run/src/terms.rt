@@ -1,21 +1,26 @@
 //! Terms with all that stands in them. A term's unit is spent before its parts. Numbers and truth values go their own ways, on which nothing is copied.
 ghost use Rattle.std.specs.Prelude.{◌≡◌, ◌≤◌, ◌<◌, OnOk, true};
 ghost use Rattle.handler_meaning.specs.Terms.{eval};
+ghost use Rattle.handler_meaning.specs.Observing as read;
 ghost use Rattle.handler_meaning.specs.Values.{int, flag};
 ghost use Rattle.script_types.specs.ProgramOf.{term_of, ask_of, compare_of, combine_of};
+ghost use Rattle.script_types.specs.declared.term.Joint.TheVariants as j;
 ghost use Rattle.script_types.specs.declared.term.Question.TheVariants as q;
 ghost use Rattle.script_machine.specs.Agreeing.{Agrees, AgreesAs, EndsFinding};
-ghost use Rattle.script_machine.specs.Kinds.{NoInt, is_arithmetic, is_of_numbers};
+ghost use Rattle.script_machine.specs.Kinds.{NoInt, NoFlag, is_arithmetic, is_of_numbers};
 ghost use Rattle.script_machine.specs.Settings.{setting_of};
-ghost use Rattle.term_run.specs.Links.{linked, chained, asked, compared};
+ghost use Rattle.script_reading.specs.Lending.{value_lent};
+ghost use Rattle.term_run.specs.Links.{linked, chained, asked, compared, applied, joined_pair};
 
-use crate::atoms::{single, single_length, single_number};
+use crate::atoms::{join, join_single, single, single_flag, single_length, single_number};
 use crate::chains::spend;
 use crate::questions::ask;
 use script_machine::{
-    Machine, Scene, Stop, int_within, is_arithmetic, is_decided, is_of_numbers, text_of,
+    Machine, Scene, Stop, flag_within, int_within, is_arithmetic, is_decided, is_of_numbers,
+    text_of,
 };
-use script_types::{Joint, Question, Term, Test};
+use script_reading::Lent;
+use script_types::{Atom, Joint, Question, Term, Test};
 use slee_effect::Val;
 use slee_value::Value;
 
@@ -41,7 +46,11 @@ pub fn eval(machine: &mut Machine, scene: &Scene, term: &Term) -> Result<Val, St
 
 /// The number that a term gives, if it gives one.
 #[cycle(terms)]
-pub fn eval_number(machine: &mut Machine, scene: &Scene, term: &Term) -> Result<Option<i64>, Stop>
+pub(crate) fn eval_number(
+    machine: &mut Machine,
+    scene: &Scene,
+    term: &Term,
+) -> Result<Option<i64>, Stop>
     ensures finds { EndsFinding int NoInt (eval (setting_of scene.now) (term_of term.now) machine.old) machine.new result }
     ensures spent { machine.new.left ≤ machine.old.left }
 {
@@ -56,6 +65,24 @@ pub fn eval_number(machine: &mut Machine, scene: &Scene, term: &Term) -> Result<
             Ok(None)
         }
         Term::Chain(first, more) => number_in_chain(machine, scene, first, more),
+    }
+}
+
+/// The truth value that a term gives, if it gives one.
+pub fn eval_truth(machine: &mut Machine, scene: &Scene, term: &Term) -> Result<Option<bool>, Stop>
+    ensures finds { EndsFinding flag NoFlag (eval (setting_of scene.now) (term_of term.now) machine.old) machine.new result }
+    ensures spent { machine.new.left ≤ machine.old.left }
+{
+    match term {
+        Term::Single(atom) => {
+            machine.tick()?;
+            single_flag(machine, scene, atom)
+        }
+        Term::Compare(parts) => Ok(Some(eval_compared(machine, scene, parts)?)),
+        Term::Ask(_) | Term::Chain(_, _) => {
+            let x = eval(machine, scene, term)?;
+            Ok(flag_within(&x))
+        }
     }
 }
 
@@ -114,7 +141,7 @@ fn eval_length(machine: &mut Machine, scene: &Scene, term: &Term) -> Result<i64,
 
 /// What a comparison of two terms gives.
 #[cycle(terms)]
-pub fn eval_compared(
+fn eval_compared(
     machine: &mut Machine,
     scene: &Scene,
     parts: &(Test, Term, Term),
@@ -222,12 +249,99 @@ fn eval_pair(machine: &mut Machine, scene: &Scene, parts: &(Term, Joint, Term)) 
 {
     machine.tick()?;
     let (one, joint, other) = parts;
+    if let Joint::Join = joint {
+        return join_pair(machine, scene, one, other);
+    }
     let x = eval(machine, scene, one)?;
     if is_decided(*joint, &x) {
         return Ok(x);
     }
     let y = eval(machine, scene, other)?;
     machine.apply(scene.alloc, *joint, &x, &y)
+}
+
+/// Two texts as one, the first of which is only read where it stands in the program.
+#[cycle(terms)]
+fn join_pair(machine: &mut Machine, scene: &Scene, one: &Term, other: &Term) -> Result<Val, Stop>
+    ensures agrees { Agrees (joined_pair (eval (setting_of scene.now) (term_of one.now)) (eval (setting_of scene.now) (term_of other.now))) machine.old machine.new result }
+    ensures spent { machine.new.left ≤ machine.old.left }
+{
+    match one {
+        Term::Single(Atom::Constant(value)) => {
+            machine.tick()?;
+            join_behind(machine, scene, Lent::Held(value), other)
+        }
+        Term::Single(Atom::Slot(place)) => {
+            machine.tick()?;
+            join_to_slot(machine, scene, *place, other)
+        }
+        _ => {
+            let x = eval(machine, scene, one)?;
+            join_behind(machine, scene, Lent::Set(&x), other)
+        }
+    }
+}
+
+/// A variable's text with that behind it which a term gives. It is copied only where the term isn't a constant.
+#[cycle(terms)]
+fn join_to_slot(
+    machine: &mut Machine,
+    scene: &Scene,
+    place: usize,
+    term: &Term,
+) -> Result<Val, Stop>
+    ensures agrees { Agrees (joined_pair (read.value place) (eval (setting_of scene.now) (term_of term.now))) machine.old machine.new result }
+    ensures spent { machine.new.left ≤ machine.old.left }
+{
+    match term {
+        Term::Single(Atom::Constant(value)) => {
+            let _ = machine.variable_value(place)?;
+            machine.tick()?;
+            let x = machine.variable_value(place)?;
+            join(machine, scene, Lent::Set(x), Lent::Held(value))
+        }
+        _ => {
+            let x = machine.value(scene.alloc, place)?;
+            join_behind(machine, scene, Lent::Set(&x), term)
+        }
+    }
+}
+
+/// A text with that behind it which a term gives.
+#[cycle(terms)]
+fn join_behind(machine: &mut Machine, scene: &Scene, x: Lent, term: &Term) -> Result<Val, Stop>
+    ensures agrees { Agrees (applied j.Join (value_lent x.entry) (eval (setting_of scene.now) (term_of term.now))) machine.old machine.new result }
+    ensures spent { machine.new.left ≤ machine.old.left }
+{
+    match term {
+        Term::Single(atom) => {
+            machine.tick()?;
+            join_single(machine, scene, x, atom)
+        }
+        _ => {
+            let y = eval(machine, scene, term)?;
+            join(machine, scene, x, Lent::Set(&y))
+        }
+    }
+}
+
+/// An operator between a value and what a term gives.
+#[cycle(terms)]
+fn apply_to(
+    machine: &mut Machine,
+    scene: &Scene,
+    joint: Joint,
+    x: &Val,
+    term: &Term,
+) -> Result<Val, Stop>
+    ensures agrees { Agrees (applied joint x.now (eval (setting_of scene.now) (term_of term.now))) machine.old machine.new result }
+    ensures spent { machine.new.left ≤ machine.old.left }
+{
+    if let Joint::Join = joint {
+        return join_behind(machine, scene, Lent::Set(x), term);
+    }
+    let y = eval(machine, scene, term)?;
+    machine.apply(scene.alloc, joint, x, &y)
 }
 
 /// What the first operator of a chain gives, which is one between numbers.
@@ -271,8 +385,7 @@ fn eval_links(
         if is_decided(*joint, &x) {
             continue;
         }
-        let y = eval(machine, scene, term)?;
-        x = machine.apply(scene.alloc, *joint, &x, &y)?;
+        x = apply_to(machine, scene, *joint, &x, term)?;
     }
     Ok(x)
 }

@@ -4,4 +4,4 @@ use Rattle.script_reading.proofs.answers.known_in.Given as goal
 
 -- those so far are there
 abbrev pub invariant-loop-number : goal.invariant-loop-number
-invariant-loop-number l = l.refs.items ≡ map Known (take l.number-index l.number-items)
+invariant-loop-number l = l.refs.items ≡ map Known (take l.number-index l.numbers)

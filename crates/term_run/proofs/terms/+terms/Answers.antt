@@ -7,7 +7,7 @@ use Rattle.script_machine.specs.Settings.{setting_of}
 use Rattle.handler_meaning.specs.Values.{int, flag}
 use Rattle.script_machine.specs.Agreeing.{Ends, EndsFinding}
 use Rattle.script_machine.specs.Kinds.{NoInt}
-use Rattle.term_run.proofs.ChainLemmas.{chain_eval, linked_stops, number_stops, number_step}
+use Rattle.term_run.proofs.ChainLemmas.{chain_eval, linked_stops, linked_step, number_stops, number_step}
 use Rattle.term_run.proofs.terms.+terms.Goals as goal
 
 pub eval-returns-in-Chain-clause-agrees : goal.eval-returns-in-Chain-clause-agrees
@@ -16,8 +16,12 @@ eval-returns-in-Chain-clause-agrees t c =
 
 pub eval_links-returns-in_err-x-clause-agrees : goal.eval_links-returns-in_err-x-clause-agrees
 eval_links-returns-in_err-x-clause-agrees t c =
-    let p = err_from_is_err_and c.from_residual-in_err-x.result c.from_residual-in_err-x.ensures.1 in
-    rw (p.1, p.2) (linked_stops (setting_of c.args.scene.now) c.args.links.now c.links.joint-index c.links-item.result c.links.x c.in_ok-y.y c.links.machine c.eval.new.machine c.in_err-x.field-0.0 _ c.links-test.true c.links-item.is c.links.invariant.0 (sym c.if-is_decided.ensures) c.in_ok-y.ensures.agrees c.in_err-x.ensures)
+    let p = err_from_is_err_and c.from_residual.result c.from_residual.ensures.1 in
+    rw (p.1, p.2) (linked_stops (setting_of c.args.scene.now) c.args.links.now c.links.joint-index c.links-item.result c.links.x c.links.machine c.apply_to.new.machine c.in_err-x.field-0.0 _ c.links-test.true c.links-item.is c.links.invariant.0 (sym c.if-is_decided.ensures) c.in_err-x.ensures.agrees)
+
+pub eval_links-links-preserved : goal.eval_links-links-preserved
+eval_links-links-preserved t c =
+    (linked_step (setting_of c.args.scene.now) c.args.links.now c.links.joint-index c.links-item.result c.links.x c.in_ok-x.x c.links.machine c.apply_to.new.machine _ c.links-test.true c.links-item.is c.links.invariant.0 (sym c.if-is_decided.ensures) c.in_ok-x.ensures.agrees, omega (arith, c.in_ok-x.ensures.spent, c.links.invariant.1))
 
 pub eval_number-returns-in_ok-eval_compared-in-Compare-clause-finds : goal.eval_number-returns-in_ok-eval_compared-in-Compare-clause-finds
 eval_number-returns-in_ok-eval_compared-in-Compare-clause-finds t c = (flag c.in_ok-eval_compared-in-Compare.field-0, (tt, search rules))

@@ -37,11 +37,23 @@ decreases-number_chain l = 8 * l.machine.now.left + 1
 abbrev pub decreases-eval_pair : goal.decreases-eval_pair
 decreases-eval_pair l = 8 * l.machine.now.left
 
+abbrev pub decreases-join_pair : goal.decreases-join_pair
+decreases-join_pair l = 8 * l.machine.now.left + 7
+
+abbrev pub decreases-join_to_slot : goal.decreases-join_to_slot
+decreases-join_to_slot l = 8 * l.machine.now.left + 6
+
+abbrev pub decreases-join_behind : goal.decreases-join_behind
+decreases-join_behind l = 8 * l.machine.now.left + 5
+
+abbrev pub decreases-apply_to : goal.decreases-apply_to
+decreases-apply_to l = 8 * l.machine.now.left + 6
+
 abbrev pub decreases-number_pair : goal.decreases-number_pair
 decreases-number_pair l = 8 * l.machine.now.left
 
 abbrev pub decreases-eval_links : goal.decreases-eval_links
-decreases-eval_links l = 8 * l.machine.now.left + 5
+decreases-eval_links l = 8 * l.machine.now.left + 7
 
 abbrev pub decreases-number_links : goal.decreases-number_links
 decreases-number_links l = 8 * l.machine.now.left + 5

@@ -1,0 +1,48 @@
+//! Keys by which a script asks, with names that are lent.
+ghost use Rattle.std.specs.Prelude.{◌≡◌, IfOk};
+ghost use Rattle.script_machine.specs.Asking.{key_asked};
+
+use handler_meaning::Key;
+use slee_value::{ActivityId, EntityId, Name, NoMemory, Text, TimerId};
+use std::alloc::Global;
+
+/// A key by which a script asks, with names that are lent.
+#[derive(Debug, Clone, Copy)]
+pub enum Asked<'a> {
+    Field(EntityId, &'a Name),
+    Children(EntityId, &'a Name),
+    Priority(EntityId),
+    AcState(ActivityId),
+    Attr(ActivityId, &'a Text),
+    Attached(EntityId, ActivityId),
+    Mask(EntityId, ActivityId),
+    Named(&'a Text),
+    Timer(TimerId),
+    Profile(&'a Name, &'a Text),
+    Now,
+    Activities(EntityId),
+}
+
+impl<'a> Asked<'a> {
+    /// The key that is kept.
+    pub(crate) fn to_key(&self, alloc: Global) -> Result<Key, NoMemory>
+        ensures { IfOk result (λ key. key ≡ key_asked self.now) }
+    {
+        match self {
+            Asked::Field(entity, name) => Ok(Key::Field(*entity, name.copy(alloc)?)),
+            Asked::Children(entity, name) => Ok(Key::Children(*entity, name.copy(alloc)?)),
+            Asked::Priority(entity) => Ok(Key::Priority(*entity)),
+            Asked::AcState(activity) => Ok(Key::AcState(*activity)),
+            Asked::Attr(activity, name) => Ok(Key::Attr(*activity, name.copy(alloc)?)),
+            Asked::Attached(entity, activity) => Ok(Key::Attached(*entity, *activity)),
+            Asked::Mask(entity, activity) => Ok(Key::Mask(*entity, *activity)),
+            Asked::Named(name) => Ok(Key::Named(name.copy(alloc)?)),
+            Asked::Timer(timer) => Ok(Key::Timer(*timer)),
+            Asked::Profile(table, name) => {
+                Ok(Key::Profile(table.copy(alloc)?, name.copy(alloc)?))
+            }
+            Asked::Now => Ok(Key::Now),
+            Asked::Activities(entity) => Ok(Key::Activities(*entity)),
+        }
+    }
+}
