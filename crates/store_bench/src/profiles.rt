@@ -40,7 +40,7 @@ fn empty(alloc: Global) -> Result<Profiles, NoMemory> {
     Ok(Profiles::new(alloc, tables))
 }
 
-// Rows are put back as they were, since adding one tests its values against all.
+// Rows are put back as they were.
 fn filled(alloc: Global, rows: u64) -> Result<Profiles, NoMemory> {
     let mut profiles = empty(alloc)?;
     'rows: for number in 0..rows {
