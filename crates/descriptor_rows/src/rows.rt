@@ -3,11 +3,11 @@
 use crate::asking::answer_all;
 use crate::item::parts_of;
 use crate::trouble::Trouble;
-use deployment_parts::DeployFault;
+use deployment_parts::{DeployFault, Parts};
 use serde_json::Value;
 use slee_descriptor::Deployment;
 use std::alloc::Global;
-use std::time::Instant;
+use std::time::{Duration, Instant};
 use std::{env, io};
 
 /// Builds each row; or reads it and no more; or says how long building it takes.
@@ -35,15 +35,25 @@ fn play_all(rt: &HostRuntime, text: &str) -> Result<(), Trouble> {
 /// Prints for each row the nanoseconds of building alone.
 fn time_all(rt: &HostRuntime, text: &str) -> Result<(), Trouble> {
     for line in text.lines() {
-        let parts = parts_of(rt.alloc(), &row_of(rt.alloc(), line)?)?;
-        let begun = Instant::now(rt)?;
-        let built = Deployment::build(rt.alloc(), parts);
-        let took = begun.elapsed(rt)?;
-        match built {
-            Ok(_deployment) => println!(rt; "{}", took.as_nanos())?,
-            Err(fault) => print_fault(rt, &fault)?,
-        }
+        let row = row_of(rt.alloc(), line)?;
+        time_build(rt, parts_of(rt.alloc(), &row)?)?;
     }
+    Ok(())
+}
+
+/// Builds a deployment of parts, and prints the nanoseconds that it takes.
+fn time_build(rt: &HostRuntime, parts: Parts) -> Result<(), Trouble> {
+    let begun = Instant::now(rt)?;
+    let built = Deployment::build(rt.alloc(), parts);
+    let took = begun.elapsed(rt)?;
+    match built {
+        Ok(_deployment) => print_nanoseconds(rt, took),
+        Err(fault) => print_fault(rt, &fault),
+    }
+}
+
+fn print_nanoseconds(rt: &HostRuntime, took: Duration) -> Result<(), Trouble> {
+    println!(rt; "{}", took.as_nanos())?;
     Ok(())
 }
 

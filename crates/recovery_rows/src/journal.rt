@@ -1,24 +1,11 @@
 //! Runs that go on from the journal of an earlier one.
-use crate::comparing::compare;
+use crate::playing::{Step, compare, run_each};
 use slee_disk::{MemoryDisk, Side};
 use std::alloc::Global;
 use std::process::Abort;
 use std::test::Fail;
 use whole_runs::one_call::{PLAY, SHOW, show};
 use whole_runs::running::{Failing, Ran, Wanted, empty_disk, run_alone, run_over, text_of};
-
-// Words, lines, and what comes of the run.
-type Step = (&'static [&'static str], &'static str, Wanted);
-
-fn run_each(rt: &impl Abort, alloc: Global, steps: &[Step]) -> Result<MemoryDisk, Fail> {
-    let mut disk = empty_disk(alloc)?;
-    for (words, lines, wanted) in steps {
-        let ran = run_over(alloc, words, lines, disk)?;
-        compare(rt, &ran, *wanted);
-        disk = ran.disk;
-    }
-    Ok(disk)
-}
 
 const RINGS: Wanted = Wanted {
     code: 0,
@@ -89,7 +76,7 @@ const TWO_RUNS: &[Step] = &[
 
 #[test]
 fn a_later_run_goes_on_from_the_journal(rt: HostRuntime) -> Result<(), Fail> {
-    run_each(&rt, rt.alloc(), TWO_RUNS)?;
+    run_each(&rt, rt.alloc(), empty_disk(rt.alloc())?, TWO_RUNS)?;
     Ok(())
 }
 
@@ -101,7 +88,7 @@ const NO_LINES: &[Step] = &[
 
 #[test]
 fn without_lines_there_is_the_initial_state(rt: HostRuntime) -> Result<(), Fail> {
-    run_each(&rt, rt.alloc(), NO_LINES)?;
+    run_each(&rt, rt.alloc(), empty_disk(rt.alloc())?, NO_LINES)?;
     Ok(())
 }
 
@@ -120,7 +107,7 @@ const ONE_START_KEPT: &[u8] =
 
 #[test]
 fn bytes_of_a_journal_with_one_record(rt: HostRuntime) -> Result<(), Fail> {
-    let disk = run_each(&rt, rt.alloc(), ONE_START)?;
+    let disk = run_each(&rt, rt.alloc(), empty_disk(rt.alloc())?, ONE_START)?;
     assert_eq!(rt; disk.side(Side::A), ONE_START_KEPT);
     assert!(rt; disk.side(Side::B).is_empty());
     Ok(())
@@ -175,7 +162,7 @@ status 0 ok
 
 #[test]
 fn choices_that_are_left_come_first_in_the_next_run(rt: HostRuntime) -> Result<(), Fail> {
-    run_each(&rt, rt.alloc(), STOPPED)?;
+    run_each(&rt, rt.alloc(), empty_disk(rt.alloc())?, STOPPED)?;
     Ok(())
 }
 
@@ -212,14 +199,17 @@ fn show_after(alloc: Global, parts: &[&str]) -> Result<Ran, Fail> {
     Ok(run_over(alloc, SHOW, "", disk)?)
 }
 
+fn expect_same(rt: &impl Abort, ran: &Ran, other: &Ran) {
+    assert_eq!(rt; ran.code, 0);
+    assert_eq!(rt; text_of(ran), text_of(other));
+    assert_eq!(rt; ran.disk.side(Side::A), other.disk.side(Side::A));
+}
+
 #[test]
 fn three_runs_come_to_the_same_as_one(rt: HostRuntime) -> Result<(), Fail> {
     for (parts, lines) in IN_PARTS {
-        let apart = show_after(rt.alloc(), parts)?;
         let whole = show_after(rt.alloc(), &[*lines])?;
-        assert_eq!(rt; apart.code, 0);
-        assert_eq!(rt; text_of(&apart), text_of(&whole));
-        assert_eq!(rt; apart.disk.side(Side::A), whole.disk.side(Side::A));
+        expect_same(&rt, &show_after(rt.alloc(), parts)?, &whole);
     }
     Ok(())
 }
@@ -252,12 +242,20 @@ const UNWRITTEN: Failing<'static> = Failing {
     writes: &[1],
 };
 
+fn expect_shown(
+    rt: &impl Abort,
+    alloc: Global,
+    disk: &MemoryDisk,
+    wanted: Wanted,
+) -> Result<(), Fail> {
+    compare(rt, &show(alloc, disk)?, wanted);
+    Ok(())
+}
+
 #[test]
 fn a_text_that_is_not_written_is_kept_all_the_same(rt: HostRuntime) -> Result<(), Fail> {
     let lines = b"start c1\nfire c1 invite addr=tel:5551\n";
     let ran = run_alone(rt.alloc(), PLAY, lines, UNWRITTEN)?;
     assert_eq!(rt; ran.code, 6);
-    let shown = show(rt.alloc(), &ran.disk)?;
-    compare(&rt, &shown, RINGING);
-    Ok(())
+    expect_shown(&rt, rt.alloc(), &ran.disk, RINGING)
 }

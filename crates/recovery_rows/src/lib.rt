@@ -2,11 +2,11 @@
 #![tactic(auto)]
 
 #[cfg(test)]
-mod comparing;
-#[cfg(test)]
 mod foreign_journals;
 #[cfg(test)]
 mod journal;
+#[cfg(test)]
+mod playing;
 #[cfg(test)]
 mod stops;
 #[cfg(test)]

@@ -1,11 +1,10 @@
 //! A disk that fails, and what a stop in any of its calls leaves.
 use slee_disk::MemoryDisk;
-use slee_value::Blob;
 use std::alloc::Global;
 use std::process::Abort;
 use std::test::Fail;
 use whole_runs::one_call::{CALL, PLAY, SHOW, SHOWN, show};
-use whole_runs::running::{SOUND, run_alone, run_over, text_of};
+use whole_runs::running::{SOUND, failing_disk, run_alone, run_over, text_of};
 
 // How many entries the text has: the lines that begin with a number.
 fn entries_of(text: &str) -> usize {
@@ -23,18 +22,17 @@ fn is_shown(text: &str, entries: usize) -> bool {
 }
 
 // A disk whose call of this number fails.
-fn failing_disk(alloc: Global, call: u64) -> Result<MemoryDisk, Fail> {
+fn disk_failing_at(alloc: Global, call: u64) -> Result<MemoryDisk, Fail> {
     let mut fails = Vec::new(alloc);
     for k in 1..=call {
         fails.push(u8::from(k == call))?;
     }
-    let blank = Blob::new(alloc);
-    Ok(MemoryDisk::new(alloc, blank, Blob::new(alloc), Blob::from(fails))?)
+    Ok(failing_disk(alloc, &fails)?)
 }
 
 // The acknowledged entries are kept, or one more, which may have reached the disk before it was acknowledged.
 fn expect_kept(rt: &impl Abort, alloc: Global, call: u64) -> Result<(), Fail> {
-    let ran = run_over(alloc, PLAY, CALL, failing_disk(alloc, call)?)?;
+    let ran = run_over(alloc, PLAY, CALL, disk_failing_at(alloc, call)?)?;
     assert_eq!(rt; ran.code, 7, "at call {call}");
     assert!(rt;
         text_of(&ran).ends_with("status 7 disk-fault\n"),

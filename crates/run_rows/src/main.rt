@@ -3,18 +3,12 @@
 //! a line of its own; an empty line ends it. With a number behind its name the program runs the first row so many times.
 #![tactic(auto)]
 
-mod answers;
-mod effects;
-mod numbers;
 mod report;
 mod rows;
 mod running;
-mod state_keys;
-mod trouble;
-mod values;
 
+use run_words::Trouble;
 use std::process::ExitCode;
-use trouble::Trouble;
 
 fn main(rt: HostRuntime) -> ExitCode {
     match rows::play(&rt) {

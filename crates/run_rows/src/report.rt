@@ -1,35 +1,23 @@
 //! How a run is printed.
 
-use crate::effects::write_effects;
-use crate::state_keys::write_key;
-use crate::trouble::Trouble;
-use handler_meaning::{FailKind, Key, Outcome};
+use handler_meaning::{FailKind, Outcome};
 use handler_run::{Run, word_of};
+use run_words::{write_effects, write_key, write_keys};
 use slee_effect::Effect;
-use std::alloc::AllocError;
+use std::alloc::{AllocError, Global};
 
 /// Writes how a run ended. The text of a failure is told where it isn't the word of its kind.
 fn write_outcome(line: &mut String, outcome: Outcome, failure: &str) -> Result<(), AllocError> {
-    let expected = match outcome {
-        Outcome::Fine => {
-            write!(line, "fine")?;
-            ""
-        }
-        Outcome::Asked => {
-            write!(line, "asked")?;
-            "asked"
-        }
-        Outcome::Broken(FailKind::Thrown) => {
-            let between = if failure.is_empty() { "" } else { " " };
-            write!(line, "failed thrown{between}{failure}")?;
-            failure
-        }
-        Outcome::Broken(kind) => {
-            write!(line, "failed {}", word_of(kind))?;
-            word_of(kind)
-        }
+    let (told, word) = match outcome {
+        Outcome::Fine => ("fine", ""),
+        Outcome::Asked => ("", "asked"),
+        Outcome::Broken(FailKind::Thrown) if failure.is_empty() => ("failed thrown", ""),
+        Outcome::Broken(FailKind::Thrown) => ("failed thrown ", failure),
+        Outcome::Broken(kind) => ("failed ", word_of(kind)),
     };
-    if failure == expected {
+    line.push_str(told)?;
+    line.push_str(word)?;
+    if failure == word {
         Ok(())
     } else {
         write!(line, " with the failure {failure:?}")
@@ -44,27 +32,16 @@ fn write_end(
     effects: &[Effect],
 ) -> Result<(), AllocError> {
     write_outcome(line, outcome, failure)?;
-    write!(line, ":")?;
+    line.push(':')?;
     write_effects(line, effects)
 }
 
-/// Writes keys, one behind another.
-fn write_keys(line: &mut String, keys: &[Key]) -> Result<(), AllocError> {
-    let mut between = "";
-    for key in keys {
-        write!(line, "{between}")?;
-        write_key(line, key)?;
-        between = ", ";
-    }
-    Ok(())
-}
-
-/// Prints what a run comes to: how it ended with its effects, and the keys that it read; or the key that it lacks.
-pub(crate) fn print_run(rt: &HostRuntime, run: &Run) -> Result<(), Trouble> {
-    let mut line = String::new(rt.alloc());
+/// What a run comes to: how it ended with its effects, and the keys that it read; or the key that it lacks.
+pub(crate) fn report_of(alloc: Global, run: &Run) -> Result<String, AllocError> {
+    let mut line = String::new(alloc);
     match run {
         Run::Need(key) => {
-            write!(line, "need ")?;
+            line.push_str("need ")?;
             write_key(&mut line, key)?;
         }
         Run::Done {
@@ -73,12 +50,12 @@ pub(crate) fn print_run(rt: &HostRuntime, run: &Run) -> Result<(), Trouble> {
             effects,
             keys,
         } => {
-            let mut end = String::new(rt.alloc());
+            let mut end = String::new(alloc);
             write_end(&mut end, *outcome, failure.as_str(), effects.as_slice())?;
-            write!(line, "{} | ", end.trim_end())?;
+            line.push_str(end.trim_end())?;
+            line.push_str(" | ")?;
             write_keys(&mut line, keys.as_slice())?;
         }
     }
-    println!(rt; "{}", line.trim_end())?;
-    Ok(())
+    Ok(line)
 }

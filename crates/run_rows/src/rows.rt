@@ -1,20 +1,13 @@
 //! The rows of the input.
+ghost use Rattle.script_types.specs.ProgramOf.{IsChecked};
 
-use crate::answers::learn;
-use crate::report::print_run;
+use crate::report::report_of;
 use crate::running::{Ground, run_exception, run_handler};
-use crate::trouble::Trouble;
-use deploy_json::{Checked, read_deployment};
+use deploy_json::{ReadFault, read_deployment};
 use handler_run::{Known, Run};
+use run_words::{Trouble, read_answer};
 use std::alloc::Global;
-use std::{env, io};
-
-/// The deployment of the latest row, with its text.
-#[derive(Drop)]
-struct Latest<'a> {
-    source: &'a str,
-    checked: Checked,
-}
+use std::{env, io, mem};
 
 /// Runs each row, or the first so many times.
 pub(crate) fn play(rt: &HostRuntime) -> Result<(), Trouble> {
@@ -22,100 +15,81 @@ pub(crate) fn play(rt: &HostRuntime) -> Result<(), Trouble> {
     match env::args(rt)?.nth(1) {
         None => play_all(rt, &text),
         Some(word) => match word.parse::<u32>() {
-            Ok(count) => repeat(rt, &text, count),
+            Ok(times) => repeat_first(rt, &text, times),
             Err(_) => Err(Trouble::Words),
         },
     }
 }
 
+/// Prints what each row comes to.
 fn play_all(rt: &HostRuntime, text: &str) -> Result<(), Trouble> {
-    let mut latest = None;
-    let mut lines = Vec::new(rt.alloc());
-    for line in text.lines() {
-        if line.is_empty() {
-            latest = Some(play_row(rt, latest, lines.as_slice())?);
-            lines.clear();
-        } else {
-            lines.push(line)?;
+    for row in text.split_terminator("\n\n") {
+        if let Some(run) = run_row(rt.alloc(), row, 1)? {
+            println!(rt; "{}", report_of(rt.alloc(), &run)?.trim_end())?;
         }
     }
     Ok(())
 }
 
-/// The deployment of a text. It isn't read again where the row before has it too.
-fn deployment_of<'a>(
-    alloc: Global,
-    latest: Option<Latest<'a>>,
-    source: &'a str,
-) -> Result<Latest<'a>, Trouble> {
-    if let Some(kept) = latest {
-        if kept.source == source {
-            return Ok(kept);
-        }
+/// Runs the first row so many times, and prints their number.
+fn repeat_first(rt: &HostRuntime, text: &str, times: u32) -> Result<(), Trouble> {
+    if let Some((row, _)) = text.split_once("\n\n") {
+        run_row(rt.alloc(), row, times)?;
     }
-    let checked = read_deployment(alloc, source.as_bytes())?;
-    Ok(Latest { source, checked })
+    println!(rt; "{times}")?;
+    Ok(())
+}
+
+/// Runs a row so many times, and gives the last run.
+fn run_row(alloc: Global, row: &str, times: u32) -> Result<Option<Run>, Trouble> {
+    let Some((source, row)) = row.split_once('\n') else {
+        return Err(Trouble::Words);
+    };
+    let (what, answers) = row.split_once('\n').unwrap_or((row, ""));
+    let known = known_by(alloc, answers)?;
+    let checked = match read_deployment(alloc, source.as_bytes()) {
+        Ok(checked) => checked,
+        Err(ReadFault::NoMemory) => return Err(Trouble::Memory),
+        Err(_) => return Err(Trouble::Words),
+    };
+    let ground = Ground {
+        alloc,
+        codes: checked.deployment().codes(),
+        known: &known,
+    };
+    let run = repeat(&ground, what, times);
+    // A deployment is never freed: a program of rows ends soon.
+    mem::forget(checked);
+    run
 }
 
 /// What is known by lines of answers.
-fn known_by(alloc: Global, lines: &[&str]) -> Result<Known, Trouble> {
+fn known_by(alloc: Global, lines: &str) -> Result<Known, Trouble> {
     let mut known = Known::new(alloc);
-    for line in lines {
-        learn(alloc, &mut known, line)?;
+    for line in lines.lines() {
+        let (key, seen) = read_answer(alloc, line)?;
+        known.push(key, seen)?;
     }
     Ok(known)
 }
 
-fn run_of(ground: &Ground, what: &str) -> Result<Run, Trouble> {
+/// The last of so many runs.
+fn repeat(ground: &Ground, what: &str, times: u32) -> Result<Option<Run>, Trouble>
+    requires { IsChecked ground.now.codes.now }
+{
+    let mut last = None;
+    for _ in 0..times {
+        last = Some(run_of(ground, what)?);
+    }
+    Ok(last)
+}
+
+fn run_of(ground: &Ground, what: &str) -> Result<Run, Trouble>
+    requires { IsChecked ground.now.codes.now }
+{
     match what {
         "handler" => run_handler(ground),
         "exception" => run_exception(ground),
         _ => Err(Trouble::Words),
     }
-}
-
-/// Prints what the lines of a row come to, and gives its deployment.
-fn play_row<'a>(
-    rt: &HostRuntime,
-    latest: Option<Latest<'a>>,
-    lines: &[&'a str],
-) -> Result<Latest<'a>, Trouble> {
-    let [source, what, answers @ ..] = lines else {
-        return Err(Trouble::Words);
-    };
-    let kept = deployment_of(rt.alloc(), latest, source)?;
-    let known = known_by(rt.alloc(), answers)?;
-    let ground = Ground {
-        alloc: rt.alloc(),
-        checked: &kept.checked,
-        known: &known,
-    };
-    print_run(rt, &run_of(&ground, what)?)?;
-    Ok(kept)
-}
-
-/// Runs the first row so many times, and prints their number.
-fn repeat(rt: &HostRuntime, text: &str, count: u32) -> Result<(), Trouble> {
-    let mut lines = Vec::new(rt.alloc());
-    for line in text.lines() {
-        if line.is_empty() {
-            break;
-        }
-        lines.push(line)?;
-    }
-    let [source, what, answers @ ..] = lines.as_slice() else {
-        return Err(Trouble::Words);
-    };
-    let kept = deployment_of(rt.alloc(), None, source)?;
-    let known = known_by(rt.alloc(), answers)?;
-    let ground = Ground {
-        alloc: rt.alloc(),
-        checked: &kept.checked,
-        known: &known,
-    };
-    for _ in 0..count {
-        run_of(&ground, what)?;
-    }
-    println!(rt; "{count}")?;
-    Ok(())
 }

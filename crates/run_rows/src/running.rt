@@ -1,13 +1,12 @@
 //! Runs of the scripts of a row.
 ghost use Rattle.std.specs.Prelude.{◌≡◌, is_some, map, slice_get};
-ghost use Rattle.script_types.specs.ProgramOf.{block_program_of, kept_program};
+ghost use Rattle.script_types.specs.ProgramOf.{IsChecked, block_program_of, kept_program};
 ghost use Rattle.handler_meaning.specs.Meaning.{script_in};
 ghost use Rattle.handler_run.specs.Scripts.{script_of};
 
-use crate::trouble::Trouble;
-use deploy_json::Checked;
 use handler_meaning::{Args, Part, Which};
 use handler_run::{Before, Keys, Known, Run, run_script};
+use run_words::Trouble;
 use script_types::{BlockSteps, Codes, HandlerSteps};
 use slee_effect::Effects;
 use slee_value::{ActivityId, EntityId, Name, Payload, Text, Value};
@@ -28,7 +27,7 @@ const KEY_LIMIT: usize = 64;
 #[derive(Drop)]
 pub(crate) struct Ground<'a> {
     pub(crate) alloc: Global,
-    pub(crate) checked: &'a Checked,
+    pub(crate) codes: &'a Codes,
     pub(crate) known: &'a Known,
 }
 
@@ -96,15 +95,11 @@ fn event_fields(alloc: Global) -> Result<Payload, Trouble> {
 }
 
 #[tactic(auto, using(crate::proofs::ScriptLemmas::there))]
-fn run_part(
-    ground: &Ground,
-    part: Part,
-    arguments: &Args,
-    before: &Before,
-) -> Result<Run, Trouble> {
+fn run_part(ground: &Ground, part: Part, arguments: &Args, before: &Before) -> Result<Run, Trouble>
+    requires { IsChecked ground.now.codes.now }
+{
     let which = Which { block: BLOCK, part };
-    let codes = ground.checked.deployment().codes();
-    if !has_script(codes, which) {
+    if !has_script(ground.codes, which) {
         return Err(Trouble::Words);
     }
     if before.effects.len() > EFFECT_LIMIT || before.keys.len() > KEY_LIMIT {
@@ -113,7 +108,7 @@ fn run_part(
     let me = EntityId(1);
     Ok(run_script(
         ground.alloc,
-        codes,
+        ground.codes,
         which,
         me,
         arguments,
@@ -123,9 +118,11 @@ fn run_part(
 }
 
 /// The handler's run.
-pub(crate) fn run_handler(ground: &Ground) -> Result<Run, Trouble> {
+pub(crate) fn run_handler(ground: &Ground) -> Result<Run, Trouble>
+    requires { IsChecked ground.now.codes.now }
+{
     let alloc = ground.alloc;
-    let place = handler_place(ground.checked.deployment().codes().programs.as_slice())?;
+    let place = handler_place(ground.codes.programs.as_slice())?;
     let arguments = Args {
         activity: ActivityId(1),
         fields: event_fields(alloc)?,
@@ -139,7 +136,9 @@ pub(crate) fn run_handler(ground: &Ground) -> Result<Run, Trouble> {
 }
 
 /// The run of the exception callback behind the handler's.
-pub(crate) fn run_exception(ground: &Ground) -> Result<Run, Trouble> {
+pub(crate) fn run_exception(ground: &Ground) -> Result<Run, Trouble>
+    requires { IsChecked ground.now.codes.now }
+{
     match run_handler(ground)? {
         Run::Done {
             outcome: _,

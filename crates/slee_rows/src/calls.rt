@@ -1,10 +1,10 @@
 //! Calls of the built-in service, and their traces.
-use crate::comparing::compare;
+use crate::playing::expect;
 use std::alloc::Global;
 use std::process::Abort;
 use std::test::Fail;
 use whole_runs::one_call::{CALL, CALL_TRACE};
-use whole_runs::running::{SOUND, Wanted, run_alone};
+use whole_runs::running::{SOUND, Wanted};
 
 // Lines that are played in so many entries at most, and what is printed.
 struct Row {
@@ -16,8 +16,7 @@ struct Row {
 fn play_each(rt: &impl Abort, alloc: Global, rows: &[Row]) -> Result<(), Fail> {
     for row in rows {
         let words = ["play", "1", row.steps];
-        let ran = run_alone(alloc, &words, row.lines.as_bytes(), SOUND)?;
-        compare(rt, &ran, row.wanted);
+        expect(rt, alloc, &words, row.lines.as_bytes(), SOUND, row.wanted)?;
     }
     Ok(())
 }

@@ -1,9 +1,9 @@
 //! Words of the command line, and what they are taken for.
-use crate::comparing::compare;
+use crate::playing::expect;
 use std::alloc::Global;
 use std::process::Abort;
 use std::test::Fail;
-use whole_runs::running::{Failing, Wanted, run_alone};
+use whole_runs::running::{Failing, Wanted};
 
 // Words are refused before anything is read.
 const NOTHING_READ: Failing<'static> = Failing {
@@ -28,8 +28,7 @@ fn expect_each(
     wanted: Wanted,
 ) -> Result<(), Fail> {
     for words in rows {
-        let ran = run_alone(alloc, words, b"start c1\n", NOTHING_READ)?;
-        compare(rt, &ran, wanted);
+        expect(rt, alloc, words, b"start c1\n", NOTHING_READ, wanted)?;
     }
     Ok(())
 }

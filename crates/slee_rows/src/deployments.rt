@@ -1,21 +1,15 @@
 //! Checks of deployments. No check reads the signals or touches the disk, each of which would fail at once.
-use crate::comparing::compare;
-use slee_disk::{MemoryDisk, MemorySink, MemorySource};
+use crate::playing::compare;
+use slee_disk::{MemorySink, MemorySource};
 use slee_value::{Blob, NoMemory};
 use std::alloc::Global;
 use std::process::Abort;
 use std::test::Fail;
-use whole_runs::running::{Failing, Ran, SOUND, Wanted, run_on, text_of};
+use whole_runs::running::{Failing, Ran, SOUND, Wanted, failing_disk, run_on, text_of};
 
 const CHECK: &[&str] = &["check"];
 
 const FIRST_FAILS: &[u8] = &[1];
-
-// A disk whose first call fails.
-fn failing_disk(alloc: Global) -> Result<MemoryDisk, NoMemory> {
-    let fails = Blob::from_slice(alloc, FIRST_FAILS)?;
-    MemoryDisk::new(alloc, Blob::new(alloc), Blob::new(alloc), fails)
-}
 
 // Checks a deployment that comes byte by byte, with these reads of it and these writes failing.
 fn check(alloc: Global, deployment: &[u8], failing: Failing<'_>) -> Result<Ran, NoMemory> {
@@ -23,12 +17,21 @@ fn check(alloc: Global, deployment: &[u8], failing: Failing<'_>) -> Result<Ran, 
     let deploy = MemorySource::new(deploy, 1, Blob::from_slice(alloc, failing.reads)?);
     let signals = MemorySource::new(Blob::new(alloc), 1, Blob::from_slice(alloc, FIRST_FAILS)?);
     let out = MemorySink::new(alloc, Blob::from_slice(alloc, failing.writes)?);
-    Ok(run_on(alloc, CHECK, deploy, signals, out, failing_disk(alloc)?))
+    let disk = failing_disk(alloc, FIRST_FAILS)?;
+    Ok(run_on(alloc, CHECK, deploy, signals, out, disk))
 }
 
-fn expect(rt: &impl Abort, ran: &Ran, wanted: Wanted) {
-    compare(rt, ran, wanted);
+fn expect(
+    rt: &impl Abort,
+    alloc: Global,
+    deployment: &[u8],
+    failing: Failing<'_>,
+    wanted: Wanted,
+) -> Result<(), Fail> {
+    let ran = check(alloc, deployment, failing)?;
+    compare(rt, &ran, wanted);
     assert_eq!(rt; ran.disk.calls(), 0);
+    Ok(())
 }
 
 // The deployment of prepaid calls but for the first line of its first script.
@@ -72,19 +75,12 @@ const SCRIPTS: &[(&str, Wanted)] = &[
     ),
 ];
 
-fn prepaid_with(alloc: Global, script: &str) -> Result<Vec<u8>, Fail> {
-    let mut text = Vec::from_slice(alloc, BEFORE.as_bytes())?;
-    text.extend_from_slice(script.as_bytes())?;
-    text.extend_from_slice(BEHIND.as_bytes())?;
-    Ok(text)
-}
-
 #[test]
 fn a_deployment_is_counted_or_its_first_script_fault_is_told(rt: HostRuntime) -> Result<(), Fail> {
+    let alloc = rt.alloc();
     for (script, wanted) in SCRIPTS {
-        let text = prepaid_with(rt.alloc(), script)?;
-        let ran = check(rt.alloc(), &text, SOUND)?;
-        expect(&rt, &ran, *wanted);
+        let text = format!(in alloc; "{BEFORE}{script}{BEHIND}")?;
+        expect(&rt, alloc, text.as_bytes(), SOUND, *wanted)?;
     }
     Ok(())
 }
@@ -155,21 +151,15 @@ const TEXTS: &[(&[u8], Wanted)] = &[
 #[test]
 fn the_first_fault_of_bytes_is_told(rt: HostRuntime) -> Result<(), Fail> {
     for (text, wanted) in TEXTS {
-        let ran = check(rt.alloc(), text, SOUND)?;
-        expect(&rt, &ran, *wanted);
+        expect(&rt, rt.alloc(), text, SOUND, *wanted)?;
     }
     Ok(())
 }
 
 // So many lists, one in another.
-fn nested(alloc: Global, depth: usize) -> Result<Vec<u8>, Fail> {
-    let mut text = Vec::new(alloc);
-    for _ in 0..depth {
-        text.push(b'[')?;
-    }
-    for _ in 0..depth {
-        text.push(b']')?;
-    }
+fn nested(alloc: Global, depth: usize) -> Result<String, NoMemory> {
+    let mut text = "[".repeat(alloc, depth)?;
+    text.push_str(&"]".repeat(alloc, depth)?)?;
     Ok(text)
 }
 
@@ -177,7 +167,7 @@ fn nested(alloc: Global, depth: usize) -> Result<Vec<u8>, Fail> {
 fn too_many_nested_lists_are_no_json(rt: HostRuntime) -> Result<(), Fail> {
     for (depth, wanted) in [(127, NO_OBJECT), (128, JSON)] {
         let text = nested(rt.alloc(), depth)?;
-        expect(&rt, &check(rt.alloc(), &text, SOUND)?, wanted);
+        expect(&rt, rt.alloc(), text.as_bytes(), SOUND, wanted)?;
     }
     Ok(())
 }
@@ -218,7 +208,7 @@ const FAULTS: &[(&[u8], &[u8], Wanted)] = &[
 fn a_fault_of_reading_or_writing_is_told(rt: HostRuntime) -> Result<(), Fail> {
     for (reads, writes, wanted) in FAULTS {
         let failing = Failing { reads, writes };
-        expect(&rt, &check(rt.alloc(), b"{}", failing)?, *wanted);
+        expect(&rt, rt.alloc(), b"{}", failing, *wanted)?;
     }
     Ok(())
 }
@@ -228,20 +218,14 @@ const TOO_LARGE: Wanted = Wanted {
     printed: "status 13 too-large deploy\n",
 };
 
-// An empty deployment with blanks behind it, in all so many bytes.
-fn filled(alloc: Global, length: usize) -> Result<Vec<u8>, Fail> {
-    let mut text = Vec::from_slice(alloc, b"{}")?;
-    for _ in 2..length {
-        text.push(b' ')?;
-    }
-    Ok(text)
-}
-
 #[test]
 fn a_deployment_has_a_megabyte_at_most(rt: HostRuntime) -> Result<(), Fail> {
+    let alloc = rt.alloc();
     for (length, wanted) in [(1_048_576, EMPTY), (1_048_577, TOO_LARGE)] {
-        let text = filled(rt.alloc(), length)?;
-        expect(&rt, &check(rt.alloc(), &text, SOUND)?, wanted);
+        // An empty deployment with blanks behind it, in all so many bytes.
+        let mut text = Vec::from_slice(alloc, b"{}")?;
+        text.resize(length, b' ')?;
+        expect(&rt, alloc, &text, SOUND, wanted)?;
     }
     Ok(())
 }

@@ -1,5 +1,5 @@
 //! Reads of the lines and writes of the text that fail.
-use crate::comparing::compare;
+use crate::playing::{PLAY, expect};
 use std::alloc::Global;
 use std::process::Abort;
 use std::test::Fail;
@@ -52,26 +52,16 @@ const ROWS: &[(&[u8], &[u8], Wanted)] = &[
 fn a_fault_of_reading_or_writing_is_told(rt: HostRuntime) -> Result<(), Fail> {
     for (reads, writes, wanted) in ROWS {
         let failing = Failing { reads, writes };
-        let ran = run_alone(rt.alloc(), &["play", "1", "100"], LINES, failing)?;
-        compare(&rt, &ran, *wanted);
+        expect(&rt, rt.alloc(), PLAY, LINES, failing, *wanted)?;
     }
     Ok(())
 }
 
-// 4,096 lines.
-fn many_lines(alloc: Global) -> Result<Vec<u8>, Fail> {
-    let mut lines = Vec::from_slice(alloc, b"start c1\n")?;
-    for _ in 0..12 {
-        let copy = lines.clone()?;
-        lines.extend_from_slice(&copy)?;
-    }
-    Ok(lines)
-}
-
+// Plays 4,096 lines.
 fn play_many(alloc: Global, writes: &[u8]) -> Result<Ran, Fail> {
-    let lines = many_lines(alloc)?;
+    let lines = "start c1\n".repeat(alloc, 4096)?;
     let failing = Failing { reads: &[], writes };
-    Ok(run_alone(alloc, &["play", "1", "4096"], &lines, failing)?)
+    Ok(run_alone(alloc, &["play", "1", "4096"], lines.as_bytes(), failing)?)
 }
 
 // A front of the whole text is out, and nothing where the first write fails.

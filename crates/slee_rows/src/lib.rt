@@ -8,8 +8,8 @@ mod calls;
 #[cfg(test)]
 mod command_words;
 #[cfg(test)]
-mod comparing;
-#[cfg(test)]
 mod deployments;
 #[cfg(test)]
 mod faults;
+#[cfg(test)]
+mod playing;

@@ -24,6 +24,12 @@ pub fn disk_of(alloc: Global, a: &[u8], b: &[u8]) -> Result<MemoryDisk, NoMemory
     MemoryDisk::new(alloc, a, b, Blob::new(alloc))
 }
 
+/// A disk on which nothing was written. Its k-th call fails where the k-th of `fails` is 1.
+pub fn failing_disk(alloc: Global, fails: &[u8]) -> Result<MemoryDisk, NoMemory> {
+    let fails = Blob::from_slice(alloc, fails)?;
+    MemoryDisk::new(alloc, Blob::new(alloc), Blob::new(alloc), fails)
+}
+
 /// A disk on which nothing was written.
 pub fn empty_disk(alloc: Global) -> Result<MemoryDisk, NoMemory> {
     disk_of(alloc, b"", b"")

@@ -1,13 +1,12 @@
 //! Why the rows aren't all run.
 
-use deploy_json::ReadFault;
 use slee_value::NoMemory;
-use std::alloc::{AllocError, AllocFailed};
+use std::alloc::AllocError;
 use std::io;
 
-/// Why the program stops.
+/// Why a program of rows stops.
 #[derive(Debug, Drop)]
-pub(crate) enum Trouble {
+pub enum Trouble {
     /// A row spells no run of a checked deployment, or the word behind the program's name is no number.
     Words,
     Memory,
@@ -26,23 +25,8 @@ impl From<AllocError> for Trouble {
     }
 }
 
-impl<T: Drop> From<AllocFailed<T>> for Trouble {
-    fn from(_: AllocFailed<T>) -> Self {
-        Trouble::Memory
-    }
-}
-
 impl From<io::Error> for Trouble {
     fn from(_: io::Error) -> Self {
         Trouble::Stream
-    }
-}
-
-impl From<ReadFault> for Trouble {
-    fn from(fault: ReadFault) -> Self {
-        match fault {
-            ReadFault::NoMemory => Trouble::Memory,
-            _ => Trouble::Words,
-        }
     }
 }

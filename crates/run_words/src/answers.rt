@@ -1,22 +1,12 @@
-//! Answers of rows.
+//! Keys with their answers, each pair a line.
 
+use crate::keys::key_of;
 use crate::numbers::{flag_of, integer_of, number_of};
-use crate::state_keys::key_of;
 use crate::trouble::Trouble;
 use crate::values::{name_of, text_of, value_of};
-use handler_meaning::{AcSeen, Ids, Seen};
-use handler_run::Known;
+use handler_meaning::{AcSeen, Ids, Key, Seen};
 use slee_value::{ActivityId, Names, Payload};
 use std::alloc::Global;
-
-/// The words of a text, one blank between two.
-fn words_in<'a>(alloc: Global, text: &'a str) -> Result<Vec<&'a str>, Trouble> {
-    let mut words = Vec::new(alloc);
-    for word in text.split(' ') {
-        words.push(word)?;
-    }
-    Ok(words)
-}
 
 fn ids_of(alloc: Global, words: &[&str]) -> Result<Ids, Trouble> {
     let mut ids = Ids::new(alloc);
@@ -26,17 +16,11 @@ fn ids_of(alloc: Global, words: &[&str]) -> Result<Ids, Trouble> {
     Ok(ids)
 }
 
-/// One name at most.
-fn names_of(alloc: Global, words: &[&str]) -> Result<Names, Trouble> {
+/// A list of one name.
+fn name_alone(alloc: Global, word: &str) -> Result<Names, Trouble> {
     let mut names = Names::new(alloc);
-    match words {
-        [] => Ok(names),
-        [word] => {
-            names.push(text_of(alloc, word)?)?;
-            Ok(names)
-        }
-        _ => Err(Trouble::Words),
-    }
+    names.push(text_of(alloc, word)?)?;
+    Ok(names)
 }
 
 /// A value and its name.
@@ -48,25 +32,14 @@ fn field_of(alloc: Global, name: &str, kind: &str, word: &str) -> Result<Payload
 
 /// What is seen of an activity.
 fn activity_seen(words: &[&str]) -> Result<AcSeen, Trouble> {
-    match words {
-        [] => Ok(AcSeen {
-            null: false,
-            ending: false,
-        }),
-        ["null"] => Ok(AcSeen {
-            null: true,
-            ending: false,
-        }),
-        ["ending"] => Ok(AcSeen {
-            null: false,
-            ending: true,
-        }),
-        ["null", "ending"] => Ok(AcSeen {
-            null: true,
-            ending: true,
-        }),
-        _ => Err(Trouble::Words),
-    }
+    let (null, ending) = match words {
+        [] => (false, false),
+        ["null"] => (true, false),
+        ["ending"] => (false, true),
+        ["null", "ending"] => (true, true),
+        _ => return Err(Trouble::Words),
+    };
+    Ok(AcSeen { null, ending })
 }
 
 /// What is seen, by its words.
@@ -80,7 +53,8 @@ fn seen_of(alloc: Global, words: &[&str]) -> Result<Seen, Trouble> {
         ["ac", words @ ..] => Ok(Seen::Ac(Some(activity_seen(words)?))),
         ["flag", word] => Ok(Seen::Flag(flag_of(word)?)),
         ["masks", "none"] => Ok(Seen::Masks(None)),
-        ["masks", "names", names @ ..] => Ok(Seen::Masks(Some(names_of(alloc, names)?))),
+        ["masks", "names"] => Ok(Seen::Masks(Some(Names::new(alloc)))),
+        ["masks", "names", word] => Ok(Seen::Masks(Some(name_alone(alloc, word)?))),
         ["refers", "none"] => Ok(Seen::Refers(None)),
         ["refers", word] => Ok(Seen::Refers(Some(ActivityId(number_of(word)?)))),
         ["row", "none"] => Ok(Seen::Row(None)),
@@ -91,13 +65,13 @@ fn seen_of(alloc: Global, words: &[&str]) -> Result<Seen, Trouble> {
     }
 }
 
-/// A line with a key and its answer is known.
-pub(crate) fn learn(alloc: Global, known: &mut Known, line: &str) -> Result<(), Trouble> {
+/// Reads a key and its answer from a line. Each is words with one blank between two.
+pub fn read_answer(alloc: Global, line: &str) -> Result<(Key, Seen), Trouble> {
     let Some((key, answer)) = line.split_once(" = ") else {
         return Err(Trouble::Words);
     };
-    let key = key_of(alloc, words_in(alloc, key)?.as_slice())?;
-    let seen = seen_of(alloc, words_in(alloc, answer)?.as_slice())?;
-    known.push(key, seen)?;
-    Ok(())
+    let words: Vec<&str> = key.split(' ').collect(alloc)?;
+    let key = key_of(alloc, words.as_slice())?;
+    let words: Vec<&str> = answer.split(' ').collect(alloc)?;
+    Ok((key, seen_of(alloc, words.as_slice())?))
 }

@@ -193,7 +193,7 @@ fn write_naming(line: &mut String, effect: &Effect) -> Result<(), AllocError> {
 }
 
 /// Writes effects, one behind another.
-pub(crate) fn write_effects(line: &mut String, effects: &[Effect]) -> Result<(), AllocError> {
+pub fn write_effects(line: &mut String, effects: &[Effect]) -> Result<(), AllocError> {
     let mut between = " ";
     for effect in effects {
         write!(line, "{between}")?;

@@ -41,7 +41,7 @@ fn key_of_two(alloc: Global, what: &str, one: &str, other: &str) -> Result<Key, 
 }
 
 /// Writes a key in the words of rows.
-pub(crate) fn write_key(line: &mut String, key: &Key) -> Result<(), AllocError> {
+pub fn write_key(line: &mut String, key: &Key) -> Result<(), AllocError> {
     match key {
         Key::Next(activity) => write!(line, "next {}", activity.0),
         Key::Field(entity, name) => write!(line, "field {} {}", entity.0, name.as_str()),
@@ -57,4 +57,15 @@ pub(crate) fn write_key(line: &mut String, key: &Key) -> Result<(), AllocError> 
         Key::Now => write!(line, "clock"),
         Key::Activities(entity) => write!(line, "activities {}", entity.0),
     }
+}
+
+/// Writes keys, one behind another.
+pub fn write_keys(line: &mut String, keys: &[Key]) -> Result<(), AllocError> {
+    let mut between = "";
+    for key in keys {
+        write!(line, "{between}")?;
+        write_key(line, key)?;
+        between = ", ";
+    }
+    Ok(())
 }
