@@ -117,109 +117,149 @@ const BAD: &[(&[u8], SignalBad)] = &[
     (b"profile-remove t r%", SignalBad::Escape),
 ];
 
-// The number of the first bad line and its fault; none where all lines are read.
-fn fault_of(alloc: Global, text: &[u8]) -> Result<Option<(u64, SignalBad)>, NoMemory> {
+// Texts of several lines, the number of the first bad one and its fault.
+const BAD_LATER: &[(&[u8], u64, SignalBad)] = &[
+    (b"\n", 1, SignalBad::Empty),
+    (b"start c1\n\n", 2, SignalBad::Empty),
+    (b"start c1\nstop c1\nend", 2, SignalBad::Verb),
+];
+
+// Whether the first bad line is that of this number, and has this fault.
+fn is_bad_at(alloc: Global, text: &[u8], number: u64, fault: SignalBad) -> Result<bool, NoMemory> {
     match read_signals(alloc, text) {
-        Ok(_) => Ok(None),
-        Err(SignalFault::At { line, kind }) => Ok(Some((line, kind))),
+        Ok(_) => Ok(false),
+        Err(SignalFault::At { line, kind }) => Ok(line == number && kind == fault),
         Err(SignalFault::NoMemory) => Err(NoMemory),
     }
 }
 
-// The lines of these signals, each ended by a newline.
-fn printed(alloc: Global, signals: &Signals) -> Result<Vec<u8>, Fail> {
-    let mut text = Vec::new(alloc);
-    for signal in signals.as_slice() {
-        print_signal(signal, &mut text)?;
-        text.push(b'\n')?;
+// How many lines are read; none where one is bad.
+fn count_of(alloc: Global, text: &[u8]) -> Result<Option<u64>, NoMemory> {
+    match read_signals(alloc, text) {
+        Ok(signals) => Ok(Some(signals.len())),
+        Err(SignalFault::At { .. }) => Ok(None),
+        Err(SignalFault::NoMemory) => Err(NoMemory),
     }
-    Ok(text)
 }
 
-fn is_line(text: &[u8], line: &[u8]) -> bool {
-    match text {
-        [front @ .., b'\n'] => front == line,
-        _ => false,
+// Adds the lines of these signals, each ended by a newline.
+fn print_lines(signals: &Signals, into: &mut Vec<u8>) -> Result<(), NoMemory> {
+    for signal in signals.as_slice() {
+        print_signal(signal, into)?;
+        into.push(b'\n')?;
     }
+    Ok(())
+}
+
+// Reads the text and prints what it says; nothing where a line is bad.
+fn print_again(alloc: Global, text: &[u8], into: &mut Vec<u8>) -> Result<(), NoMemory> {
+    match read_signals(alloc, text) {
+        Ok(signals) => print_lines(&signals, into),
+        Err(SignalFault::At { .. }) => Ok(()),
+        Err(SignalFault::NoMemory) => Err(NoMemory),
+    }
+}
+
+// Whether the text says what is printed as these lines.
+fn is_printed_as(alloc: Global, text: &[u8], lines: &[u8]) -> Result<bool, NoMemory> {
+    let mut printed = Vec::new(alloc);
+    print_again(alloc, text, &mut printed)?;
+    Ok(printed.as_slice() == lines)
+}
+
+// Whether the text is one line that is printed as it stands, with a newline behind it.
+fn is_one_line(alloc: Global, line: &[u8]) -> Result<bool, NoMemory> {
+    let mut ended = Vec::from_slice(alloc, line)?;
+    ended.push(b'\n')?;
+    Ok(count_of(alloc, line)? == Some(1) && is_printed_as(alloc, line, &ended)?)
 }
 
 #[test]
 fn lines_are_read_and_printed(rt: HostRuntime) -> Result<(), Fail> {
-    let alloc = rt.alloc();
     for line in GOOD {
-        let signals = read_signals(alloc, line)?;
-        assert_eq!(rt; signals.as_slice().len(), 1);
-        assert!(rt; is_line(&printed(alloc, &signals)?, line));
+        assert!(rt; is_one_line(rt.alloc(), line)?);
     }
     Ok(())
 }
 
 #[test]
 fn bad_lines_are_told_by_their_first_fault(rt: HostRuntime) -> Result<(), Fail> {
-    let alloc = rt.alloc();
-    for (line, kind) in BAD {
-        assert_eq!(rt; fault_of(alloc, line)?, Some((1, *kind)));
+    for (line, fault) in BAD {
+        assert!(rt; is_bad_at(rt.alloc(), line, 1, *fault)?);
     }
     Ok(())
 }
 
 #[test]
 fn the_first_bad_line_is_told(rt: HostRuntime) -> Result<(), Fail> {
-    let alloc = rt.alloc();
-    assert_eq!(rt; fault_of(alloc, b"")?, None);
-    assert_eq!(rt; fault_of(alloc, b"\n")?, Some((1, SignalBad::Empty)));
-    assert_eq!(rt;
-        fault_of(alloc, b"start c1\n\n")?,
-        Some((2, SignalBad::Empty))
-    );
-    assert_eq!(rt;
-        fault_of(alloc, b"start c1\nstop c1\nend")?,
-        Some((2, SignalBad::Verb))
-    );
+    for (text, number, fault) in BAD_LATER {
+        assert!(rt; is_bad_at(rt.alloc(), text, *number, *fault)?);
+    }
     Ok(())
 }
 
 #[test]
 fn the_last_line_may_lack_its_newline(rt: HostRuntime) -> Result<(), Fail> {
-    let alloc = rt.alloc();
     let two = b"start c1\nend c1\n";
-    assert_eq!(rt;
-        printed(alloc, &read_signals(alloc, two)?)?.as_slice(),
-        two.as_slice()
-    );
-    assert_eq!(rt;
-        read_signals(alloc, b"start c1\nend c1")?.as_slice().len(),
-        2
-    );
-    assert_eq!(rt; read_signals(alloc, b"")?.as_slice().len(), 0);
+    assert!(rt; is_printed_as(rt.alloc(), two, two)?);
+    assert!(rt; is_printed_as(rt.alloc(), b"start c1\nend c1", two)?);
+    assert!(rt; count_of(rt.alloc(), b"start c1\nend c1")? == Some(2));
+    assert!(rt; count_of(rt.alloc(), b"")? == Some(0));
     Ok(())
 }
 
-// An invite whose line has so many bytes.
-fn invite_of_length(alloc: Global, length: usize) -> Result<Vec<u8>, Fail> {
+// An invite whose line has so many bytes, and what stands behind it.
+fn invite_of_length(alloc: Global, length: usize, behind: &[u8]) -> Result<Vec<u8>, NoMemory> {
     let mut line = Vec::from_slice(alloc, b"fire c1 invite addr=")?;
     line.resize(length, b'5')?;
+    line.extend_from_slice(behind)?;
     Ok(line)
+}
+
+// Whether an invite of this length is read.
+fn is_read_at_length(alloc: Global, length: usize, behind: &[u8]) -> Result<bool, NoMemory> {
+    let line = invite_of_length(alloc, length, behind)?;
+    Ok(count_of(alloc, &line)? == Some(1))
+}
+
+// Whether an invite of this length is refused as too long.
+fn is_long_at_length(alloc: Global, length: usize) -> Result<bool, NoMemory> {
+    let line = invite_of_length(alloc, length, b"")?;
+    is_bad_at(alloc, &line, 1, SignalBad::Long)
 }
 
 #[test]
 fn long_lines_are_refused(rt: HostRuntime) -> Result<(), Fail> {
-    let alloc = rt.alloc();
-    let mut longest = invite_of_length(alloc, 4096)?;
-    assert_eq!(rt; read_signals(alloc, &longest)?.as_slice().len(), 1);
-    longest.push(b'\n')?;
-    assert_eq!(rt; read_signals(alloc, &longest)?.as_slice().len(), 1);
-    let longer = invite_of_length(alloc, 4097)?;
-    assert_eq!(rt; fault_of(alloc, &longer)?, Some((1, SignalBad::Long)));
+    assert!(rt; is_read_at_length(rt.alloc(), 4096, b"")?);
+    assert!(rt; is_read_at_length(rt.alloc(), 4096, b"\n")?);
+    assert!(rt; is_long_at_length(rt.alloc(), 4097)?);
     Ok(())
+}
+
+// Escaped texts, whether each is a word, and the text that was escaped, if there is one.
+const ESCAPED: &[(&str, bool, Option<&str>)] = &[
+    ("a b%25%0A", false, Some("a b%\n")),
+    ("a%20b", false, None),
+    ("a b", true, None),
+];
+
+// Whether this is what was escaped.
+fn is_unescaped(
+    alloc: Global,
+    text: &str,
+    word: bool,
+    escaped: Option<&str>,
+) -> Result<bool, NoMemory> {
+    match unescape(alloc, text, word)? {
+        Some(read) => Ok(escaped == Some(read.as_str())),
+        None => Ok(escaped.is_none()),
+    }
 }
 
 #[test]
 fn line_texts_are_unescaped(rt: HostRuntime) -> Result<(), Fail> {
-    let alloc = rt.alloc();
-    let read = unescape(alloc, "a b%25%0A", false)?;
-    assert!(rt; matches!(&read, Some(text) if text.as_str() == "a b%\n"));
-    assert!(rt; unescape(alloc, "a%20b", false)?.is_none());
-    assert!(rt; unescape(alloc, "a b", true)?.is_none());
+    for (text, word, escaped) in ESCAPED {
+        assert!(rt; is_unescaped(rt.alloc(), text, *word, *escaped)?);
+    }
     Ok(())
 }
