@@ -2,12 +2,14 @@
 ghost use Rattle.std.specs.Prelude.{◌≡◌, ◌≤◌};
 ghost use Rattle.script_types.specs.declared.term.Question.TheVariants as q;
 ghost use Rattle.handler_meaning.specs.Terms.{ask, is_active};
-ghost use Rattle.script_machine.specs.Agreeing.{Agrees};
+ghost use Rattle.handler_meaning.specs.Values.{int};
+ghost use Rattle.script_machine.specs.Agreeing.{Agrees, EndsFinding};
+ghost use Rattle.script_machine.specs.Kinds.{NoInt};
 ghost use Rattle.script_machine.specs.Settings.{setting_of};
 
 use handler_meaning::AcSeen;
 use script_machine::{Machine, Scene, Stop, activity_of};
-use script_reading::{attached, attribute, is_masked, state_of, used};
+use script_reading::{attached, attribute, attribute_number, is_masked, state_of, used};
 use slee_effect::Val;
 use slee_value::{Kind, Text, Value};
 
@@ -57,6 +59,23 @@ pub(crate) fn ask_attribute(
     let activity = activity_of(x)?;
     used(machine, scene, activity)?;
     attribute(machine, scene, key, kind, activity)
+}
+
+/// The number that `attr(a, NAME)` gives, if it gives one.
+#[tactic(auto, using(script_machine::proofs::KindLemmas::no_activity_stays, script_machine::proofs::KindLemmas::activity_given))]
+pub(crate) fn ask_attribute_number(
+    machine: &mut Machine,
+    scene: &Scene,
+    key: &Text,
+    kind: Kind,
+    x: &Val,
+) -> Result<Option<i64>, Stop>
+    ensures finds { EndsFinding int NoInt (ask (setting_of scene.now) (q.Attribute key.now kind) x.now machine.old) machine.new result }
+    ensures spent { machine.new.left ≤ machine.old.left }
+{
+    let activity = activity_of(x)?;
+    used(machine, scene, activity)?;
+    attribute_number(machine, scene, key, kind, activity)
 }
 
 /// `masked(TEXT, a)`

@@ -12,6 +12,7 @@ ghost use Rattle.script_machine.specs.Settings.{setting_of};
 ghost use Rattle.script_reading.specs.Lending.{value_lent};
 ghost use Rattle.term_run.specs.Links.{linked, chained, asked, compared, applied, joined_pair};
 
+use crate::asked_activities::ask_attribute_number;
 use crate::atoms::{join, join_single, single, single_flag, single_length, single_number};
 use crate::chains::spend;
 use crate::questions::ask;
@@ -112,6 +113,10 @@ fn asked_number(
     let (question, term) = parts;
     match question {
         Question::Len => Ok(Some(eval_length(machine, scene, term)?)),
+        Question::Attribute(key, kind) => {
+            let x = eval(machine, scene, term)?;
+            ask_attribute_number(machine, scene, key, *kind, &x)
+        }
         _ => {
             let x = eval(machine, scene, term)?;
             let y = ask(machine, scene, question, &x)?;
