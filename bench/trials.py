@@ -27,7 +27,7 @@ import subprocess
 import sys
 import tempfile
 import threading
-from concurrent.futures import ThreadPoolExecutor, as_completed
+from concurrent.futures import ThreadPoolExecutor
 
 TOP = os.path.dirname(os.path.dirname(os.path.abspath(__file__)))
 LINE = re.compile(r"^rt: must-fail (\w+)/(\S+)\.edit: (refused|NOT REFUSED|BAD EDIT)(.*)")
@@ -204,15 +204,17 @@ class Lane:
 
 
 def tried_quickly(lane, crates, crate, given):
-    """Returns each wrong body's name with its verdict and what the prover said first."""
-    folder, answers = lane.clone(crates, crate), {}
+    """Gives each wrong body's name with its verdict and what the prover said first, as soon as it is known."""
+    folder = lane.clone(crates, crate)
     places = [os.path.join(folder, "trials", crate)] + [os.path.join(folder, "crates", crate, "must-fail")] * given.gate
     left = []
     for edit in [it for place in places for it in edits_of(place) if is_chosen(it, given)]:
         name, why = os.path.basename(edit)[: -len(".edit")], unfit(folder, crate, edit)
         said = ("BROKEN", why) if why else looked_at(folder, crate, edit)
-        left += [] if said else [edit]
-        answers[name] = said or ("PROVED", "")
+        if said:
+            yield name, said
+        else:
+            left.append(edit)
     if left:
         place = os.path.join(folder, "crates", crate, "must-fail")
         kept = {edit: open(edit, encoding="utf-8").read() for edit in left}
@@ -221,9 +223,8 @@ def tried_quickly(lane, crates, crate, given):
         for edit, text in kept.items():
             with open(os.path.join(place, os.path.basename(edit)), "w", encoding="utf-8") as f:
                 f.write(text)
-        answers.update(tried(folder, crate))
+        yield from tried(folder, crate).items()
         subprocess.run(["git", "checkout", "-q", "--", "."], cwd=folder, check=True)
-    return answers
 
 
 def is_chosen(edit, given):
@@ -239,13 +240,17 @@ def play_quickly(room, folder, given):
 
 def told(call, chosen, given):
     """Prints what is said of each wrong body of these crates, as it comes, and returns the status."""
-    counts = dict.fromkeys(VERDICTS.values(), 0)
-    with ThreadPoolExecutor(given.jobs) as pool:
-        runs = {pool.submit(call, it): it for it in chosen}
-        for run in as_completed(runs):
-            for name, (verdict, said) in sorted(run.result().items()):
+    counts, printing = dict.fromkeys(VERDICTS.values(), 0), threading.Lock()
+
+    def tell(crate):
+        for name, (verdict, said) in call(crate):
+            with printing:
                 counts[verdict] += 1
-                print(f"{verdict:7} {runs[run]}/{name}  {said[:200]}", flush=True)
+                print(f"{verdict:7} {crate}/{name}  {said[:200]}", flush=True)
+
+    with ThreadPoolExecutor(given.jobs) as pool:
+        for run in [pool.submit(tell, it) for it in chosen]:
+            run.result()
     print(", ".join(f"{count} {verdict}" for verdict, count in counts.items()))
     return 0 if counts["refused"] and sum(counts.values()) == counts["refused"] else 1
 
@@ -263,7 +268,7 @@ def play(folder, given):
         build(folder, crate)
     for crate in chosen:
         prepare(folder, crate, given.gate)
-    return told(lambda it: tried(folder, it), chosen, given)
+    return told(lambda it: tried(folder, it).items(), chosen, given)
 
 
 def main():
