@@ -3,6 +3,7 @@
 
 mod changing;
 mod cutting;
+mod joining;
 mod leaf;
 mod leaves;
 mod putting;
