@@ -1,5 +1,5 @@
 -- What changes of rows leave of their index.
-use Rattle.std.proofs.Common.{◌≡◌, ℕ, ◌+◌, ◌<◌, ◌==◌, Bool, true, false, cond, List, [], ◌∷◌, Some, map, length, refl, sym, ap, ◌∙◌, arith, inl, inr}
+use Rattle.std.proofs.Common.{◌≡◌, ℕ, ◌+◌, ◌<◌, ◌==◌, Bool, true, false, cond, List, [], ◌∷◌, Some, map, refl, sym, ap, ◌∙◌, arith, inl, inr}
 use Rattle.std.specs.Prelude.{◌&&◌}
 use Rattle.std.specs.List.{AllByRecursion, filter, find, insert, prefix_len, sum_by}
 use Rattle.std.proofs.lemmas.Bool.{cases_Bool, and_parts}
@@ -40,9 +40,6 @@ sum_put key f x rows rises absent =
     ap (sum_by f) (sym is) ∙ sum_by-IsPermutation f (x ∷ rows) (insert rows place x) (IsPermutation-insert rows place x) ∙ sum_by-cons f x rows
 
 module _ {Row : Type 0} (entry : Row → Entry) where
-  pub index_empty : IsIndex entry [] []
-  index_empty = record { rises = refl; same = λ f. refl }
-
   -- where no row's entry passes, no entry does
   pub entries_fail : (q : Entry → Bool) (rows : List Row) (entries : List Entry) → IsIndex entry rows entries → AllByRecursion (λ row. q (entry row) ≡ false) rows → AllByRecursion (λ e. q e ≡ false) entries
   entries_fail q rows entries index none = none_passes q entries (index.same (one_if q) ∙ none_counted (λ row. q (entry row)) rows none)
@@ -81,14 +78,6 @@ module _ {Row : Type 0} (entry : Row → Entry) where
         ∙ sum_agree (λ row. f (entry row)) (λ row. f (entry (g row))) rows (all_from_all (λ row. entry (g row) ≡ entry row) (λ row. f (entry row) ≡ f (entry (g row))) (λ row is. ap f (sym is)) rows keeps)
         ∙ sym (sum_mapped (λ row. f (entry row)) g rows);
   }
-
-  -- there are as many entries as rows
-  pub index_length : (rows : List Row) (entries : List Entry) → IsIndex entry rows entries → length entries ≡ length rows
-  index_length rows entries index = sym (sum_ones entries) ∙ index.same (λ e. 1) ∙ sum_ones rows
-    where
-      sum_ones : {X : Type 0} (xs : List X) → sum_by (λ x. 1) xs ≡ length xs
-      sum_ones [] = refl
-      sum_ones (x ∷ xs) = let step = sum_by-cons (λ y. 1) x xs in let more = sum_ones xs in omega (arith, step, more)
 
   -- the first of the entries that pass is that of a row
   pub first_has_row : (P : Row → Type 0) (q : Entry → Bool) (rows : List Row) (entries : List Entry) (e : Entry) → IsIndex entry rows entries → AllByRecursion P rows → find q entries ≡ Some e
