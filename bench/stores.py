@@ -47,8 +47,11 @@ CALLS = (
     ("timers", "advance"),
     ("timers", "cancel_all"),
     ("timers", "cancel"),
+    ("timers", "cancel_middle"),
     ("timers", "cancel_oldest"),
     ("timers", "fire"),
+    ("timers", "repeat"),
+    ("timers", "repeat_middle"),
     ("profiles", "get"),
     ("profiles", "test_add"),
 )

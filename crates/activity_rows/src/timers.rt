@@ -178,3 +178,56 @@ fn a_timer_without_a_period_occurs_again_at_its_moment(rt: HostRuntime) -> Resul
     assert_eq!(rt; timers.len(), 0);
     Ok(())
 }
+
+#[test]
+fn a_timer_that_stays_due_is_met_once(rt: HostRuntime) -> Result<(), Fail> {
+    let alloc = rt.alloc();
+    let mut timers = Timers::new(alloc);
+    set(&mut timers, spec(ONE, 0, 0, 3, Keep::All))?;
+    let first = Timer {
+        number: TimerId(0),
+        activity: TWO,
+        next: 0,
+        period: 0,
+        left: 2,
+        keep: Keep::All,
+    };
+    restore(&mut timers, first)?;
+    set(&mut timers, spec(ONE, 0, 5, 0, Keep::All))?;
+    set(&mut timers, spec(TWO, 3, 0, 2, Keep::All))?;
+    assert!(rt; is_due(alloc, &timers, 0, &[(0, 0), (0, 1), (0, 2)]));
+    timers.advance(0);
+    assert_eq!(rt; timers.at(0).left, 1);
+    assert_eq!(rt; timers.at(1).left, 2);
+    assert_eq!(rt; timers.at(2).next, 5);
+    timers.advance(4);
+    assert_eq!(rt; timers.len(), 3);
+    assert!(rt; is_due(alloc, &timers, 4, &[(0, 1), (3, 3)]));
+    timers.advance(5);
+    assert_eq!(rt; timers.len(), 1);
+    assert_eq!(rt; timers.at(0).next, 10);
+    Ok(())
+}
+
+#[test]
+fn many_timers_move_without_room(rt: HostRuntime) -> Result<(), Fail> {
+    let alloc = rt.alloc();
+    let mut timers = Timers::new(alloc);
+    for moment in 1..301 {
+        set(&mut timers, spec(ONE, moment, 1000, 0, Keep::Last))?;
+        set(&mut timers, spec(TWO, 1000 + moment, 7, 0, Keep::Last))?;
+    }
+    timers.advance(299);
+    assert_eq!(rt; count_of_due(alloc, &timers, 1000), Ok(1));
+    assert_eq!(rt; count_of_due(alloc, &timers, 1100), Ok(201));
+    for round in 0..200 {
+        timers.advance(1000 + 13 * round);
+    }
+    assert_eq!(rt; timers.len(), 600);
+    assert_eq!(rt; timers.at(1).next, 3591);
+    assert_eq!(rt; timers.at(598).next, 4300);
+    timers.cancel_all(TWO);
+    assert_eq!(rt; timers.len(), 300);
+    assert_eq!(rt; count_of_due(alloc, &timers, 4200), Ok(200));
+    Ok(())
+}

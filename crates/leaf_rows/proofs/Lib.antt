@@ -2,6 +2,7 @@ pub mod LastLemmas
 pub mod LeafLemmas
 pub mod PartLemmas
 pub mod JoinLemmas
+pub mod BehindLemmas
 pub mod SplitLemmas
 pub mod FirstLemmas
 pub mod ShareLemmas

@@ -91,7 +91,7 @@ module _ {Row : Type 0} (key : Row → Key) (k : Key) where
   pub high_apart : (zs : List Row) → High zs → AllByRecursion (λ z. is_key (key z) k ≡ false) zs
   high_apart zs high = all_from_all (λ z. key_before k (key z) ≡ true) (λ z. is_key (key z) k ≡ false) one_apart zs high
 
-  low_not_behind : (xs : List Row) → Low xs → AllByRecursion (λ x. key_before k (key x) ≡ false) xs
+  pub low_not_behind : (xs : List Row) → Low xs → AllByRecursion (λ x. key_before k (key x) ≡ false) xs
   low_not_behind xs low = all_from_all (λ x. key_before (key x) k ≡ true) (λ x. key_before k (key x) ≡ false) (parted_by_key key k).low_not_behind xs low
 
   high_not_low : (zs : List Row) → High zs → AllByRecursion (λ z. key_before (key z) k ≡ false) zs

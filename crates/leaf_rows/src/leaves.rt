@@ -6,6 +6,7 @@ ghost use Rattle.slee_state.specs.Orders.{put};
 ghost use Rattle.sorted_rows.specs.Keys.{Rises, is_key, is_pair, key_before};
 ghost use Rattle.sorted_rows.specs.Runs.{without_first};
 
+use crate::behind::row_behind;
 use crate::changing::change_in;
 use crate::cutting::{cut_first_from, cut_from, cut_share};
 use crate::joining::keep_spare;
@@ -145,6 +146,13 @@ impl<R: Keyed + Drop> Leaves<R> {
         ensures { result ≡ list_any (λ row. is_pair first second (R.key row)) self.now.rows }
     {
         reading::has_row_of(self.leaves.as_slice(), Share::Pair(first, second))
+    }
+
+    /// The first row whose key is behind this one.
+    pub fn row_behind(&self, first: u64, second: u64, text: &[u8]) -> Option<&R>
+        ensures { option_copied result ≡ find (λ row. key_before (record { first = first; second = second; text = text.now }) (R.key row)) self.now.rows }
+    {
+        row_behind(self.leaves.as_slice(), first, second, text)
     }
 
     /// The row at the place among all rows. It goes from leaf to leaf; `iter` is the way over all rows.

@@ -7,8 +7,8 @@ use Rattle.timer_facility.proofs.timer_rows.TimerRows.count_of_fired.Goals as go
 
 pub returns : goal.returns
 returns c =
-    let run = rw c.deref.ensures.value at c.entries_up_to-run.ensures in
-    let count = rw c.deref-2.ensures.value at c.count_of_all.ensures in
+    let run = c.rows_up_to-run.ensures in
+    let count = c.count_of_all.ensures in
     rw (← c.self.view_is)
-    (count ∙ ap (λ (run : List Entry). sum (map (fired_count_at c.self.inside.rows.items c.args.to) run)) run
-    ∙ count_is c.args.to c.self.inside.rows.items c.self.inside.by_moment.items c.self.invariant.rises c.self.invariant.moments)
+    (count ∙ ap (λ (run : List Entry). sum (map (fired_count_at c.self.inside.rows.rows c.args.to) run)) run
+    ∙ count_is c.args.to c.self.inside.rows.rows c.self.inside.by_moment.rows c.self.invariant.rises c.self.invariant.moments)

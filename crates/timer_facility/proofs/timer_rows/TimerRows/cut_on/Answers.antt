@@ -5,7 +5,7 @@ use Rattle.slee_state.specs.declared.rows.Timer.{Timer}
 use Rattle.sorted_rows.proofs.AgreeLemmas.{timer_order}
 use Rattle.row_index.proofs.RowLemmas.{all_stay, cut_fewer, each_fails}
 use Rattle.timer_facility.proofs.RowLemmas.{cut_on_later, found_there}
-use Rattle.timer_facility.proofs.timer_rows.TimerRows.cut_each_on.Goals as goal
+use Rattle.timer_facility.proofs.timer_rows.TimerRows.cut_on.Goals as goal
 
 pub timers-smaller : goal.timers-smaller
 timers-smaller c =
