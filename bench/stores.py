@@ -36,6 +36,8 @@ CALLS = (
     ("tree", "find"),
     ("tree", "children"),
     ("tree", "compare"),
+    ("tree", "create_child"),
+    ("tree", "set_priority"),
     ("contexts", "find"),
     ("contexts", "is_attached"),
     ("contexts", "attr"),
