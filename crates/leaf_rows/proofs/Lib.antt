@@ -1,0 +1,9 @@
+pub mod LastLemmas
+pub mod LeafLemmas
+pub mod PartLemmas
+pub mod JoinLemmas
+pub mod SplitLemmas
+pub mod FirstLemmas
+pub mod ShareLemmas
+pub mod RunLemmas
+pub mod CountLemmas
