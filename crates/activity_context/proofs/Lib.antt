@@ -2,3 +2,4 @@ pub mod EndLemmas
 pub mod LinkLemmas
 pub mod NameLemmas
 pub mod NamedLemmas
+pub mod PushLemmas

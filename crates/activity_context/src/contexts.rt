@@ -9,9 +9,9 @@ ghost use Rattle.activity_context.specs.Views.{HasRoom, activity_before, parts_o
 use crate::activities::Activities;
 use crate::names::Names;
 use crate::{AcFault, attributes, links};
+use leaf_rows::{Leaves, Run};
 use slee_state::{AcKind, Activity, Attribute, Link};
 use slee_value::{ActivityId, EntityId, Name, NoMemory, Text, Value};
-use sorted_rows::{cut_rows_of, row_of, rows_of};
 use std::alloc::Global;
 use std::marker::Model;
 
@@ -19,8 +19,8 @@ use std::marker::Model;
 #[derive(Drop)]
 pub struct Contexts {
     activities: Activities,
-    attributes: Vec<Attribute>,
-    links: Vec<Link>,
+    attributes: Leaves<Attribute>,
+    links: Leaves<Link>,
     names: Names,
     next: u64,
 }
@@ -48,8 +48,8 @@ impl Contexts {
     {
         Contexts {
             activities: Activities::new(alloc),
-            attributes: Vec::new(alloc),
-            links: Vec::new(alloc),
+            attributes: Leaves::new(alloc),
+            links: Leaves::new(alloc),
             names: Names::new(alloc),
             next: 1,
         }
@@ -65,7 +65,9 @@ impl Contexts {
     {
         let _next = self.next;
         self.activities.ordered();
-        self.names.rows();
+        self.names.rises();
+        self.attributes.rises();
+        self.links.rises();
     }
 
     /// Makes room for so many more rows in each list.
@@ -142,8 +144,8 @@ impl Contexts {
         ensures name_room { self.old.rooms.names ≤ self.new.rooms.names }
     {
         self.activities.cut(activity);
-        cut_rows_of(&mut self.attributes, activity.0);
-        cut_rows_of(&mut self.links, activity.0);
+        self.attributes.cut_rows_of(activity.0);
+        self.links.cut_rows_of(activity.0);
         self.names.cut_of(activity);
     }
 
@@ -271,7 +273,7 @@ impl Contexts {
     pub fn len(&self) -> u64
         ensures { result ≡ length self.now.activities }
     {
-        self.activities.rows().len() as u64
+        self.activities.len() as u64
     }
 
     /// The activity at this place; they rise by number.
@@ -279,7 +281,7 @@ impl Contexts {
         requires { place < length self.now.activities }
         ensures { slice_get self.now.activities place ≡ Some result.now }
     {
-        &self.activities.rows()[place as usize]
+        self.activities.at(place as usize)
     }
 
     /// How many attachments there are.
@@ -294,7 +296,7 @@ impl Contexts {
         requires { place < length self.now.links }
         ensures { option_map parts_of_link (slice_get self.now.links place) ≡ Some result }
     {
-        let row = &self.links[place as usize];
+        let row = self.links.at(place as usize);
         (row.entity, row.activity)
     }
 
@@ -302,7 +304,7 @@ impl Contexts {
     pub fn names_len(&self) -> u64
         ensures { result ≡ length self.now.names }
     {
-        self.names.rows().len() as u64
+        self.names.len() as u64
     }
 
     /// The name at this place, with its activity; they rise in byte order.
@@ -310,7 +312,7 @@ impl Contexts {
         requires { place < length self.now.names }
         ensures { option_map parts_of_name (slice_get self.now.names place) ≡ Some (result.0.now, result.1) }
     {
-        let row = &self.names.rows()[place as usize];
+        let row = self.names.at(place as usize);
         (&row.name, row.activity)
     }
 
@@ -326,7 +328,7 @@ impl Contexts {
         requires { place < length self.now.attributes }
         ensures { option_map parts_of_attribute (slice_get self.now.attributes place) ≡ Some (result.0, result.1.now, result.2.now) }
     {
-        let row = &self.attributes[place as usize];
+        let row = self.attributes.at(place as usize);
         (row.activity, &row.key, &row.value)
     }
 
@@ -358,7 +360,7 @@ impl Contexts {
     pub fn attr(&self, activity: ActivityId, key: &Text) -> Option<&Value>
         ensures { option_copied result ≡ attribute_at self.now.attributes activity.0 key.now }
     {
-        match row_of(&self.attributes, activity.0, 0, key.as_bytes()) {
+        match self.attributes.row_of(activity.0, 0, key.as_bytes()) {
             Some(row) => Some(&row.value),
             None => None,
         }
@@ -372,9 +374,9 @@ impl Contexts {
     }
 
     /// The attachments to the activity.
-    pub fn links_on(&self, activity: ActivityId) -> &[Link]
-        ensures { result.now ≡ links_on self.now.links activity.0 }
+    pub fn links_on(&self, activity: ActivityId) -> Run<'_, Link>
+        ensures { result ≡ links_on self.now.links activity.0 }
     {
-        rows_of(&self.links, activity.0)
+        self.links.rows_of(activity.0)
     }
 }

@@ -1,5 +1,5 @@
 //! Names of the naming facility that rise in byte order, counted by activity; clauses see them as a list, with the room.
-ghost use Rattle.std.specs.Prelude.{◌≡◌, ◌+◌, ◌-◌, ◌<◌, ◌≤◌, [], None, IsTrue, OnOk, find, vec_capacity, vec_len};
+ghost use Rattle.std.specs.Prelude.{◌≡◌, ◌+◌, ◌-◌, ◌<◌, ◌≤◌, [], length, None, Some, IsTrue, OnOk, find, slice_get, vec_capacity, vec_len};
 ghost use Rattle.std.specs.Str.{bytes_eq};
 ghost use Rattle.slee_state.specs.Orders.{put, rises_by};
 ghost use Rattle.slee_state.specs.Contexts.{name_before, named_at, with_name, without_name, without_names_of};
@@ -48,12 +48,26 @@ impl Names {
         }
     }
 
-    /// The names, in byte order.
-    pub fn rows(&self) -> &[Named]
-        ensures rows { result.now ≡ self.now.names }
-        ensures rises { IsTrue (rises_by name_before self.now.names) }
+    /// Passes on that the names rise.
+    pub fn rises(&self)
+        ensures { IsTrue (rises_by name_before self.now.names) }
     {
-        &self.rows
+        let _count = self.rows.len();
+    }
+
+    /// How many names there are.
+    pub fn len(&self) -> usize
+        ensures { result ≡ length self.now.names }
+    {
+        self.rows.len()
+    }
+
+    /// The name at this place, with its activity.
+    pub fn at(&self, place: usize) -> &Named
+        requires { place < length self.now.names }
+        ensures { slice_get self.now.names place ≡ Some result.now }
+    {
+        &self.rows[place]
     }
 
     /// Makes room for so many more names.

@@ -6,4 +6,4 @@ use Rattle.activity_context.proofs.EndLemmas.{number_stays}
 use Rattle.activity_context.proofs.activities.Activities.end.Goals as goal
 
 pub returns-clause-below : goal.returns-clause-below
-returns-clause-below c = λ n all. rw c.end_at_place.ensures.activities (below_map (λ (row : Activity). row.number.0) n (ends c.args.activity.0) (number_stays c.args.activity.0) c.args.self.now.activities all)
+returns-clause-below c = λ n all. rw c.end_in_place.ensures.activities (below_map (λ (row : Activity). row.number.0) n (ends c.args.activity.0) (number_stays c.args.activity.0) c.args.self.now.activities all)
