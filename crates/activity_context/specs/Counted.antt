@@ -14,10 +14,10 @@ name_keys row = row.activity.0 ∷ []
 abbrev pub names_seen : Inside → NamesView
 names_seen s = record {
   names = s.rows.items;
-  room = min (vec_capacity s.rows - vec_len s.rows) (vec_capacity s.by_activity - vec_len s.by_activity);
+  room = min (vec_capacity s.rows - vec_len s.rows) s.by_activity.room;
 }
 
 -- the names rise, and are counted
 pub record AreCounted (s : Inside) : Type 0 where
   pub rises : Rises named_key s.rows.items
-  pub counted : IsTally name_keys s.rows.items s.by_activity.items
+  pub counted : IsTally name_keys s.rows.items s.by_activity.rows

@@ -4,10 +4,11 @@ ghost use Rattle.std.specs.Str.{bytes_eq};
 ghost use Rattle.slee_state.specs.Orders.{put, rises_by};
 ghost use Rattle.slee_state.specs.Contexts.{name_before, named_at, with_name, without_name, without_names_of};
 
+use leaf_rows::Leaves;
 use row_tally::{Tally, count_one, count_under, uncount_one};
 use slee_state::Named;
 use slee_value::{ActivityId, NoMemory, Text};
-use sorted_rows::{cut_row, cut_rows_of, put_row, row_of};
+use sorted_rows::{cut_row, put_row, row_of};
 use std::alloc::Global;
 use std::marker::Model;
 
@@ -15,7 +16,7 @@ use std::marker::Model;
 #[derive(Drop)]
 pub struct Names {
     rows: Vec<Named>,
-    by_activity: Vec<Tally>,
+    by_activity: Leaves<Tally>,
 }
 
 impl Model for Names {
@@ -44,7 +45,7 @@ impl Names {
     {
         Names {
             rows: Vec::new(alloc),
-            by_activity: Vec::new(alloc),
+            by_activity: Leaves::new(alloc),
         }
     }
 
@@ -132,7 +133,7 @@ impl Names {
         ensures room { self.old.room ≤ self.new.room }
     {
         keep_other_names(&mut self.rows, activity);
-        cut_rows_of(&mut self.by_activity, activity.0);
+        self.by_activity.cut_rows_of(activity.0);
     }
 
     /// No names stand for the activity. No name is looked at where it has none.

@@ -10,7 +10,7 @@ use Rattle.activity_context.proofs.names.Names.add.Goals as goal
 
 pub count_one-requires-clause-fits : goal.count_one-requires-clause-fits
 count_one-requires-clause-fits c =
-    let within = count_within (λ (row : Named). row.activity.0) c.args.row.activity.0 c.self.inside.rows.items c.self.inside.by_activity.items c.self.invariant.counted in
+    let within = count_within (λ (row : Named). row.activity.0) c.args.row.activity.0 c.self.inside.rows.items c.self.inside.by_activity.rows c.self.invariant.counted in
     omega (arith, within)
 
 pub invariant_of-self : goal.invariant_of-self
@@ -20,8 +20,8 @@ invariant_of-self c =
     let absent = rw (← c.self.view_is) at c.requires.absent in
     record {
       rises = c.put_row.ensures.rises;
-      counted = rw (c.put_row.ensures.items, c.count_one.ensures.items)
-          (tally_more (λ (row : Named). row.activity.0) x rows _ c.self.inside.by_activity.items c.self.invariant.counted
+      counted = rw (c.put_row.ensures.items, c.count_one.ensures.rows)
+          (tally_more (λ (row : Named). row.activity.0) x rows _ c.self.inside.by_activity.rows c.self.invariant.counted
           (λ g. sum_put named_key g x rows c.self.invariant.rises (none_at (λ (other : Named). bytes_eq other.name x.name) rows absent))
-          (rw c.count_one.ensures.items at c.count_one.ensures.rises));
+          (rw c.count_one.ensures.rows at c.count_one.ensures.rises));
     }

@@ -10,12 +10,12 @@ use Rattle.row_tally.proofs.PartLemmas.{found_counted, tally_less}
 use Rattle.activity_context.proofs.NamedLemmas.{once_named}
 use Rattle.activity_context.proofs.names.Names.cut.Goals as goal
 
-pub uncount_one-requires-clause-some : goal.uncount_one-requires-clause-some
-uncount_one-requires-clause-some c =
+pub uncount_one-requires : goal.uncount_one-requires
+uncount_one-requires c =
     let rows = c.self.inside.rows.items in
     let name = c.args.name.now in
     let found = sym (rw (c.deref.ensures.value, c.as_bytes.ensures.bytes) at c.in-Some.ensures) in
-    found_counted (λ (row : Named). row.activity.0) (IsBefore named_key) (λ (row : Named). bytes_eq row.name name) (once_named name) _ rows c.self.inside.by_activity.items (in_order named_key rows c.self.invariant.rises) found c.self.invariant.counted
+    found_counted (λ (row : Named). row.activity.0) (IsBefore named_key) (λ (row : Named). bytes_eq row.name name) (once_named name) _ rows c.self.inside.by_activity.rows (in_order named_key rows c.self.invariant.rises) found c.self.invariant.counted
 
 pub invariant_of-self : goal.invariant_of-self
 invariant_of-self c =
@@ -24,9 +24,9 @@ invariant_of-self c =
     let found = sym (rw (c.deref.ensures.value, c.as_bytes.ensures.bytes) at c.in-Some.ensures) in
     record {
       rises = c.cut_row.ensures.rises;
-      counted = rw (c.cut_row.ensures.items, c.as_bytes-in-Some.ensures.bytes, c.uncount_one.ensures.items)
-          (tally_less (λ (row : Named). row.activity.0) (IsBefore named_key) (λ (row : Named). bytes_eq row.name name) (once_named name) _ rows c.self.inside.by_activity.items (in_order named_key rows c.self.invariant.rises) found c.self.invariant.counted
-          (rw c.uncount_one.ensures.items at c.uncount_one.ensures.rises));
+      counted = rw (c.cut_row.ensures.items, c.as_bytes-in-Some.ensures.bytes, c.uncount_one.ensures.rows)
+          (tally_less (λ (row : Named). row.activity.0) (IsBefore named_key) (λ (row : Named). bytes_eq row.name name) (once_named name) _ rows c.self.inside.by_activity.rows (in_order named_key rows c.self.invariant.rises) found c.self.invariant.counted
+          (rw c.uncount_one.ensures.rows at c.uncount_one.ensures.rises));
     }
 
 pub returns-in-None-clause-names : goal.returns-in-None-clause-names

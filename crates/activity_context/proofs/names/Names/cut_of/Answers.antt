@@ -10,6 +10,5 @@ pub returns-else-count_under-gt0-clause-names : goal.returns-else-count_under-gt
 returns-else-count_under-gt0-clause-names c =
     let a = c.args.activity.0 in
     let rows = c.self.inside.rows.items in
-    let count = rw c.deref.ensures.value at c.count_under.ensures in
-    let none : count_at c.self.inside.by_activity.items a ≡ 0 = omega (arith, count, c.if-count_under-gt0.false) in
-    rw (← c.self.view_is) (sym (all_stay (λ (row : Named). row.activity.0 == a) rows (none_under (λ (row : Named). row.activity.0) a rows c.self.inside.by_activity.items c.self.invariant.counted none)))
+    let none : count_at c.self.inside.by_activity.rows a ≡ 0 = omega (arith, c.count_under.ensures, c.if-count_under-gt0.false) in
+    rw (← c.self.view_is) (sym (all_stay (λ (row : Named). row.activity.0 == a) rows (none_under (λ (row : Named). row.activity.0) a rows c.self.inside.by_activity.rows c.self.invariant.counted none)))

@@ -13,5 +13,5 @@ invariant_of-self c =
     let rows = c.self.inside.rows.items in
     record {
       rises = rw c.keep_other_names.ensures.items (filter_rises named_key (λ (row : Named). not (row.activity.0 == a)) rows c.self.invariant.rises);
-      counted = rw (c.keep_other_names.ensures.items, c.cut_rows_of.ensures.items) (tally_without (λ (row : Named). row.activity.0) a rows c.self.inside.by_activity.items c.self.invariant.counted);
+      counted = rw (c.keep_other_names.ensures.items, c.cut_rows_of.ensures.rows) (tally_without (λ (row : Named). row.activity.0) a rows c.self.inside.by_activity.rows c.self.invariant.counted);
     }
