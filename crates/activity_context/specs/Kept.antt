@@ -11,6 +11,7 @@ seen s = record {
   attributes = s.attributes.rows;
   links = s.links.rows;
   names = s.names.names;
+  names_kept = s.names.kept;
   next = s.next;
   rooms = record {
     activities = s.activities.room;

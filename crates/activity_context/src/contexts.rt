@@ -1,5 +1,6 @@
 //! The contexts of activities; clauses see them as four lists, with the next number and the room.
 ghost use Rattle.std.specs.Prelude.{◌≡◌, ◌+◌, ◌-◌, ◌<◌, ◌≤◌, ◌^◌, not, [], length, Some, IsTrue, IfOk, OnOk, OnErr, slice_get, option_copied, option_map};
+ghost use Rattle.std.specs.List.Sorted.{IsPermutation};
 ghost use Rattle.slee_state.specs.Ordered.{rises_in, are_below};
 ghost use Rattle.slee_state.specs.Orders.{put, rises_by};
 ghost use Rattle.slee_state.specs.Contexts.{activity_at, external, with_activity, with_end, without_activity, attribute_at, attribute_before, link_before, name_before, with_attribute, without_attributes, is_linked, links_on, with_link, without_link, without_links_on, named_at, with_name, without_name, without_names_of};
@@ -55,17 +56,18 @@ impl Contexts {
         }
     }
 
-    /// Passes on that the lists rise, and that activities' numbers are below the next one.
+    /// Passes on that the lists rise, that activities' numbers are below the next one, and that the names are kept in some order.
     pub fn ordered(&self)
         ensures activities { IsTrue (rises_in (λ row. row.number.0) self.now.activities) }
         ensures below { IsTrue (are_below (λ row. row.number.0) self.now.next self.now.activities) }
         ensures attributes { IsTrue (rises_by attribute_before self.now.attributes) }
         ensures links { IsTrue (rises_by link_before self.now.links) }
         ensures names { IsTrue (rises_by name_before self.now.names) }
+        ensures names_kept { IsPermutation self.now.names self.now.names_kept }
     {
         let _next = self.next;
         self.activities.ordered();
-        self.names.rises();
+        self.names.ordered();
         self.attributes.rises();
         self.links.rises();
     }
@@ -197,7 +199,7 @@ impl Contexts {
     pub fn bind(&mut self, name: Text, activity: ActivityId) -> Result<(), AcFault>
         requires { 0 < self.old.rooms.names }
         ensures fault { fault_of result ≡ bind_fault self.old.activities self.old.names name activity.0 }
-        ensures bound { OnOk result (self.new ≡ record self.old { names = with_name self.old.names name activity.0; rooms = record self.old.rooms { names = self.new.rooms.names } }) }
+        ensures bound { OnOk result (self.new ≡ record self.old { names = with_name self.old.names name activity.0; names_kept = self.new.names_kept; rooms = record self.old.rooms { names = self.new.rooms.names } }) }
         ensures room { self.old.rooms.names ≤ self.new.rooms.names + 1 }
         ensures kept { OnErr result (self.new ≡ self.old) }
     {
@@ -213,7 +215,7 @@ impl Contexts {
     /// The name stands for nothing any more.
     pub fn unbind(&mut self, name: &Text) -> Result<(), AcFault>
         ensures fault { fault_of result ≡ unbind_fault self.old.names name.now }
-        ensures unbound { OnOk result (self.new ≡ record self.old { names = without_name self.old.names name.now; rooms = record self.old.rooms { names = self.new.rooms.names } }) }
+        ensures unbound { OnOk result (self.new ≡ record self.old { names = without_name self.old.names name.now; names_kept = self.new.names_kept; rooms = record self.old.rooms { names = self.new.rooms.names } }) }
         ensures room { self.old.rooms.names ≤ self.new.rooms.names }
         ensures kept { OnErr result (self.new ≡ self.old) }
     {
@@ -248,7 +250,7 @@ impl Contexts {
     /// Puts a name back.
     pub fn restore_name(&mut self, name: Text, activity: ActivityId)
         requires { 0 < self.old.rooms.names }
-        ensures restored { self.new ≡ record self.old { names = with_name self.old.names name activity.0; rooms = record self.old.rooms { names = self.new.rooms.names } } }
+        ensures restored { self.new ≡ record self.old { names = with_name self.old.names name activity.0; names_kept = self.new.names_kept; rooms = record self.old.rooms { names = self.new.rooms.names } } }
         ensures room { self.old.rooms.names ≤ self.new.rooms.names + 1 }
     {
         self.names.put(name, activity);
@@ -307,10 +309,10 @@ impl Contexts {
         self.names.len() as u64
     }
 
-    /// The name at this place, with its activity; they rise in byte order.
+    /// The name at this place, with its activity; they stand in an order of their own.
     pub fn names_at(&self, place: u64) -> (&Text, ActivityId)
         requires { place < length self.now.names }
-        ensures { option_map parts_of_name (slice_get self.now.names place) ≡ Some (result.0.now, result.1) }
+        ensures { option_map parts_of_name (slice_get self.now.names_kept place) ≡ Some (result.0.now, result.1) }
     {
         let row = self.names.at(place as usize);
         (&row.name, row.activity)
