@@ -4,4 +4,6 @@ pub mod PartLemmas
 pub mod JoinLemmas
 pub mod SplitLemmas
 pub mod FirstLemmas
+pub mod ShareLemmas
 pub mod RunLemmas
+pub mod CountLemmas

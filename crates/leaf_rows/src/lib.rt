@@ -1,16 +1,16 @@
 //! Rows that rise by their keys, in leaves of some rows each, so that a row comes and goes at the cost of one leaf.
 #![tactic(auto)]
 
-mod changing;
+mod cutting;
 mod leaf;
 mod leaves;
-mod parts;
+mod putting;
 mod reading;
 mod runs;
 mod search;
+mod share;
 mod spares;
 mod splitting;
 
 pub use leaves::Leaves;
-pub use parts::Parts;
 pub use runs::Run;
