@@ -1,13 +1,13 @@
 -- How many rows there are after a change.
-use Rattle.std.proofs.Common.{◌≡◌, ℕ, zero, suc, ◌+◌, ◌<◌, ◌≤◌, Bool, true, false, List, [], ◌∷◌, ◌++◌, Option, Some, None, length, take, drop, get_or, refl, sym, ap, ◌∙◌, arith, inl, inr}
+use Rattle.std.proofs.Common.{◌≡◌, ℕ, zero, suc, ◌+◌, ◌<◌, Bool, true, false, List, [], ◌∷◌, ◌++◌, Option, Some, None, length, take, drop, get_or, refl, sym, ap, ◌∙◌, arith, inl, inr}
 use Rattle.std.specs.Prelude.{is_some, nat_lt, not, set}
-use Rattle.std.specs.List.{AllByRecursion, filter, flat_map, insert, list_any, position_from, prefix_len}
+use Rattle.std.specs.List.{filter, flat_map, insert, list_any, position_from, prefix_len}
 use Rattle.std.proofs.lemmas.Bool.{cases_Bool}
 use Rattle.std.proofs.lemmas.Bool.Decides.{nat_tests}
 use Rattle.slee_state.specs.Orders.{put}
 use Rattle.sorted_rows.specs.Keys.{Key, is_key, key_before, Rises}
 use Rattle.sorted_rows.proofs.HalvingLemmas.{any_is, absent_from}
-use Rattle.sorted_rows.proofs.OrderLemmas.{AllInOrder, IsBefore, in_order, rises_again, all_filter, order_filter}
+use Rattle.sorted_rows.proofs.OrderLemmas.{AllInOrder, IsBefore, in_order, rises_again, all_filter}
 use Rattle.sorted_rows.proofs.PartLemmas.{parted_by_key}
 use Rattle.sorted_rows.proofs.RowLemmas.{inserted_is, replaced_is}
 use Rattle.leaf_rows.proofs.JoinLemmas.{joined_at, joined_set}

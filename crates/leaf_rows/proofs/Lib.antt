@@ -7,3 +7,4 @@ pub mod FirstLemmas
 pub mod ShareLemmas
 pub mod RunLemmas
 pub mod CountLemmas
+pub mod ChangeLemmas

@@ -1,5 +1,5 @@
 -- Which rows are asked for: those of a number, those of a pair of numbers, or those up to a number.
-use Rattle.std.specs.Prelude.{ℕ, Bool, false, ◌==◌, ◌||◌, ◌&&◌, nat_lt, nat_le}
+use Rattle.std.specs.Prelude.{Bool, false, ◌==◌, ◌||◌, ◌&&◌, nat_lt, nat_le}
 use Rattle.sorted_rows.specs.Keys.{Key, is_pair}
 use Rattle.leaf_rows.specs.declared.share.Share.{Share}
 use Rattle.leaf_rows.specs.declared.share.Share.TheVariants as shares

@@ -6,6 +6,7 @@ ghost use Rattle.slee_state.specs.Orders.{put};
 ghost use Rattle.sorted_rows.specs.Keys.{Rises, is_key, is_pair, key_before};
 ghost use Rattle.sorted_rows.specs.Runs.{without_first};
 
+use crate::changing::change_in;
 use crate::cutting::{cut_first_from, cut_from, cut_share};
 use crate::leaf::Leaf;
 use crate::putting::put_in;
@@ -192,6 +193,24 @@ impl<R: Keyed + Drop> Leaves<R> {
             self.count += 1;
             self.room -= 1;
         }
+    }
+
+    /// The row of this key is changed in its place, where its key stays. The answer says whether there is one.
+    pub fn change_row<F: FnOnce(&mut R)>(
+        &mut self,
+        first: u64,
+        second: u64,
+        text: &[u8],
+        change: F,
+    ) -> bool
+        requires callable { F.IsAlwaysCallable change }
+        requires key { (old new : R) → FnOnceReturnsAtMut F.FnOnce change old tt new → R.key new ≡ R.key old }
+        ensures found { result ≡ list_any (λ row. is_key (R.key row) (record { first = first; second = second; text = text.now })) self.old.rows }
+        ensures rows { (f : R → R) → ((old new : R) → FnOnceReturnsAtMut F.FnOnce change old tt new → new ≡ f old) → self.new.rows ≡ map (λ row. if is_key (R.key row) (record { first = first; second = second; text = text.now }) then f row else row) self.old.rows }
+        ensures rises { Rises R.key self.new.rows }
+        ensures room { self.new.room ≡ self.old.room }
+    {
+        change_in(&mut self.leaves, first, second, text, change)
     }
 
     /// The row of this key is gone.

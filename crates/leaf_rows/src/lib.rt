@@ -1,6 +1,7 @@
 //! Rows that rise by their keys, in leaves of some rows each, so that a row comes and goes at the cost of one leaf.
 #![tactic(auto)]
 
+mod changing;
 mod cutting;
 mod leaf;
 mod leaves;

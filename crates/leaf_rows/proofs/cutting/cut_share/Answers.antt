@@ -1,5 +1,5 @@
 -- at the end no leaf has a row of the share
-use Rattle.std.proofs.Common.{◌≡◌, Option, Some, None, refl, sym, subst, ◌∙◌}
+use Rattle.std.proofs.Common.{◌≡◌, Option, Some, None, refl, sym, ◌∙◌}
 use Rattle.std.specs.Prelude.{MatchOption}
 use Rattle.std.specs.List.{find, flat_map}
 use Rattle.leaf_rows.specs.Invariant.{leaf_rows}

@@ -1,7 +1,7 @@
 -- the first leaf whose last row doesn't stand before the share has its first row, if there is one
-use Rattle.std.proofs.Common.{◌≡◌, None, length, sym, ap, ◌∙◌, arith}
+use Rattle.std.proofs.Common.{◌≡◌, length, sym, ap, ◌∙◌, arith}
 use Rattle.std.specs.Prelude.{is_some, option_copied}
-use Rattle.std.specs.List.{find, list_any}
+use Rattle.std.specs.List.{list_any}
 use Rattle.std.proofs.lemmas.List.{get_or_default}
 use Rattle.leaf_rows.specs.Invariant.{leaf_rows}
 use Rattle.leaf_rows.specs.Shares.{is_in}

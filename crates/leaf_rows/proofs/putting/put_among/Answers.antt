@@ -1,5 +1,5 @@
 -- there are more rows just where none had the key
-use Rattle.std.proofs.Common.{ap, length, sym, ◌∙◌, arith}
+use Rattle.std.proofs.Common.{ap, length, arith}
 use Rattle.leaf_rows.proofs.CountLemmas.{put_added}
 use Rattle.leaf_rows.proofs.putting.put_among.Goals as goal
 

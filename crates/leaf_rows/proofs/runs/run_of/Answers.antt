@@ -1,9 +1,7 @@
 -- no row of the share stands in other leaves, and none of another one in those between
-use Rattle.std.proofs.Common.{◌++◌, ap, ◌∙◌, arith}
+use Rattle.std.proofs.Common.{◌∙◌, arith}
 use Rattle.std.proofs.lemmas.List.{append-nil}
-use Rattle.std.specs.List.{filter, flat_map}
 use Rattle.leaf_rows.specs.Invariant.{leaf_rows}
-use Rattle.leaf_rows.specs.Shares.{is_in}
 use Rattle.leaf_rows.proofs.LeafLemmas.{leaves_rise}
 use Rattle.leaf_rows.proofs.RunLemmas.{each_rises, kept_part, kept_parts}
 use Rattle.leaf_rows.proofs.runs.run_of.Goals as goal

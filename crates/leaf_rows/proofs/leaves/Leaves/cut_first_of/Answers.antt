@@ -1,5 +1,5 @@
 -- one row less where one is found, and else the same
-use Rattle.std.proofs.Common.{◌≡◌, Option, Some, None, length, refl, sym, ap, ◌∙◌, arith}
+use Rattle.std.proofs.Common.{◌≡◌, None, length, sym, ap, ◌∙◌, arith}
 use Rattle.std.specs.Prelude.{◌==◌}
 use Rattle.std.specs.List.{find, flat_map}
 use Rattle.leaf_rows.specs.Invariant.{leaf_rows}
