@@ -1,5 +1,5 @@
 -- Names under the numbers of their texts, and in byte order.
-use Rattle.std.proofs.Common.{◌≡◌, ℕ, ◌==◌, suc, zero, Bool, true, false, cond, List, [], ◌∷◌, ◌++◌, Option, Some, None, map, refl, sym, ap, ◌∙◌, arith, inl, inr}
+use Rattle.std.proofs.Common.{◌≡◌, ℕ, ◌==◌, suc, zero, Bool, true, false, List, [], ◌∷◌, ◌++◌, Some, None, refl, sym, ap, ◌∙◌, arith, inl, inr}
 use Rattle.std.specs.Prelude.{not, ◌&&◌, ◌||◌, option_map, IsTrue}
 use Rattle.std.specs.List.{AllByRecursion, filter, find, insert, list_any, prefix_len}
 use Rattle.std.specs.Str.{bytes_eq}
@@ -7,11 +7,11 @@ use Rattle.std.proofs.lemmas.Bool.{cases_Bool, and_parts}
 use Rattle.std.proofs.lemmas.Bool.Decides.{nat_tests}
 use Rattle.std.proofs.lemmas.Map.Views.{any-filter_same}
 use Rattle.std.proofs.lemmas.Slice.Eq.{bytes_eq-Decides}
-use Rattle.slee_state.specs.Contexts.{name_before, named_at, without_name}
+use Rattle.slee_state.specs.Contexts.{name_before, named_at}
 use Rattle.slee_state.specs.Orders.{put, rises_by, sorted}
 use Rattle.slee_state.specs.declared.rows.Named.{Named}
 use Rattle.sorted_rows.specs.Keys.{is_key, is_pair, key_before, named_key, pair_key, Rises}
-use Rattle.sorted_rows.proofs.OrderLemmas.{AllInOrder, IsBefore, all_filter, all_from_all, before_joins, in_order, put_rises, filter_rises}
+use Rattle.sorted_rows.proofs.OrderLemmas.{AllInOrder, all_filter, all_from_all, before_joins, in_order, put_rises, filter_rises}
 use Rattle.sorted_rows.proofs.PartLemmas.{parted_by_key}
 use Rattle.sorted_rows.proofs.RowLemmas.{inserted_is}
 use Rattle.row_index.specs.declared.entry.Entry.{Entry}
@@ -22,7 +22,7 @@ use Rattle.row_index.proofs.RowLemmas.{any_fails, each_fails}
 use Rattle.row_index.proofs.SumLemmas.{all_passed}
 use Rattle.text_index.specs.Numbers.{number_of}
 use Rattle.activity_context.specs.declared.numbered.NumberedName.{NumberedName}
-use Rattle.activity_context.specs.Naming.{AreFiled, AreFound, activity_entry, as_kept, in_byte_order, numbered_key}
+use Rattle.activity_context.specs.Naming.{AreFiled, AreFound, AreNeeded, activity_entry, as_kept, in_byte_order, numbered_key}
 use Rattle.activity_context.proofs.SortLemmas as sorting
 use Rattle.activity_context.proofs.SortLemmas.{IsAhead, AreApart}
 
@@ -130,14 +130,23 @@ map_all : (P : Named → Type 0) (rows : List NumberedName) → AllByRecursion (
 map_all P [] all = tt
 map_all P (x ∷ xs) all = (all.0, map_all P xs all.1)
 
+absent_keys : (x : NumberedName) (rows : List NumberedName) → find (λ row. bytes_eq row.named.name x.named.name) rows ≡ None → AllByRecursion (λ row. is_key (numbered_key row) (numbered_key x) ≡ false) rows
+absent_keys x rows absent =
+    all_from_all (λ (row : NumberedName). bytes_eq row.named.name x.named.name ≡ false) (λ row. is_key (numbered_key row) (numbered_key x) ≡ false) (λ row other. other_numbered row x other) rows
+    (none_at (λ (row : NumberedName). bytes_eq row.named.name x.named.name) rows absent)
+
+-- the place of a name whose text none has
+put_place : (x : NumberedName) (rows : List NumberedName) → Rises numbered_key rows → find (λ row. bytes_eq row.named.name x.named.name) rows ≡ None
+    → insert rows (prefix_len (λ row. key_before (numbered_key row) (numbered_key x)) rows) x ≡ put (λ a b. key_before (numbered_key a) (numbered_key b)) x rows
+put_place x rows rises absent = inserted_is _ _ _ _ (parted_by_key numbered_key (numbered_key x)) x rows (in_order numbered_key rows rises) (absent_keys x rows absent)
+
 -- a name whose text none has is put in its place in byte order
 pub order_put : (x : NumberedName) (rows : List NumberedName) → Rises numbered_key rows → IsTrue (rises_by name_before (in_byte_order rows)) → find (λ row. bytes_eq row.named.name x.named.name) rows ≡ None
     → in_byte_order (put (λ a b. key_before (numbered_key a) (numbered_key b)) x rows) ≡ put name_before x.named (in_byte_order rows)
 order_put x rows rises once absent =
     let none = none_at (λ (row : NumberedName). bytes_eq row.named.name x.named.name) rows absent in
-    let others = all_from_all (λ (row : NumberedName). bytes_eq row.named.name x.named.name ≡ false) (λ row. is_key (numbered_key row) (numbered_key x) ≡ false) (λ row other. other_numbered row x other) rows none in
     let place = prefix_len (λ row. key_before (numbered_key row) (numbered_key x)) rows in
-    let is : insert rows place x ≡ put (λ a b. key_before (numbered_key a) (numbered_key b)) x rows = inserted_is _ _ _ _ (parted_by_key numbered_key (numbered_key x)) x rows (in_order numbered_key rows rises) others in
+    let is = put_place x rows rises absent in
     let apart = map_all (AreApart name_before x.named) rows (all_from_all (λ (row : NumberedName). bytes_eq row.named.name x.named.name ≡ false) (λ row. AreApart name_before x.named row.named) (λ row other. apart_texts x.named row.named other) rows none) in
     ap in_byte_order (sym is)
     ∙ ap (sorted name_before) (map_insert x place rows)
@@ -189,6 +198,32 @@ put_has e x entries there = elim (cases_Bool (entry_before e x)) [
       ])
 ]
 
+any_insert : {X : Type 0} (p : X → Bool) (x : X) (n : ℕ) (xs : List X) → list_any p xs ≡ true → list_any p (insert xs n x) ≡ true
+any_insert p x zero xs there = or_right (p x) (list_any p xs) there
+any_insert p x (suc n) [] there = cc
+any_insert p x (suc n) (y ∷ ys) there = elim (cases_Bool (p y)) [
+  | inl passes ↦ rw passes refl
+  | inr fails ↦ rw fails (any_insert p x n ys (rw fails at there))
+]
+
+any_own : {X : Type 0} (p : X → Bool) (x : X) (n : ℕ) (xs : List X) → p x ≡ true → list_any p (insert xs n x) ≡ true
+any_own p x zero xs own = or_left (p x) (list_any p xs) own
+any_own p x (suc n) [] own = or_left (p x) false own
+any_own p x (suc n) (y ∷ ys) own = or_right (p y) (list_any p (insert ys n x)) (any_own p x n ys own)
+
+own_pair : (x : NumberedName) → is_pair x.number x.named.activity.0 (numbered_key x) ≡ true
+own_pair x =
+    let first : (x.number == x.number) ≡ true = number_same x.number x.number refl in
+    let second : (x.named.activity.0 == x.named.activity.0) ≡ true = number_same x.named.activity.0 x.named.activity.0 refl in
+    rw (first, second) refl
+
+needed_put : (x : NumberedName) (n : ℕ) (rows : List NumberedName) (entries : List Entry) → AreNeeded rows entries → AreNeeded (insert rows n x) (put entry_before (activity_entry x) entries)
+needed_put x n rows entries needed =
+    all_put entry_before (λ (e : Entry). list_any (λ row. is_pair e.number e.key (numbered_key row)) (insert rows n x) ≡ true) (activity_entry x) entries
+    (any_own (λ row. is_pair x.number x.named.activity.0 (numbered_key row)) x n rows (own_pair x))
+    (all_from_all (λ (e : Entry). list_any (λ row. is_pair e.number e.key (numbered_key row)) rows ≡ true) (λ e. list_any (λ row. is_pair e.number e.key (numbered_key row)) (insert rows n x) ≡ true)
+    (λ e there. any_insert (λ row. is_pair e.number e.key (numbered_key row)) x n rows there) entries needed)
+
 -- a name that comes with its entry
 pub filed_put : (x : NumberedName) (rows : List NumberedName) (entries : List Entry) → x.number ≡ number_of x.named.name → Rises numbered_key rows → AreFiled rows entries → find (λ row. bytes_eq row.named.name x.named.name) rows ≡ None
     → AreFiled (put (λ a b. key_before (numbered_key a) (numbered_key b)) x rows) (put entry_before (activity_entry x) entries)
@@ -199,6 +234,7 @@ filed_put x rows entries number rises filed absent =
       numbered = all_put before (λ row. row.number ≡ number_of row.named.name) x rows number filed.numbered;
       found = all_put before (λ row. list_any (is_entry (activity_entry row)) more ≡ true) x rows (put_has_own (activity_entry x) entries)
           (all_from_all (λ (row : NumberedName). list_any (is_entry (activity_entry row)) entries ≡ true) (λ row. list_any (is_entry (activity_entry row)) more ≡ true) (λ row there. put_has (activity_entry row) (activity_entry x) entries there) rows filed.found);
+      needed = rw (← put_place x rows rises absent) (needed_put x (prefix_len (λ row. key_before (numbered_key row) (numbered_key x)) rows) rows entries filed.needed);
       once = rw (order_put x rows rises filed.once absent) (put_rises named_key x.named (in_byte_order rows) filed.once);
     }
 
@@ -210,10 +246,12 @@ filter_agree p q (x ∷ xs) all = elim (cases_Bool (q x)) [
 ]
 
 -- names are left out, and the entries of the others stay
-pub filed_filter : (q : Named → Bool) (rows : List NumberedName) (entries less : List Entry) → AreFiled rows entries → AreFound (filter (λ row. q row.named) rows) less → AreFiled (filter (λ row. q row.named) rows) less
-filed_filter q rows entries less filed found = record {
+pub filed_filter : (q : Named → Bool) (rows : List NumberedName) (entries less : List Entry) → AreFiled rows entries → AreFound (filter (λ row. q row.named) rows) less → AreNeeded (filter (λ row. q row.named) rows) less
+    → AreFiled (filter (λ row. q row.named) rows) less
+filed_filter q rows entries less filed found needed = record {
   numbered = all_filter (λ row. row.number ≡ number_of row.named.name) (λ row. q row.named) rows filed.numbered;
   found = found;
+  needed = needed;
   once = rw (order_filter q rows filed.once) (filter_rises named_key q (in_byte_order rows) filed.once);
 }
 
@@ -305,6 +343,68 @@ rest_found n a rows entries found none =
     all_two (λ (row : NumberedName). is_pair n a (numbered_key row) ≡ false) (λ row. list_any (is_entry (activity_entry row)) entries ≡ true) (λ row. list_any (is_entry (activity_entry row)) (filter (λ e. not (is_key (entry_key e) (pair_key a n))) entries) ≡ true)
     (λ row other there. still_there (λ (e : Entry). not (is_key (entry_key e) (pair_key a n))) row entries (other_pair n a row other) there) rows
     (each_fails (λ (row : NumberedName). is_pair n a (numbered_key row)) rows none) found
+
+same_pair : (e : Entry) (row : NumberedName) → is_pair e.number e.key (numbered_key row) ≡ true → (row.number ≡ e.number) × (row.named.activity.0 ≡ e.key)
+same_pair e row is =
+    let parts = and_parts (row.number == e.number) (row.named.activity.0 == e.key) is in
+    (grind (arith, nat_tests, parts.0), grind (arith, nat_tests, parts.1))
+
+needed_still : (e : Entry) (q : NumberedName → Bool) (rows : List NumberedName) → ((row : NumberedName) → is_pair e.number e.key (numbered_key row) ≡ true → q row ≡ true)
+    → list_any (λ row. is_pair e.number e.key (numbered_key row)) rows ≡ true → list_any (λ row. is_pair e.number e.key (numbered_key row)) (filter q rows) ≡ true
+needed_still e q rows stays there = any-filter_same (λ row. is_pair e.number e.key (numbered_key row)) q true stays rows ∙ there
+
+-- the entries of the other activities are needed
+pub others_needed : (a : ℕ) (rows : List NumberedName) (entries : List Entry) → AreNeeded rows entries → AreNeeded (filter (λ row. not (row.named.activity.0 == a)) rows) (filter (λ e. not (e.key == a)) entries)
+others_needed a rows entries needed =
+    all_two (λ (e : Entry). not (e.key == a) ≡ true) (λ e. list_any (λ row. is_pair e.number e.key (numbered_key row)) rows ≡ true) (λ e. list_any (λ row. is_pair e.number e.key (numbered_key row)) (filter (λ row. not (row.named.activity.0 == a)) rows) ≡ true)
+    (λ e stays there. needed_still e (λ row. not (row.named.activity.0 == a)) rows (λ row is. ap (λ (n : ℕ). not (n == a)) (same_pair e row is).1 ∙ stays) there) (filter (λ (e : Entry). not (e.key == a)) entries)
+    (all_passed (λ (e : Entry). not (e.key == a)) entries)
+    (all_filter (λ (e : Entry). list_any (λ row. is_pair e.number e.key (numbered_key row)) rows ≡ true) (λ e. not (e.key == a)) entries needed)
+
+other_row : (n a : ℕ) (name : List ℕ) (e : Entry) (row : NumberedName) → not (is_key (entry_key e) (pair_key a n)) ≡ true → is_pair e.number e.key (numbered_key row) ≡ true
+    → not (is_key (numbered_key row) (record { first = n; second = a; text = name })) ≡ true
+other_row n a name e row stays is =
+    let same = same_pair e row is in
+    elim (cases_Bool (e.number == n)) [
+      | inl first ↦ elim (cases_Bool (e.key == a)) [
+        | inl second ↦ let wrong : false ≡ true = rw (second, first) at stays in cc
+        | inr differ ↦
+            let other : (row.named.activity.0 == a) ≡ false = ap (λ (k : ℕ). k == a) same.1 ∙ differ in
+            let mine : (row.number == n) ≡ true = ap (λ (k : ℕ). k == n) same.0 ∙ first in
+            rw (mine, other) refl
+      ]
+      | inr differ ↦ let other : (row.number == n) ≡ false = ap (λ (k : ℕ). k == n) same.0 ∙ differ in rw other refl
+    ]
+
+-- where a name goes, the entries of the other pairs are needed
+pub rest_needed : (n a : ℕ) (name : List ℕ) (rows : List NumberedName) (entries : List Entry) → AreNeeded rows entries
+    → AreNeeded (filter (λ row. not (is_key (numbered_key row) (record { first = n; second = a; text = name }))) rows) (filter (λ e. not (is_key (entry_key e) (pair_key a n))) entries)
+rest_needed n a name rows entries needed =
+    let q = λ (row : NumberedName). not (is_key (numbered_key row) (record { first = n; second = a; text = name })) in
+    let stays = λ (e : Entry). not (is_key (entry_key e) (pair_key a n)) in
+    all_two (λ (e : Entry). stays e ≡ true) (λ e. list_any (λ row. is_pair e.number e.key (numbered_key row)) rows ≡ true) (λ e. list_any (λ row. is_pair e.number e.key (numbered_key row)) (filter q rows) ≡ true)
+    (λ e other there. needed_still e q rows (λ row is. other_row n a name e row other is) there) (filter stays entries)
+    (all_passed stays entries) (all_filter (λ (e : Entry). list_any (λ row. is_pair e.number e.key (numbered_key row)) rows ≡ true) stays entries needed)
+
+-- and its own one, where another name of the pair is left
+pub own_needed : (n a : ℕ) (name : List ℕ) (rows : List NumberedName) (entries : List Entry) → AreNeeded rows entries
+    → list_any (λ row. is_pair n a (numbered_key row)) (filter (λ row. not (is_key (numbered_key row) (record { first = n; second = a; text = name }))) rows) ≡ true
+    → AreNeeded (filter (λ row. not (is_key (numbered_key row) (record { first = n; second = a; text = name }))) rows) entries
+own_needed n a name rows entries needed left =
+    all_from_all (λ (e : Entry). list_any (λ row. is_pair e.number e.key (numbered_key row)) rows ≡ true) (λ e. list_any (λ row. is_pair e.number e.key (numbered_key row)) (filter q rows) ≡ true) one entries needed
+  where
+    q : NumberedName → Bool
+    q row = not (is_key (numbered_key row) (record { first = n; second = a; text = name }))
+
+    one : (e : Entry) → list_any (λ row. is_pair e.number e.key (numbered_key row)) rows ≡ true → list_any (λ row. is_pair e.number e.key (numbered_key row)) (filter q rows) ≡ true
+    one e there = elim (cases_Bool (is_key (entry_key e) (pair_key a n))) [
+      | inl mine ↦
+          let parts = and_parts (e.key == a) ((e.number == n) && true) mine in
+          let first : e.key ≡ a = grind (arith, nat_tests, parts.0) in
+          let second : e.number ≡ n = let both = and_parts (e.number == n) true parts.1 in let is = both.0 in grind (arith, nat_tests, is) in
+          (λ i. list_any (λ row. is_pair (second i) (first i) (numbered_key row)) (filter q rows)) ∙ left
+      | inr other ↦ needed_still e q rows (λ row is. other_row n a name e row (ap not other) is) there
+    ]
 
 -- fewer names are found by the same entries
 pub fewer_found : (q : NumberedName → Bool) (rows : List NumberedName) (entries : List Entry) → AreFound rows entries → AreFound (filter q rows) entries

@@ -4,7 +4,7 @@ use Rattle.std.specs.List.{AllByRecursion, list_any}
 use Rattle.slee_state.specs.Contexts.{name_before}
 use Rattle.slee_state.specs.Orders.{rises_by, sorted}
 use Rattle.slee_state.specs.declared.rows.Named.{Named}
-use Rattle.sorted_rows.specs.Keys.{Key}
+use Rattle.sorted_rows.specs.Keys.{Key, is_pair}
 use Rattle.row_index.specs.declared.entry.Entry.{Entry}
 use Rattle.row_index.specs.Index.{is_entry}
 use Rattle.text_index.specs.Numbers.{number_of}
@@ -32,10 +32,15 @@ in_byte_order rows = sorted name_before (as_kept rows)
 abbrev pub AreFound : List NumberedName → List Entry → Type 0
 AreFound rows entries = AllByRecursion (λ row. IsTrue (list_any (is_entry (activity_entry row)) entries)) rows
 
--- each name stands under the number of its text and once, and its number is found under its activity
+-- each number under an activity is that of a name of the activity
+abbrev pub AreNeeded : List NumberedName → List Entry → Type 0
+AreNeeded rows entries = AllByRecursion (λ e. IsTrue (list_any (λ row. is_pair e.number e.key (numbered_key row)) rows)) entries
+
+-- each name stands under the number of its text and once, and just the numbers of an activity's names are found under it
 pub record AreFiled (rows : List NumberedName) (entries : List Entry) : Type 0 where
   pub numbered : AllByRecursion (λ row. row.number ≡ number_of row.named.name) rows
   pub found : AreFound rows entries
+  pub needed : AreNeeded rows entries
   pub once : IsTrue (rises_by name_before (in_byte_order rows))
 
 -- the names in byte order and as they stand, with the room beside both lists

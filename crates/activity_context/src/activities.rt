@@ -180,19 +180,13 @@ impl Activities {
         }
     }
 
-    fn end_in_place(&mut self, activity: ActivityId)
-        ensures activities { self.new.activities ≡ with_end self.old.activities activity.0 }
-        ensures room { self.old.room ≤ self.new.room }
-    {
-        self.rows.cut_rows_of(activity.0);
-    }
-
     /// The activity is Ending.
     pub fn end(&mut self, activity: ActivityId)
         ensures activities { self.new.activities ≡ with_end self.old.activities activity.0 }
         ensures below { (n : ℕ) → IsTrue (are_below (λ row. row.number.0) n self.old.activities) → IsTrue (are_below (λ row. row.number.0) n self.new.activities) }
         ensures room { self.old.room ≤ self.new.room }
     {
-        self.end_in_place(activity);
+        self.rows
+            .change_row(activity.0, 0, &[], |row| row.ending = true);
     }
 }

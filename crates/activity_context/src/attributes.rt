@@ -8,12 +8,7 @@ use slee_state::Attribute;
 use slee_value::{ActivityId, Text, Value};
 
 /// The activity's attribute has this value.
-pub fn put_attribute(
-    rows: &mut Leaves<Attribute>,
-    activity: ActivityId,
-    key: Text,
-    value: Value,
-)
+pub fn put_attribute(rows: &mut Leaves<Attribute>, activity: ActivityId, key: Text, value: Value)
     requires { 0 < rows.old.room }
     ensures rows { rows.new.rows ≡ with_attribute rows.old.rows activity.0 key value }
     ensures rises { Rises attribute_key rows.new.rows }

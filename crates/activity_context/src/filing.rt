@@ -4,7 +4,7 @@ ghost use Rattle.std.specs.List.{list_any};
 ghost use Rattle.std.specs.Str.{bytes_eq};
 ghost use Rattle.slee_state.specs.Contexts.{with_name, without_name, without_names_of};
 ghost use Rattle.sorted_rows.specs.Keys.{is_key, is_pair};
-ghost use Rattle.activity_context.specs.Naming.{AreFiled, AreFound, in_byte_order, numbered_key};
+ghost use Rattle.activity_context.specs.Naming.{AreFiled, AreFound, AreNeeded, in_byte_order, numbered_key};
 
 use crate::numbered::NumberedName;
 use leaf_rows::{Leaves, Run};
@@ -67,6 +67,7 @@ fn cut_numbered(
 )
     ensures rows { rows.new.rows ≡ filter (λ row. not (is_key (numbered_key row) (record { first = number; second = activity.0; text = name.now }))) rows.old.rows }
     ensures found { AreFound rows.old.rows entries.old.rows → AreFound rows.new.rows entries.new.rows }
+    ensures needed { AreNeeded rows.old.rows entries.old.rows → AreNeeded rows.new.rows entries.new.rows }
     ensures row_room { rows.old.room ≤ rows.new.room }
     ensures entry_room { entries.old.room ≤ entries.new.room }
 {

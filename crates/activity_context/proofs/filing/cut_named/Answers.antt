@@ -29,7 +29,8 @@ returns-in-Some-clause-filed c =
     let rows = c.args.rows.now.rows in
     let left = c.cut_numbered.ensures.rows ∙ one_goes name c.in-Some.row.now rows c.requires.once (sym c.in-Some.ensures) in
     let found = rw left at (c.cut_numbered.ensures.found c.requires.found) in
-    rw left (filed_filter (λ (row : Named). not (bytes_eq row.name name)) rows c.args.entries.now.rows c.cut_numbered.new.entries.rows c.requires found)
+    let needed = rw left at (c.cut_numbered.ensures.needed c.requires.needed) in
+    rw left (filed_filter (λ (row : Named). not (bytes_eq row.name name)) rows c.args.entries.now.rows c.cut_numbered.new.entries.rows c.requires found needed)
 
 pub returns-in-None-clause-names : goal.returns-in-None-clause-names
 returns-in-None-clause-names c =

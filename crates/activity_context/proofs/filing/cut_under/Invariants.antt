@@ -1,5 +1,5 @@
 -- those that are left and aren't under later entries are those that weren't under any
-use Rattle.std.proofs.Common.{◌≡◌, List, ℕ}
+use Rattle.std.proofs.Common.{◌≡◌}
 use Rattle.std.specs.Prelude.{◌≤◌, not}
 use Rattle.std.specs.List.{filter, list_any}
 use Rattle.sorted_rows.specs.Keys.{is_pair}

@@ -1,5 +1,5 @@
 -- the activity goes with its entry, or there is none
-use Rattle.std.proofs.Common.{sym, ◌==◌, ◌∙◌, refl}
+use Rattle.std.proofs.Common.{sym, ◌==◌, refl}
 use Rattle.slee_state.specs.declared.rows.Activity.{Activity}
 use Rattle.sorted_rows.specs.Keys.{activity_key}
 use Rattle.sorted_rows.proofs.NumberLemmas.{below_filter}
