@@ -99,11 +99,11 @@ fn marks_go_with_the_head_event_of_their_activity(rt: HostRuntime) -> Result<(),
     assert!(rt; queues.is_delivered(CALL, ME));
     assert!(rt; !queues.is_delivered(TIMER, ME));
     for wanted in [1, 0] {
-        assert_eq!(rt; queues.services_done(CALL).len(), wanted);
-        assert_eq!(rt; queues.delivered(CALL).len(), wanted);
+        assert_eq!(rt; queues.services_done(CALL).count(), wanted);
+        assert_eq!(rt; queues.delivered(CALL).count(), wanted);
         queues.pop(CALL);
     }
-    assert_eq!(rt; queues.services_done(TIMER).len(), 1);
+    assert_eq!(rt; queues.services_done(TIMER).count(), 1);
     Ok(())
 }
 
@@ -116,7 +116,7 @@ fn a_suspended_event_is_held_until_it_is_released(rt: HostRuntime) -> Result<(),
     hold(&mut queues, CALL, 500)?;
     hold(&mut queues, CALL, 700)?;
     assert_eq!(rt; queues.suspended_until(CALL), Some(700));
-    assert_eq!(rt; queues.suspensions().len(), 1);
+    assert_eq!(rt; queues.suspensions().count(), 1);
     assert!(rt; queues.release(CALL));
     assert!(rt; !queues.release(CALL));
     assert_eq!(rt; queues.suspended_until(CALL), None);

@@ -50,7 +50,7 @@ fn an_attachment_begins_with_its_own_masks(rt: HostRuntime) -> Result<(), Fail> 
             is_masked
         );
     }
-    assert_eq!(rt; masks.of(ME, CALL).len(), 2);
+    assert_eq!(rt; masks.of(ME, CALL).count(), 2);
     assert_eq!(rt; masks.len(), 3);
     Ok(())
 }
