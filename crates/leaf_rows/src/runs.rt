@@ -1,5 +1,5 @@
 //! Rows that stand side by side, lent one by one.
-ghost use Rattle.std.specs.Prelude.{◌≡◌, ◌+◌, ◌≤◌, ◌++◌, filter, length, option_copied, slice_get, slice_range, take, drop};
+ghost use Rattle.std.specs.Prelude.{◌≡◌, ◌+◌, ◌-◌, ◌^◌, ◌≤◌, ◌++◌, filter, length, min, option_copied, slice_get, slice_range, take, drop};
 ghost use Rattle.std.specs.List.{AllByRecursion, flat_map};
 ghost use Rattle.std.specs.Iterator.{YieldsFirstRef, item_count};
 ghost use Rattle.sorted_rows.specs.Keys.{Rises};
@@ -70,6 +70,29 @@ impl<'a, R> Run<'a, R> {
             None => row_behind(self.middle, self.back, place - self.front.len()),
         }
     }
+
+    /// How many rows are left. It goes from leaf to leaf, and counts no further than `usize::MAX`.
+    pub fn len(&self) -> usize
+        ensures { result ≡ min (length self.now) (2 ^ 64 - 1) }
+    {
+        rows_and_more(
+            self.middle,
+            self.front.len().saturating_add(self.back.len()),
+        )
+    }
+}
+
+/// How many rows the leaves have, with so many more.
+fn rows_and_more<R>(leaves: &[Leaf<R>], more: usize) -> usize
+    ensures { result ≡ min (length (flat_map leaf_rows leaves.now) + more) (2 ^ 64 - 1) }
+{
+    let mut left = leaves;
+    let mut count = more;
+    'leaves: while let Some((leaf, others)) = left.split_first() {
+        count = count.saturating_add(leaf.rows.len());
+        left = others;
+    }
+    count
 }
 
 /// The row at the place among those of the leaves and others behind them.
