@@ -1,5 +1,5 @@
 //! Rows that stand side by side, lent one by one.
-ghost use Rattle.std.specs.Prelude.{◌≡◌, ◌+◌, ◌≤◌, ◌++◌, filter, length, slice_range, take, drop};
+ghost use Rattle.std.specs.Prelude.{◌≡◌, ◌+◌, ◌-◌, ◌^◌, ◌≤◌, ◌++◌, filter, length, min, option_copied, slice_get, slice_range, take, drop};
 ghost use Rattle.std.specs.List.{AllByRecursion, flat_map};
 ghost use Rattle.std.specs.Iterator.{YieldsFirstRef, item_count};
 ghost use Rattle.sorted_rows.specs.Keys.{Rises};
@@ -57,6 +57,63 @@ impl<'a, R> Iterator for Run<'a, R> {
         let (row, rest) = self.back.split_first()?;
         self.back = rest;
         Some(row)
+    }
+}
+
+impl<'a, R> Run<'a, R> {
+    /// The row at the place among those that are left. It goes from leaf to leaf.
+    pub fn get(&self, place: usize) -> Option<&'a R>
+        ensures { option_copied result ≡ slice_get self.now place }
+    {
+        match self.front.get(place) {
+            Some(row) => Some(row),
+            None => row_behind(self.middle, self.back, place - self.front.len()),
+        }
+    }
+
+    /// How many rows are left. It goes from leaf to leaf, and counts no further than `usize::MAX`.
+    pub fn len(&self) -> usize
+        ensures { result ≡ min (length self.now) (2 ^ 64 - 1) }
+    {
+        rows_and_more(
+            self.middle,
+            self.front.len().saturating_add(self.back.len()),
+        )
+    }
+}
+
+/// How many rows the leaves have, with so many more.
+fn rows_and_more<R>(leaves: &[Leaf<R>], more: usize) -> usize
+    ensures { result ≡ min (length (flat_map leaf_rows leaves.now) + more) (2 ^ 64 - 1) }
+{
+    let mut left = leaves;
+    let mut count = more;
+    'leaves: while let Some((leaf, others)) = left.split_first() {
+        count = count.saturating_add(leaf.rows.len());
+        left = others;
+    }
+    count
+}
+
+/// The row at the place among those of the leaves and others behind them.
+fn row_behind<'a, R>(leaves: &'a [Leaf<R>], back: &'a [R], place: usize) -> Option<&'a R>
+    ensures { option_copied result ≡ slice_get (flat_map leaf_rows leaves.now ++ back.now) place }
+{
+    let mut left = leaves;
+    let mut rest = place;
+    'leaves: while let Some((leaf, others)) = left.split_first() {
+        match leaf.rows.get(rest) {
+            Some(row) => return Some(row),
+            None => {
+                rest -= leaf.rows.len();
+                left = others;
+            }
+        }
+    }
+    if rest < back.len() {
+        Some(&back[rest])
+    } else {
+        None
     }
 }
 
