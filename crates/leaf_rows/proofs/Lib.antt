@@ -4,4 +4,7 @@ pub mod PartLemmas
 pub mod JoinLemmas
 pub mod SplitLemmas
 pub mod FirstLemmas
+pub mod ShareLemmas
 pub mod RunLemmas
+pub mod CountLemmas
+pub mod ChangeLemmas

@@ -15,7 +15,7 @@ module _ {Row : Type 0} where
   none_kept p [] all = refl
   none_kept p (y ∷ ys) all = rw all.0 (none_kept p ys all.1)
 
-  all_kept : (p : Row → Bool) (rows : List Row) → AllByRecursion (λ y. p y ≡ true) rows → filter p rows ≡ rows
+  pub all_kept : (p : Row → Bool) (rows : List Row) → AllByRecursion (λ y. p y ≡ true) rows → filter p rows ≡ rows
   all_kept p [] all = refl
   all_kept p (y ∷ ys) all = rw all.0 (ap (λ rest. y ∷ rest) (all_kept p ys all.1))
 

@@ -1,86 +1,112 @@
--- The rows of one number stand in the leaves between two places.
-use Rattle.std.proofs.Common.{◌≡◌, ℕ, zero, suc, ◌<◌, ◌≤◌, Bool, false, List, [], ◌∷◌, ◌++◌, length, take, drop, slice_range, ◌-◌, map, refl, sym, ap, ◌∙◌, arith, inl, inr}
-use Rattle.std.specs.Prelude.{nat_lt, nat_le, ◌==◌}
+-- The rows of a share: a part of the leaf in which they begin, the leaves between, and a part of the leaf in which they end.
+use Rattle.std.proofs.Common.{◌≡◌, ℕ, suc, ◌+◌, ◌-◌, ◌<◌, ◌≤◌, Bool, true, false, List, [], ◌∷◌, ◌++◌, length, take, drop, slice_range, refl, sym, ap, ◌∙◌, append_assoc, arith, inl, inr}
 use Rattle.std.specs.List.{AllByRecursion, filter, flat_map, prefix_len}
-use Rattle.std.proofs.lemmas.Bool.{cases_Bool, cases_lt}
-use Rattle.std.proofs.lemmas.Bool.Decides.{nat_tests}
-use Rattle.std.proofs.lemmas.List.{append-nil, drop_all}
-use Rattle.std.proofs.lemmas.List.Concat.{flat_map-append}
-use Rattle.std.proofs.lemmas.List.Edits.{split_between}
+use Rattle.std.proofs.lemmas.Bool.{cases_Bool}
+use Rattle.std.proofs.lemmas.List.{append-nil}
 use Rattle.std.proofs.lemmas.List.Elements.{filter-append}
 use Rattle.sorted_rows.specs.Keys.{Key, Rises}
-use Rattle.sorted_rows.proofs.OrderLemmas.{AllInOrder, IsBefore, all_from_all, first_up_to_earlier, in_order, rises_again}
+use Rattle.sorted_rows.proofs.OrderLemmas.{AllInOrder, IsBefore, all_from_all, in_order, rises_again}
 use Rattle.leaf_rows.specs.Laying.{last_key}
-use Rattle.leaf_rows.proofs.LastLemmas.{all_both, order_front, order_back}
-use Rattle.leaf_rows.proofs.FirstLemmas.{mine, lower_apart}
-use Rattle.leaf_rows.proofs.PartLemmas.{none_kept}
-use Rattle.leaf_rows.proofs.JoinLemmas.{all_drop, all_take}
+use Rattle.leaf_rows.specs.Shares.{is_ahead, is_up_to, is_in}
+use Rattle.leaf_rows.specs.declared.share.Share.{Share}
+use Rattle.leaf_rows.proofs.LastLemmas.{all_front, all_back, order_front, order_back}
+use Rattle.leaf_rows.proofs.PartLemmas.{all_kept, none_kept}
+use Rattle.leaf_rows.proofs.ShareLemmas.{share_parts, all_up_to_last, none_behind_last, mine, ahead, up_to, ahead_apart, behind_apart, between_mine}
 
-module _ {Row : Type 0} (key : Row → Key) (a : ℕ) where
-  one_higher : (x z : Row) → IsBefore key x z → nat_le (key x).first a ≡ false → mine key a z ≡ false
-  one_higher x z before high = elim (cases_Bool (nat_le (key z).first a)) [
-    | inl low ↦ let wrong = first_up_to_earlier key a x z before low in cc
-    | inr above ↦ grind (arith, nat_tests)
+module _ {Leaf Row : Type 0} (key : Row → Key) (rows_of : Leaf → List Row) (share : Share) where
+  abbrev leaf_ahead : Leaf → Bool
+  leaf_ahead leaf = is_ahead share (last_key key (rows_of leaf))
+
+  abbrev leaf_up_to : Leaf → Bool
+  leaf_up_to leaf = is_up_to share (last_key key (rows_of leaf))
+
+  abbrev Filled : Leaf → Type 0
+  Filled leaf = 0 < length (rows_of leaf)
+
+  both_mine : (rows : List Row) → AllByRecursion (λ x. ahead key share x ≡ false) rows → AllByRecursion (λ x. up_to key share x ≡ true) rows → AllByRecursion (λ x. mine key share x ≡ true) rows
+  both_mine [] high low = tt
+  both_mine (x ∷ xs) high low = (between_mine key share x high.0 low.0, both_mine xs high.1 low.1)
+
+  -- what is kept of a leaf that ends them, and of all behind it
+  kept_end : (l : Leaf) (ls : List Leaf) → AllInOrder (IsBefore key) (rows_of l ++ flat_map rows_of ls) → Filled l → leaf_up_to l ≡ false → filter (mine key share) (rows_of l ++ flat_map rows_of ls) ≡ filter (mine key share) (rows_of l ++ [])
+  kept_end l ls order some fails =
+      let behind = none_behind_last key (is_up_to share) (share_parts key share).upper (rows_of l) (flat_map rows_of ls) order some fails in
+      let none = none_kept (mine key share) (flat_map rows_of ls) (all_from_all (λ z. up_to key share z ≡ false) (λ z. mine key share z ≡ false) (behind_apart key share) (flat_map rows_of ls) behind) in
+      filter-append (mine key share) (rows_of l) (flat_map rows_of ls) ∙ ap (λ rest. filter (mine key share) (rows_of l) ++ rest) none ∙ sym (filter-append (mine key share) (rows_of l) [])
+
+  -- from a place on from which no row stands before them
+  kept_on : (leaves : List Leaf) → AllByRecursion Filled leaves → AllInOrder (IsBefore key) (flat_map rows_of leaves) → AllByRecursion (λ x. ahead key share x ≡ false) (flat_map rows_of leaves)
+      → filter (mine key share) (flat_map rows_of leaves) ≡ flat_map rows_of (take (prefix_len leaf_up_to leaves) leaves) ++ filter (mine key share) (flat_map rows_of (take 1 (drop (prefix_len leaf_up_to leaves) leaves)))
+  kept_on [] filled order high = refl
+  kept_on (l ∷ ls) filled order high = elim (cases_Bool (leaf_up_to l)) [
+    | inl low ↦
+        let one : 1 + prefix_len leaf_up_to ls ≡ suc (prefix_len leaf_up_to ls) = omega arith in
+        let own = order_front (IsBefore key) (rows_of l) (flat_map rows_of ls) order in
+        let all = both_mine (rows_of l) (all_front _ (rows_of l) (flat_map rows_of ls) high) (all_up_to_last key (is_up_to share) (share_parts key share).upper (rows_of l) own low) in
+        rw (low, one)
+        (filter-append (mine key share) (rows_of l) (flat_map rows_of ls)
+        ∙ ap (λ rows. rows ++ filter (mine key share) (flat_map rows_of ls)) (all_kept (mine key share) (rows_of l) all)
+        ∙ ap (λ rest. rows_of l ++ rest) (kept_on ls filled.1 (order_back (IsBefore key) (rows_of l) (flat_map rows_of ls) order) (all_back _ (rows_of l) (flat_map rows_of ls) high))
+        ∙ sym (append_assoc (rows_of l) (flat_map rows_of (take (prefix_len leaf_up_to ls) ls)) _))
+    | inr fails ↦ rw fails (kept_end l ls order filled.0 fails)
   ]
 
-  -- no row has the number behind a row of a higher one
-  higher_apart : (rows later : List Row) → AllInOrder (IsBefore key) (rows ++ later) → 0 < length rows → nat_le (last_key key rows).first a ≡ false → AllByRecursion (λ z. mine key a z ≡ false) later
-  higher_apart [] later order some high = absurd (omega (arith, some))
-  higher_apart (x ∷ []) later order some high = all_from_all (IsBefore key x) (λ z. mine key a z ≡ false) (λ z before. one_higher x z before high) later order.0
-  higher_apart (x ∷ y ∷ rows) later order some high = higher_apart (y ∷ rows) later order.1 (omega arith) high
+  -- what is kept of a leaf before them, and of all others
+  kept_past : (l : Leaf) (ls : List Leaf) → AllInOrder (IsBefore key) (rows_of l ++ flat_map rows_of ls) → leaf_ahead l ≡ true → filter (mine key share) (rows_of l ++ flat_map rows_of ls) ≡ filter (mine key share) (flat_map rows_of ls)
+  kept_past l ls order low =
+      let own = order_front (IsBefore key) (rows_of l) (flat_map rows_of ls) order in
+      let before = all_up_to_last key (is_ahead share) (share_parts key share).lower (rows_of l) own low in
+      let none = none_kept (mine key share) (rows_of l) (all_from_all (λ x. ahead key share x ≡ true) (λ x. mine key share x ≡ false) (ahead_apart key share) (rows_of l) before) in
+      filter-append (mine key share) (rows_of l) (flat_map rows_of ls) ∙ ap (λ rows. rows ++ filter (mine key share) (flat_map rows_of ls)) none
 
-  module _ {Leaf : Type 0} (rows_of : Leaf → List Row) where
-    front_apart : (n : ℕ) (leaves : List Leaf) → AllInOrder (IsBefore key) (flat_map rows_of leaves) → n ≤ prefix_len (λ leaf. nat_lt (last_key key (rows_of leaf)).first a) leaves
-        → AllByRecursion (λ x. mine key a x ≡ false) (flat_map rows_of (take n leaves))
-    front_apart zero leaves order le = tt
-    front_apart (suc n) [] order le = tt
-    front_apart (suc n) (l ∷ ls) order le = elim (cases_Bool (nat_lt (last_key key (rows_of l)).first a)) [
+  last_within : (rows : List Row) → 0 < length rows → is_ahead share (last_key key rows) ≡ true → is_up_to share (last_key key rows) ≡ true
+  last_within [] some low = absurd (omega (arith, some))
+  last_within (x ∷ []) some low = (share_parts key share).within x low
+  last_within (x ∷ y ∷ rows) some low = last_within (y ∷ rows) (omega arith) low
+
+  kept_from : (leaves : List Leaf) → AllByRecursion Filled leaves → AllInOrder (IsBefore key) (flat_map rows_of leaves)
+      → (prefix_len leaf_ahead leaves < prefix_len leaf_up_to leaves
+      → filter (mine key share) (flat_map rows_of (take 1 (drop (prefix_len leaf_ahead leaves) leaves)))
+      ++ (flat_map rows_of (slice_range leaves (prefix_len leaf_ahead leaves + 1) (prefix_len leaf_up_to leaves)) ++ filter (mine key share) (flat_map rows_of (take 1 (drop (prefix_len leaf_up_to leaves) leaves))))
+      ≡ filter (mine key share) (flat_map rows_of leaves))
+      × (prefix_len leaf_up_to leaves ≤ prefix_len leaf_ahead leaves → filter (mine key share) (flat_map rows_of (take 1 (drop (prefix_len leaf_ahead leaves) leaves))) ≡ filter (mine key share) (flat_map rows_of leaves))
+  kept_from [] filled order = ((λ some. absurd (omega (arith, some))), (λ none. refl))
+  kept_from (l ∷ ls) filled order = elim (cases_Bool (leaf_ahead l)) [
+    | inl low ↦
+        let also = last_within (rows_of l) filled.0 low in
+        let one : 1 + prefix_len leaf_ahead ls ≡ suc (prefix_len leaf_ahead ls) = omega arith in
+        let two : 1 + prefix_len leaf_up_to ls ≡ suc (prefix_len leaf_up_to ls) = omega arith in
+        let next : suc (prefix_len leaf_ahead ls) + 1 ≡ suc (prefix_len leaf_ahead ls + 1) = omega arith in
+        let less : suc (prefix_len leaf_up_to ls) - suc (prefix_len leaf_ahead ls + 1) ≡ prefix_len leaf_up_to ls - (prefix_len leaf_ahead ls + 1) = omega arith in
+        let rest = kept_from ls filled.1 (order_back (IsBefore key) (rows_of l) (flat_map rows_of ls) order) in
+        rw (low, also, one, two, next, less)
+        ((λ some. rest.0 (omega (arith, some)) ∙ sym (kept_past l ls order low)), (λ none. rest.1 (omega (arith, none)) ∙ sym (kept_past l ls order low)))
+    | inr high ↦ elim (cases_Bool (leaf_up_to l)) [
       | inl low ↦
-          let more = rw low at le in
-          all_both _ (rows_of l) (flat_map rows_of (take n ls)) (lower_apart key a (rows_of l) (order_front (IsBefore key) (rows_of l) (flat_map rows_of ls) order) low)
-          (front_apart n ls (order_back (IsBefore key) (rows_of l) (flat_map rows_of ls) order) (omega (arith, more)))
-      | inr high ↦ let none = rw high at le in absurd (omega (arith, none))
+          let two : 1 + prefix_len leaf_up_to ls ≡ suc (prefix_len leaf_up_to ls) = omega arith in
+          let less : suc (prefix_len leaf_up_to ls) - 1 ≡ prefix_len leaf_up_to ls = omega arith in
+          let later = kept_on ls filled.1 (order_back (IsBefore key) (rows_of l) (flat_map rows_of ls) order) (none_behind_last key (is_ahead share) (share_parts key share).lower (rows_of l) (flat_map rows_of ls) order filled.0 high) in
+          rw (high, low, two, less, append-nil (rows_of l))
+          ((λ some. ap (λ rest. filter (mine key share) (rows_of l) ++ rest) (sym later) ∙ sym (filter-append (mine key share) (rows_of l) (flat_map rows_of ls))), (λ none. absurd (omega (arith, none))))
+      | inr fails ↦ rw (high, fails) ((λ some. absurd (omega (arith, some))), (λ none. sym (kept_end l ls order filled.0 fails)))
     ]
+  ]
 
-    back_apart : (n : ℕ) (leaves : List Leaf) → AllByRecursion (λ leaf. 0 < length (rows_of leaf)) leaves → AllInOrder (IsBefore key) (flat_map rows_of leaves)
-        → n < length leaves → n ≡ prefix_len (λ leaf. nat_le (last_key key (rows_of leaf)).first a) leaves → AllByRecursion (λ z. mine key a z ≡ false) (flat_map rows_of (drop (suc n) leaves))
-    back_apart n [] filled order within is = absurd (omega (arith, within))
-    back_apart zero (l ∷ ls) filled order within is = elim (cases_Bool (nat_le (last_key key (rows_of l)).first a)) [
-      | inl low ↦ let one = rw low at is in absurd (omega (arith, one))
-      | inr high ↦ higher_apart (rows_of l) (flat_map rows_of ls) order filled.0 high
-    ]
-    back_apart (suc n) (l ∷ ls) filled order within is = elim (cases_Bool (nat_le (last_key key (rows_of l)).first a)) [
-      | inl low ↦
-          let more = rw low at is in
-          back_apart n ls filled.1 (order_back (IsBefore key) (rows_of l) (flat_map rows_of ls) order) (omega (arith, within)) (omega (arith, more))
-      | inr high ↦ let none = rw high at is in absurd (omega (arith, none))
-    ]
+  pub kept_parts : (start end : ℕ) (leaves : List Leaf) → AllByRecursion (λ leaf. 0 < length (rows_of leaf)) leaves → Rises key (flat_map rows_of leaves)
+      → start ≡ prefix_len (λ leaf. is_ahead share (last_key key (rows_of leaf))) leaves → end ≡ prefix_len (λ leaf. is_up_to share (last_key key (rows_of leaf))) leaves → start < end
+      → filter (λ row. is_in share (key row)) (flat_map rows_of (take 1 (drop start leaves)))
+      ++ (flat_map rows_of (slice_range leaves (start + 1) end) ++ filter (λ row. is_in share (key row)) (flat_map rows_of (take 1 (drop end leaves))))
+      ≡ filter (λ row. is_in share (key row)) (flat_map rows_of leaves)
+  kept_parts start end leaves filled rises first last some =
+      let all = kept_from leaves filled (in_order key _ rises) in
+      rw (first, last) (all.0 (omega (arith, first, last, some)))
 
-    end_apart : (n end : ℕ) (leaves : List Leaf) → AllByRecursion (λ leaf. 0 < length (rows_of leaf)) leaves → AllInOrder (IsBefore key) (flat_map rows_of leaves)
-        → n ≡ prefix_len (λ leaf. nat_le (last_key key (rows_of leaf)).first a) leaves → (n < length leaves → end ≡ suc n) → (length leaves ≤ n → length leaves ≤ end)
-        → AllByRecursion (λ z. mine key a z ≡ false) (flat_map rows_of (drop end leaves))
-    end_apart n end leaves filled order is next last = elim (cases_lt n (length leaves)) [
-      | inl inside ↦ let there = next inside in rw there (back_apart n leaves filled order inside is)
-      | inr behind ↦ let none : drop end leaves ≡ [] = drop_all end leaves (last behind) in rw none tt
-    ]
-
-    -- the rows of the number are those of the leaves between the two places
-    pub kept_between : (start n end : ℕ) (leaves : List Leaf) → AllByRecursion (λ leaf. 0 < length (rows_of leaf)) leaves → Rises key (flat_map rows_of leaves)
-        → start ≡ prefix_len (λ leaf. nat_lt (last_key key (rows_of leaf)).first a) leaves → n ≡ prefix_len (λ leaf. nat_le (last_key key (rows_of leaf)).first a) leaves
-        → start ≤ end → (n < length leaves → end ≡ suc n) → (length leaves ≤ n → length leaves ≤ end)
-        → filter (λ row. (key row).first == a) (flat_map rows_of (slice_range leaves start end)) ≡ filter (λ row. (key row).first == a) (flat_map rows_of leaves)
-    kept_between start n end leaves filled rises first is le next last =
-        let order = in_order key _ rises in
-        let front = none_kept (mine key a) (flat_map rows_of (take start leaves)) (front_apart start leaves order (omega (arith, first))) in
-        let back = none_kept (mine key a) (flat_map rows_of (drop end leaves)) (end_apart n end leaves filled order is next last) in
-        let middle = flat_map rows_of (slice_range leaves start end) in
-        sym (ap (λ all. filter (mine key a) (flat_map rows_of all)) (split_between leaves start end le)
-        ∙ ap (filter (mine key a)) (flat_map-append rows_of (take start leaves) (slice_range leaves start end ++ drop end leaves) ∙ ap (λ rest. flat_map rows_of (take start leaves) ++ rest) (flat_map-append rows_of (slice_range leaves start end) (drop end leaves)))
-        ∙ filter-append (mine key a) (flat_map rows_of (take start leaves)) (middle ++ flat_map rows_of (drop end leaves))
-        ∙ ap (λ none. none ++ filter (mine key a) (middle ++ flat_map rows_of (drop end leaves))) front
-        ∙ filter-append (mine key a) middle (flat_map rows_of (drop end leaves))
-        ∙ ap (λ none. filter (mine key a) middle ++ none) back
-        ∙ append-nil (filter (mine key a) middle))
+  pub kept_part : (start end : ℕ) (leaves : List Leaf) → AllByRecursion (λ leaf. 0 < length (rows_of leaf)) leaves → Rises key (flat_map rows_of leaves)
+      → start ≡ prefix_len (λ leaf. is_ahead share (last_key key (rows_of leaf))) leaves → end ≡ prefix_len (λ leaf. is_up_to share (last_key key (rows_of leaf))) leaves → end ≤ start
+      → filter (λ row. is_in share (key row)) (flat_map rows_of (take 1 (drop start leaves))) ≡ filter (λ row. is_in share (key row)) (flat_map rows_of leaves)
+  kept_part start end leaves filled rises first last none =
+      let all = kept_from leaves filled (in_order key _ rises) in
+      rw first (all.1 (omega (arith, first, last, none)))
 
 -- the rows of each leaf rise
 pub each_rises : {Leaf Row : Type 0} (key : Row → Key) (rows_of : Leaf → List Row) (leaves : List Leaf) → Rises key (flat_map rows_of leaves) → AllByRecursion (λ leaf. Rises key (rows_of leaf)) leaves
@@ -89,15 +115,3 @@ each_rises {Leaf} {Row} key rows_of leaves rises = by leaves (in_order key _ ris
     by : (leaves : List Leaf) → AllInOrder (IsBefore key) (flat_map rows_of leaves) → AllByRecursion (λ leaf. Rises key (rows_of leaf)) leaves
     by [] order = tt
     by (l ∷ ls) order = (rises_again key (rows_of l) (order_front (IsBefore key) (rows_of l) (flat_map rows_of ls) order), by ls (order_back (IsBefore key) (rows_of l) (flat_map rows_of ls) order))
-
-pub all_slice : {X : Type 0} (P : X → Type 0) (start end : ℕ) (xs : List X) → AllByRecursion P xs → AllByRecursion P (slice_range xs start end)
-all_slice P start end xs all = all_take P (end - start) (drop start xs) (all_drop P start xs all)
-
-pub joined_map : {X Row : Type 0} (f : X → List Row) (xs : List X) → flat_map (λ part. part) (map f xs) ≡ flat_map f xs
-joined_map f [] = refl
-joined_map f (x ∷ xs) = ap (λ rest. f x ++ rest) (joined_map f xs)
-
--- what is kept of each leaf is what is kept of all
-pub kept_each : {Leaf Row : Type 0} (rows_of : Leaf → List Row) (q : Row → Bool) (leaves : List Leaf) → flat_map (λ leaf. filter q (rows_of leaf)) leaves ≡ filter q (flat_map rows_of leaves)
-kept_each rows_of q [] = refl
-kept_each rows_of q (l ∷ ls) = ap (λ rest. filter q (rows_of l) ++ rest) (kept_each rows_of q ls) ∙ sym (filter-append q (rows_of l) (flat_map rows_of ls))

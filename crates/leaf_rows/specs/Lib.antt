@@ -1,2 +1,3 @@
 pub mod Laying
 pub mod Invariant
+pub mod Shares

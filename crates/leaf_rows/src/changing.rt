@@ -1,244 +1,100 @@
-//! Rows put into the leaf in which they belong, and cut from it.
-ghost use Rattle.std.specs.Prelude.{◌≡◌, ◌==◌, ◌+◌, ◌≤◌, ◌<◌, find, [], ◌∷◌, IsTrue, MatchOption, not, filter, nat_lt, ◌||◌, slice_index_or, vec_capacity, vec_len};
-ghost use Rattle.std.specs.List.{AllByRecursion, flat_map, insert, list_any, prefix_len};
-ghost use Rattle.slee_state.specs.Orders.{put};
-ghost use Rattle.sorted_rows.specs.Keys.{Rises, is_key, key_before};
-ghost use Rattle.sorted_rows.specs.Runs.{without_first};
-ghost use Rattle.leaf_rows.specs.Laying.{last_key};
-ghost use Rattle.leaf_rows.specs.Invariant.{leaf_rows, has_place, Belongs, HasMemory, HasRows, Stands, StandsBut};
+//! A row changed in its place, with the key that it has.
+ghost use Rattle.std.specs.Prelude.{◌≡◌, ◌<◌, ◌≤◌, if◌then◌else◌, Some, map, set, slice_get, slice_index_or, vec_capacity, vec_len};
+ghost use Rattle.std.specs.Fn.{FnOnceReturnsAtMut};
+ghost use Rattle.std.specs.List.{AllByRecursion, flat_map, list_any};
+ghost use Rattle.sorted_rows.specs.Keys.{Rises, is_key};
+ghost use Rattle.leaf_rows.specs.Invariant.{leaf_rows, Belongs, HasMemory, HasRows};
 
-use crate::leaf::{LEAF_ROWS, Leaf};
+use crate::leaf::Leaf;
 use crate::search::leaf_of;
-use crate::splitting::{push_item, put_in_two};
-use sorted_rows::{Keyed, count_lower, cut_first_of, cut_row, has_row, put_row};
+use sorted_rows::{Keyed, place_of};
 
-/// The row is put into the leaf at the place.
-fn put_at<R: Keyed + Drop>(leaves: &mut Vec<Leaf<R>>, place: usize, row: R)
+fn change_item<R, F: FnOnce(&mut R)>(rows: &mut Vec<R>, place: usize, change: F)
+    requires callable { F.IsAlwaysCallable change }
+    requires within { place < vec_len rows.old }
+    ensures items { (old : R) × (new : R) × (slice_get rows.old.items place ≡ Some old) × FnOnceReturnsAtMut F.FnOnce change old tt new × (rows.new.items ≡ set rows.old.items place new) }
+    ensures len { vec_len rows.new ≡ vec_len rows.old }
+    ensures capacity { vec_capacity rows.new ≡ vec_capacity rows.old }
+{
+    change(&mut rows[place]);
+}
+
+/// The row of this key is changed. The answer says whether there is one.
+fn change_among<R: Keyed, F: FnOnce(&mut R)>(
+    rows: &mut Vec<R>,
+    first: u64,
+    second: u64,
+    text: &[u8],
+    change: F,
+) -> bool
+    requires rises { Rises R.key rows.old.items }
+    requires callable { F.IsAlwaysCallable change }
+    requires key { (old new : R) → FnOnceReturnsAtMut F.FnOnce change old tt new → R.key new ≡ R.key old }
+    ensures found { result ≡ list_any (λ row. is_key (R.key row) (record { first = first; second = second; text = text.now })) rows.old.items }
+    ensures rows { (f : R → R) → ((old new : R) → FnOnceReturnsAtMut F.FnOnce change old tt new → new ≡ f old) → rows.new.items ≡ map (λ row. if is_key (R.key row) (record { first = first; second = second; text = text.now }) then f row else row) rows.old.items }
+    ensures keys { map R.key rows.new.items ≡ map R.key rows.old.items }
+    ensures len { vec_len rows.new ≡ vec_len rows.old }
+    ensures capacity { vec_capacity rows.new ≡ vec_capacity rows.old }
+{
+    match place_of(rows, first, second, text) {
+        Some(place) => {
+            change_item(rows, place, change);
+            true
+        }
+        None => false,
+    }
+}
+
+/// The row of this key is changed in the leaf at the place. The answer says whether there is one.
+fn change_at<R: Keyed, F: FnOnce(&mut R)>(
+    leaves: &mut Vec<Leaf<R>>,
+    place: usize,
+    first: u64,
+    second: u64,
+    text: &[u8],
+    change: F,
+) -> bool
     requires rises { Rises R.key (flat_map leaf_rows leaves.old.items) }
     requires filled { AllByRecursion HasRows leaves.old.items }
     requires memory { AllByRecursion HasMemory leaves.old.items }
-    requires belongs { Belongs R.key leaves.old.items (R.key row) place }
-    requires room { (leaf : Leaf R) → leaf ≡ slice_index_or leaves.old.items place leaf → IsTrue (has_place R.key (R.key row) leaf) }
-    ensures rows { flat_map leaf_rows leaves.new.items ≡ put (λ x y. key_before (R.key x) (R.key y)) row (flat_map leaf_rows leaves.old.items) }
+    requires belongs { Belongs R.key leaves.old.items (record { first = first; second = second; text = text.now }) place }
+    requires callable { F.IsAlwaysCallable change }
+    requires key { (old new : R) → FnOnceReturnsAtMut F.FnOnce change old tt new → R.key new ≡ R.key old }
+    ensures found { result ≡ list_any (λ row. is_key (R.key row) (record { first = first; second = second; text = text.now })) (flat_map leaf_rows leaves.old.items) }
+    ensures rows { (f : R → R) → ((old new : R) → FnOnceReturnsAtMut F.FnOnce change old tt new → new ≡ f old) → flat_map leaf_rows leaves.new.items ≡ map (λ row. if is_key (R.key row) (record { first = first; second = second; text = text.now }) then f row else row) (flat_map leaf_rows leaves.old.items) }
+    ensures keys { map R.key (flat_map leaf_rows leaves.new.items) ≡ map R.key (flat_map leaf_rows leaves.old.items) }
     ensures filled { AllByRecursion HasRows leaves.new.items }
     ensures memory { AllByRecursion HasMemory leaves.new.items }
     ensures len { vec_len leaves.new ≡ vec_len leaves.old }
     ensures capacity { vec_capacity leaves.new ≡ vec_capacity leaves.old }
 {
     let leaf = &mut leaves[place];
-    put_row(&mut leaf.rows, row);
+    change_among(&mut leaf.rows, first, second, text, change)
 }
 
-/// Where the leaf stands in which the row belongs.
-fn leaf_of_row<R: Keyed>(leaves: &[Leaf<R>], row: &R) -> Option<usize>
-    requires rises { Rises R.key (flat_map leaf_rows leaves.now) }
-    requires filled { AllByRecursion HasRows leaves.now }
-    ensures { MatchOption result (leaves.now ≡ []) (λ place. Belongs R.key leaves.now (R.key row.now) place) }
-{
-    leaf_of(leaves, row.first(), row.second(), row.text())
-}
-
-/// Whether the leaf isn't full, or has a row of this row's key.
-fn takes<R: Keyed>(leaf: &Leaf<R>, row: &R) -> bool
-    requires { Rises R.key leaf.now.rows.items }
-    ensures { result ≡ has_place R.key (R.key row.now) leaf.now }
-{
-    leaf.rows.len() < LEAF_ROWS
-        || has_row(leaf.rows.as_slice(), row.first(), row.second(), row.text())
-}
-
-/// How many rows of a full leaf move behind. Behind the last leaf rows come most often.
-fn count_to_move(is_last: bool) -> usize
-    ensures some { 0 < result }
-    ensures within { result < LEAF_ROWS }
-{
-    if is_last { 1 } else { LEAF_ROWS / 2 }
-}
-
-fn insert_item<T: Drop>(items: &mut Vec<T>, place: usize, item: T)
-    requires within { place ≤ vec_len items.old }
-    requires room { vec_len items.old < vec_capacity items.old }
-    ensures items { items.new.items ≡ insert items.old.items place item }
-    ensures len { vec_len items.new ≡ vec_len items.old + 1 }
-    ensures memory { vec_capacity items.old ≤ vec_capacity items.new }
-{
-    match items.insert(place, item) {
-        Ok(()) => {}
-        Err(_) => unreachable!(),
-    }
-}
-
-/// The full leaf at the place is split in two, and the row is put into one of both.
-fn split_at<R: Keyed + Drop>(
+/// The row of this key is changed. The answer says whether there is one.
+pub fn change_in<R: Keyed, F: FnOnce(&mut R)>(
     leaves: &mut Vec<Leaf<R>>,
-    spares: &mut Vec<Leaf<R>>,
-    place: usize,
-    row: R,
-)
-    requires stands { Stands R.key leaves.old spares.old }
-    requires belongs { Belongs R.key leaves.old.items (R.key row) place }
-    requires room { 0 < vec_len spares.old }
-    requires full { (leaf : Leaf R) → leaf ≡ slice_index_or leaves.old.items place leaf → LEAF_ROWS ≤ vec_len leaf.rows }
-    ensures rows { flat_map leaf_rows leaves.new.items ≡ put (λ x y. key_before (R.key x) (R.key y)) row (flat_map leaf_rows leaves.old.items) }
-    ensures stands { Stands R.key leaves.new spares.new }
-    ensures room { vec_len spares.old ≤ vec_len spares.new + 1 }
-{
-    match spares.pop() {
-        Some(spare) => {
-            let mut behind = spare;
-            let count = count_to_move(place + 1 == leaves.len());
-            let leaf = &mut leaves[place];
-            put_in_two(&mut leaf.rows, &mut behind.rows, count, row);
-            insert_item(leaves, place + 1, behind);
-        }
-        None => unreachable!(),
-    }
-}
-
-/// The row is put where there are no leaves.
-fn put_first<R: Keyed + Drop>(leaves: &mut Vec<Leaf<R>>, spares: &mut Vec<Leaf<R>>, row: R)
-    requires stands { Stands R.key leaves.old spares.old }
-    requires none { leaves.old.items ≡ [] }
-    requires room { 0 < vec_len spares.old }
-    ensures rows { flat_map leaf_rows leaves.new.items ≡ row ∷ [] }
-    ensures stands { Stands R.key leaves.new spares.new }
-    ensures room { vec_len spares.old ≤ vec_len spares.new + 1 }
-{
-    match spares.pop() {
-        Some(spare) => {
-            let mut leaf = spare;
-            push_item(&mut leaf.rows, row);
-            push_item(leaves, leaf);
-        }
-        None => unreachable!(),
-    }
-}
-
-/// The leaf at the place goes to the spare ones if it has no row.
-fn release<R: Keyed + Drop>(leaves: &mut Vec<Leaf<R>>, spares: &mut Vec<Leaf<R>>, place: usize)
-    requires stands { StandsBut R.key leaves.old spares.old place }
-    requires within { place < vec_len leaves.old }
-    ensures rows { flat_map leaf_rows leaves.new.items ≡ flat_map leaf_rows leaves.old.items }
-    ensures stands { Stands R.key leaves.new spares.new }
-    ensures room { vec_len spares.old ≤ vec_len spares.new }
-{
-    if leaves[place].rows.is_empty() {
-        let spare = leaves.remove(place);
-        push_item(spares, spare);
-    }
-}
-
-/// The row of this key is cut from the leaf at the place. A leaf with no row goes to the spare ones.
-fn cut_at<R: Keyed + Drop>(
-    leaves: &mut Vec<Leaf<R>>,
-    spares: &mut Vec<Leaf<R>>,
-    place: usize,
     first: u64,
     second: u64,
     text: &[u8],
-)
-    requires stands { Stands R.key leaves.old spares.old }
-    requires belongs { Belongs R.key leaves.old.items (record { first = first; second = second; text = text.now }) place }
-    ensures rows { flat_map leaf_rows leaves.new.items ≡ filter (λ row. not (is_key (R.key row) (record { first = first; second = second; text = text.now }))) (flat_map leaf_rows leaves.old.items) }
-    ensures stands { Stands R.key leaves.new spares.new }
-    ensures room { vec_len spares.old ≤ vec_len spares.new }
-{
-    let leaf = &mut leaves[place];
-    cut_row(&mut leaf.rows, first, second, text);
-    release(leaves, spares, place);
-}
-
-/// The row stands in its place. Another one of its key gives way.
-pub fn put_in<R: Keyed + Drop>(leaves: &mut Vec<Leaf<R>>, spares: &mut Vec<Leaf<R>>, row: R)
-    requires stands { Stands R.key leaves.old spares.old }
-    requires room { IsTrue (list_any (λ other. is_key (R.key other) (R.key row)) (flat_map leaf_rows leaves.old.items) || nat_lt 0 (vec_len spares.old)) }
-    ensures rows { flat_map leaf_rows leaves.new.items ≡ put (λ x y. key_before (R.key x) (R.key y)) row (flat_map leaf_rows leaves.old.items) }
-    ensures stands { Stands R.key leaves.new spares.new }
-    ensures room { vec_len spares.old ≤ vec_len spares.new + 1 }
-    ensures replaced { IsTrue (list_any (λ other. is_key (R.key other) (R.key row)) (flat_map leaf_rows leaves.old.items)) → vec_len spares.old ≤ vec_len spares.new }
-{
-    match leaf_of_row(leaves.as_slice(), &row) {
-        Some(place) => {
-            if takes(&leaves[place], &row) {
-                put_at(leaves, place, row);
-            } else {
-                split_at(leaves, spares, place, row);
-            }
-        }
-        None => put_first(leaves, spares, row),
-    }
-}
-
-/// The row of this key is gone.
-pub fn cut_from<R: Keyed + Drop>(
-    leaves: &mut Vec<Leaf<R>>,
-    spares: &mut Vec<Leaf<R>>,
-    first: u64,
-    second: u64,
-    text: &[u8],
-)
-    requires { Stands R.key leaves.old spares.old }
-    ensures rows { flat_map leaf_rows leaves.new.items ≡ filter (λ row. not (is_key (R.key row) (record { first = first; second = second; text = text.now }))) (flat_map leaf_rows leaves.old.items) }
-    ensures stands { Stands R.key leaves.new spares.new }
-    ensures room { vec_len spares.old ≤ vec_len spares.new }
+    change: F,
+) -> bool
+    requires rises { Rises R.key (flat_map leaf_rows leaves.old.items) }
+    requires filled { AllByRecursion HasRows leaves.old.items }
+    requires memory { AllByRecursion HasMemory leaves.old.items }
+    requires callable { F.IsAlwaysCallable change }
+    requires key { (old new : R) → FnOnceReturnsAtMut F.FnOnce change old tt new → R.key new ≡ R.key old }
+    ensures found { result ≡ list_any (λ row. is_key (R.key row) (record { first = first; second = second; text = text.now })) (flat_map leaf_rows leaves.old.items) }
+    ensures rows { (f : R → R) → ((old new : R) → FnOnceReturnsAtMut F.FnOnce change old tt new → new ≡ f old) → flat_map leaf_rows leaves.new.items ≡ map (λ row. if is_key (R.key row) (record { first = first; second = second; text = text.now }) then f row else row) (flat_map leaf_rows leaves.old.items) }
+    ensures keys { map R.key (flat_map leaf_rows leaves.new.items) ≡ map R.key (flat_map leaf_rows leaves.old.items) }
+    ensures filled { AllByRecursion HasRows leaves.new.items }
+    ensures memory { AllByRecursion HasMemory leaves.new.items }
+    ensures len { vec_len leaves.new ≡ vec_len leaves.old }
+    ensures capacity { vec_capacity leaves.new ≡ vec_capacity leaves.old }
 {
     match leaf_of(leaves.as_slice(), first, second, text) {
-        Some(place) => cut_at(leaves, spares, place, first, second, text),
-        None => {}
+        Some(place) => change_at(leaves, place, first, second, text, change),
+        None => false,
     }
-}
-
-/// The first row of this first number goes from the leaf at the place, and is handed out.
-fn cut_first_at<R: Keyed + Drop>(
-    leaves: &mut Vec<Leaf<R>>,
-    spares: &mut Vec<Leaf<R>>,
-    place: usize,
-    first: u64,
-) -> Option<R>
-    requires stands { Stands R.key leaves.old spares.old }
-    requires within { place < vec_len leaves.old }
-    requires head { place ≡ prefix_len (λ leaf. nat_lt (last_key R.key (leaf_rows leaf)).first first) leaves.old.items }
-    ensures row { result ≡ find (λ row. (R.key row).first == first) (flat_map leaf_rows leaves.old.items) }
-    ensures rows { flat_map leaf_rows leaves.new.items ≡ without_first (λ row. (R.key row).first == first) (flat_map leaf_rows leaves.old.items) }
-    ensures stands { Stands R.key leaves.new spares.new }
-    ensures room { vec_len spares.old ≤ vec_len spares.new }
-{
-    let leaf = &mut leaves[place];
-    let row = cut_first_of(&mut leaf.rows, first);
-    release(leaves, spares, place);
-    row
-}
-
-/// The first row of this first number goes, and is handed out.
-pub fn cut_first_from<R: Keyed + Drop>(
-    leaves: &mut Vec<Leaf<R>>,
-    spares: &mut Vec<Leaf<R>>,
-    first: u64,
-) -> Option<R>
-    requires { Stands R.key leaves.old spares.old }
-    ensures row { result ≡ find (λ row. (R.key row).first == first) (flat_map leaf_rows leaves.old.items) }
-    ensures rows { flat_map leaf_rows leaves.new.items ≡ without_first (λ row. (R.key row).first == first) (flat_map leaf_rows leaves.old.items) }
-    ensures stands { Stands R.key leaves.new spares.new }
-    ensures room { vec_len spares.old ≤ vec_len spares.new }
-{
-    let place = count_lower(leaves.as_slice(), first);
-    if place < leaves.len() {
-        cut_first_at(leaves, spares, place, first)
-    } else {
-        None
-    }
-}
-
-/// The rows of this first number are gone.
-pub fn cut_all_from<R: Keyed + Drop>(
-    leaves: &mut Vec<Leaf<R>>,
-    spares: &mut Vec<Leaf<R>>,
-    first: u64,
-)
-    requires { Stands R.key leaves.old spares.old }
-    ensures rows { flat_map leaf_rows leaves.new.items ≡ filter (λ row. not ((R.key row).first == first)) (flat_map leaf_rows leaves.old.items) }
-    ensures stands { Stands R.key leaves.new spares.new }
-    ensures room { vec_len spares.old ≤ vec_len spares.new }
-{
-    'rows: while let Some(_row) = cut_first_from(leaves, spares, first) {}
 }

@@ -2,15 +2,17 @@
 #![tactic(auto)]
 
 mod changing;
+mod cutting;
+mod joining;
 mod leaf;
 mod leaves;
-mod parts;
+mod putting;
 mod reading;
 mod runs;
 mod search;
+mod share;
 mod spares;
 mod splitting;
 
 pub use leaves::Leaves;
-pub use parts::Parts;
 pub use runs::Run;

@@ -1,12 +1,14 @@
 //! Rows found in the leaf in which their key belongs.
-ghost use Rattle.std.specs.Prelude.{◌≡◌, ◌==◌, find, option_copied};
+ghost use Rattle.std.specs.Prelude.{◌≡◌, ◌<◌, find, length, option_copied, slice_get, Some};
 ghost use Rattle.std.specs.List.{AllByRecursion, flat_map, list_any};
 ghost use Rattle.sorted_rows.specs.Keys.{Rises, is_key};
 ghost use Rattle.leaf_rows.specs.Invariant.{leaf_rows, HasRows};
+ghost use Rattle.leaf_rows.specs.Shares.{is_in};
 
 use crate::leaf::Leaf;
 use crate::search::leaf_of;
-use sorted_rows::{Keyed, count_lower};
+use crate::share::{Share, first_in, start_of};
+use sorted_rows::Keyed;
 
 /// The row of this key.
 pub fn row_of<'a, R: Keyed>(
@@ -43,26 +45,45 @@ pub fn has_row<R: Keyed>(leaves: &[Leaf<R>], first: u64, second: u64, text: &[u8
     }
 }
 
-/// The first row of this first number.
-pub fn first_row_of<R: Keyed>(leaves: &[Leaf<R>], first: u64) -> Option<&R>
+/// The first row of the share.
+pub fn first_row_of<R: Keyed>(leaves: &[Leaf<R>], share: Share) -> Option<&R>
     requires rises { Rises R.key (flat_map leaf_rows leaves.now) }
     requires filled { AllByRecursion HasRows leaves.now }
-    ensures { option_copied result ≡ find (λ row. (R.key row).first == first) (flat_map leaf_rows leaves.now) }
+    ensures { option_copied result ≡ find (λ row. is_in share (R.key row)) (flat_map leaf_rows leaves.now) }
 {
-    let place = count_lower(leaves, first);
+    let place = start_of(leaves, share);
     if place < leaves.len() {
         let leaf = &leaves[place];
-        sorted_rows::first_row_of(leaf.rows.as_slice(), first)
+        first_in(leaf.rows.as_slice(), share)
     } else {
         None
     }
 }
 
-/// Whether there is a row of this first number.
-pub fn has_row_of<R: Keyed>(leaves: &[Leaf<R>], first: u64) -> bool
+/// Whether there is a row of the share.
+pub fn has_row_of<R: Keyed>(leaves: &[Leaf<R>], share: Share) -> bool
     requires rises { Rises R.key (flat_map leaf_rows leaves.now) }
     requires filled { AllByRecursion HasRows leaves.now }
-    ensures { result ≡ list_any (λ row. (R.key row).first == first) (flat_map leaf_rows leaves.now) }
+    ensures { result ≡ list_any (λ row. is_in share (R.key row)) (flat_map leaf_rows leaves.now) }
 {
-    first_row_of(leaves, first).is_some()
+    first_row_of(leaves, share).is_some()
+}
+
+/// The row at the place among all rows.
+pub fn row_at<R>(leaves: &[Leaf<R>], place: usize) -> &R
+    requires { place < length (flat_map leaf_rows leaves.now) }
+    ensures { slice_get (flat_map leaf_rows leaves.now) place ≡ Some result.now }
+{
+    let mut left = leaves;
+    let mut rest = place;
+    'leaves: while let Some((leaf, others)) = left.split_first() {
+        match leaf.rows.get(rest) {
+            Some(row) => return row,
+            None => {
+                rest -= leaf.rows.len();
+                left = others;
+            }
+        }
+    }
+    unreachable!()
 }

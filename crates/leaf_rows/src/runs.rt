@@ -1,12 +1,64 @@
-//! The rows of one number: some leaves side by side, and a part of each.
-ghost use Rattle.std.specs.Prelude.{◌≡◌, ◌==◌, ◌+◌, ◌<◌, ◌≤◌, [], filter, length, map, slice_index_or, slice_range};
+//! Rows that stand side by side, lent one by one.
+ghost use Rattle.std.specs.Prelude.{◌≡◌, ◌+◌, ◌≤◌, ◌++◌, filter, length, slice_range, take, drop};
 ghost use Rattle.std.specs.List.{AllByRecursion, flat_map};
+ghost use Rattle.std.specs.Iterator.{YieldsFirstRef, item_count};
 ghost use Rattle.sorted_rows.specs.Keys.{Rises};
 ghost use Rattle.leaf_rows.specs.Invariant.{leaf_rows, HasRows};
+ghost use Rattle.leaf_rows.specs.Shares.{is_in};
 
 use crate::leaf::Leaf;
-use sorted_rows::{Keyed, run_of};
+use crate::share::{Share, places_of, rows_in};
+use sorted_rows::Keyed;
 use std::marker::Model;
+
+/// Rows that stand side by side, lent one by one. A contract sees those that are left.
+#[derive(Drop)]
+pub struct Run<'a, R> {
+    front: &'a [R],
+    middle: &'a [Leaf<R>],
+    back: &'a [R],
+}
+
+impl<'a, R> Model for Run<'a, R> {
+    ghost use Rattle.std.specs.Prelude.{List, ◌++◌};
+    ghost use Rattle.std.specs.Coded.{coded_list};
+
+    ghost Value = { List R };
+
+    ghost coded = { coded_list R.code };
+
+    ghost use Rattle.std.specs.List.{AllByRecursion, flat_map};
+    ghost use Rattle.leaf_rows.specs.Invariant.{leaf_rows, HasRows};
+
+    ghost view = { λ run. run.front.now ++ (flat_map leaf_rows run.middle.now ++ run.back.now) };
+
+    ghost invariant = { λ run. AllByRecursion HasRows run.middle.now };
+}
+
+impl<'a, R> Iterator for Run<'a, R> {
+    type Item = &'a R;
+
+    ghost next_gives = { YieldsFirstRef (λ run. run) };
+
+    ghost remaining = { item_count (λ run. run) };
+
+    fn next(&mut self) -> Option<&'a R> {
+        if let Some((row, rest)) = self.front.split_first() {
+            self.front = rest;
+            return Some(row);
+        }
+        if let Some((leaf, leaves)) = self.middle.split_first()
+            && let Some((row, rest)) = leaf.rows.as_slice().split_first()
+        {
+            self.middle = leaves;
+            self.front = rest;
+            return Some(row);
+        }
+        let (row, rest) = self.back.split_first()?;
+        self.back = rest;
+        Some(row)
+    }
+}
 
 fn part<R>(leaves: &[Leaf<R>], start: usize, end: usize) -> &[Leaf<R>]
     requires order { start ≤ end }
@@ -16,95 +68,48 @@ fn part<R>(leaves: &[Leaf<R>], start: usize, end: usize) -> &[Leaf<R>]
     &leaves[start..end]
 }
 
-/// The place behind this one, or the end.
-fn place_behind(place: usize, len: usize) -> usize
-    requires { place ≤ len }
-    ensures next { place < len → result ≡ place + 1 }
-    ensures lowest { place ≤ result }
-    ensures within { result ≤ len }
+/// The rows of the share in the leaf at the place. None stands where there is no leaf.
+fn rows_at<R: Keyed>(leaves: &[Leaf<R>], place: usize, share: Share) -> &[R]
+    requires { AllByRecursion (λ leaf. Rises R.key (leaf_rows leaf)) leaves.now }
+    ensures { result.now ≡ filter (λ row. is_in share (R.key row)) (flat_map leaf_rows (take 1 (drop place leaves.now))) }
 {
-    if place < len { place + 1 } else { len }
+    match leaves.get(place) {
+        Some(leaf) => rows_in(leaf.rows.as_slice(), share),
+        None => &[],
+    }
 }
 
-/// The leaves in which rows of this first number stand. Others may stand there too, before these and behind them.
-fn leaves_of<R: Keyed>(leaves: &[Leaf<R>], first: u64) -> &[Leaf<R>]
+/// The rows of the share. All rows of the leaves between its first and its last one are of it.
+pub fn run_of<R: Keyed>(leaves: &[Leaf<R>], share: Share) -> Run<'_, R>
     requires rises { Rises R.key (flat_map leaf_rows leaves.now) }
     requires filled { AllByRecursion HasRows leaves.now }
-    ensures rows { filter (λ row. (R.key row).first == first) (flat_map leaf_rows result.now) ≡ filter (λ row. (R.key row).first == first) (flat_map leaf_rows leaves.now) }
-    ensures rises { AllByRecursion (λ leaf. Rises R.key (leaf_rows leaf)) result.now }
+    ensures { result ≡ filter (λ row. is_in share (R.key row)) (flat_map leaf_rows leaves.now) }
 {
-    let run = run_of(leaves, first);
-    let end = place_behind(run.1, leaves.len());
-    part(leaves, run.0, end)
+    let (start, end) = places_of(leaves, share);
+    let front = rows_at(leaves, start, share);
+    if start < end {
+        Run {
+            front,
+            middle: part(leaves, start + 1, end),
+            back: rows_at(leaves, end, share),
+        }
+    } else {
+        Run {
+            front,
+            middle: &[],
+            back: &[],
+        }
+    }
 }
 
-/// The rows of this first number in one leaf.
-fn rows_in<R: Keyed>(leaf: &Leaf<R>, first: u64) -> &[R]
-    requires { Rises R.key (leaf_rows leaf.now) }
-    ensures { result.now ≡ filter (λ row. (R.key row).first == first) (leaf_rows leaf.now) }
-{
-    sorted_rows::rows_of(leaf.rows.as_slice(), first)
-}
-
-/// The rows of this first number in the leaf at the place.
-fn part_of<R: Keyed>(leaves: &[Leaf<R>], place: usize, first: u64) -> &[R]
-    requires rises { AllByRecursion (λ leaf. Rises R.key (leaf_rows leaf)) leaves.now }
-    requires within { place < length leaves.now }
-    ensures { result.now ≡ slice_index_or (map (λ leaf. filter (λ row. (R.key row).first == first) (leaf_rows leaf)) leaves.now) place [] }
-{
-    let leaf = &leaves[place];
-    rows_in(leaf, first)
-}
-
-/// The rows of one number, in parts. A part may have no row.
-#[derive(Drop)]
-pub struct Run<'a, R: Keyed> {
-    leaves: &'a [Leaf<R>],
-    first: u64,
-}
-
-impl<'a, R: Keyed> Model for Run<'a, R> {
-    ghost use Rattle.std.specs.Prelude.{◌==◌, List, filter, map};
-    ghost use Rattle.std.specs.Coded.{coded_list};
-
-    ghost Value = { List (List R) };
-
-    ghost coded = { coded_list (coded_list R.code) };
-
-    ghost use Rattle.std.specs.List.{AllByRecursion};
-    ghost use Rattle.sorted_rows.specs.Keys.{Rises};
-    ghost use Rattle.leaf_rows.specs.Invariant.{leaf_rows};
-
-    ghost view = { λ run. map (λ leaf. filter (λ row. (R.key row).first == run.first) (leaf_rows leaf)) run.leaves.now };
-
-    ghost invariant = { λ run. AllByRecursion (λ leaf. Rises R.key (leaf_rows leaf)) run.leaves.now };
-}
-
-/// The rows of this first number.
-pub fn rows_of<R: Keyed>(leaves: &[Leaf<R>], first: u64) -> Run<'_, R>
-    requires rises { Rises R.key (flat_map leaf_rows leaves.now) }
-    requires filled { AllByRecursion HasRows leaves.now }
-    ensures { flat_map (λ part. part) result ≡ filter (λ row. (R.key row).first == first) (flat_map leaf_rows leaves.now) }
+/// All rows.
+pub fn run_of_all<R>(leaves: &[Leaf<R>]) -> Run<'_, R>
+    requires { AllByRecursion HasRows leaves.now }
+    ensures { result ≡ flat_map leaf_rows leaves.now }
 {
     Run {
-        leaves: leaves_of(leaves, first),
-        first,
-    }
-}
-
-impl<'a, R: Keyed> Run<'a, R> {
-    /// How many parts there are.
-    pub fn count(&self) -> usize
-        ensures { result ≡ length self.now }
-    {
-        self.leaves.len()
-    }
-
-    /// One part of the rows.
-    pub fn part(&self, place: usize) -> &'a [R]
-        requires { place < length self.now }
-        ensures { result.now ≡ slice_index_or self.now place [] }
-    {
-        part_of(self.leaves, place, self.first)
+        front: &[],
+        middle: leaves,
+        back: &[],
     }
 }
