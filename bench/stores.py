@@ -51,6 +51,8 @@ CALLS = (
     ("timers", "fire"),
     ("profiles", "get"),
     ("profiles", "test_add"),
+    ("profiles", "remove_middle"),
+    ("profiles", "update_middle"),
 )
 
 
