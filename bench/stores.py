@@ -60,6 +60,8 @@ CALLS = (
     ("timers", "repeat_middle"),
     ("profiles", "get"),
     ("profiles", "test_add"),
+    ("profiles", "remove_middle"),
+    ("profiles", "update_middle"),
 )
 
 

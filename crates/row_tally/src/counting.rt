@@ -1,5 +1,5 @@
 //! Rows counted under their keys.
-ghost use Rattle.std.specs.Prelude.{◌≡◌, ◌+◌, ◌-◌, ◌<◌, ◌≤◌, ◌||◌, ◌^◌, nat_lt, IsTrue};
+ghost use Rattle.std.specs.Prelude.{◌≡◌, ◌+◌, ◌-◌, ◌<◌, ◌≤◌, ◌||◌, ◌^◌, length, nat_lt, IsTrue};
 ghost use Rattle.sorted_rows.specs.Keys.{Rises};
 ghost use Rattle.row_tally.specs.Tallies.{tally_key, count_at, one_more, one_less, with_count, without_key};
 
@@ -24,6 +24,7 @@ pub fn count_one(tallies: &mut Leaves<Tally>, key: u64)
     ensures rises { Rises tally_key tallies.new.rows }
     ensures room { tallies.old.room ≤ tallies.new.room + 1 }
     ensures counted { 0 < count_at tallies.old.rows key → tallies.old.room ≤ tallies.new.room }
+    ensures capacity { tallies.old.room + length tallies.old.rows ≤ tallies.new.room + length tallies.new.rows }
 {
     let count = count_under(tallies, key) + 1;
     tallies.put_row(Tally { key, count });
@@ -35,6 +36,7 @@ fn recount(tallies: &mut Leaves<Tally>, key: u64, count: u64)
     ensures rows { tallies.new.rows ≡ with_count key count tallies.old.rows }
     ensures rises { Rises tally_key tallies.new.rows }
     ensures room { tallies.old.room ≤ tallies.new.room }
+    ensures capacity { tallies.old.room + length tallies.old.rows ≤ tallies.new.room + length tallies.new.rows }
 {
     tallies.put_row(Tally { key, count });
 }
@@ -45,6 +47,7 @@ pub fn uncount_one(tallies: &mut Leaves<Tally>, key: u64)
     ensures rows { tallies.new.rows ≡ one_less key tallies.old.rows }
     ensures rises { Rises tally_key tallies.new.rows }
     ensures room { tallies.old.room ≤ tallies.new.room }
+    ensures capacity { tallies.old.room + length tallies.old.rows ≤ tallies.new.room + length tallies.new.rows }
 {
     let count = count_under(tallies, key);
     if count > 1 {
