@@ -100,3 +100,45 @@ pub all_restored : {X : Type 0} (P : X → Type 0) (xs : List X) (n : ℕ) (d : 
 all_restored P [] n d all one = tt
 all_restored P (x ∷ xs) zero d all one = (one, all)
 all_restored P (x ∷ xs) (suc n) d all one = (all.0, all_restored P xs n d all.1 one)
+
+front_kept : {X : Type 0} (xs zs : List X) (n : ℕ) → n < length xs → take n (take (suc n) xs ++ zs) ≡ take n xs
+front_kept [] zs n within = absurd (omega (arith, within))
+front_kept (x ∷ xs) zs zero within = refl
+front_kept (x ∷ xs) zs (suc n) within = ap (λ rest. x ∷ rest) (front_kept xs zs n (omega (arith, within)))
+
+back_kept : {X : Type 0} (xs zs : List X) (n : ℕ) → n < length xs → drop (suc n) (take (suc n) xs ++ zs) ≡ zs
+back_kept [] zs n within = absurd (omega (arith, within))
+back_kept (x ∷ xs) zs zero within = refl
+back_kept (x ∷ xs) zs (suc n) within = back_kept xs zs n (omega (arith, within))
+
+one_kept : {X : Type 0} (xs zs : List X) (n : ℕ) (d : X) → n < length xs → get_or (take (suc n) xs ++ zs) n d ≡ get_or xs n d
+one_kept [] zs n d within = absurd (omega (arith, within))
+one_kept (x ∷ xs) zs zero d within = refl
+one_kept (x ∷ xs) zs (suc n) d within = one_kept xs zs n d (omega (arith, within))
+
+long_kept : {X : Type 0} (xs zs : List X) (n : ℕ) → n < length xs → n < length (take (suc n) xs ++ zs)
+long_kept [] zs n within = absurd (omega (arith, within))
+long_kept (x ∷ xs) zs zero within = omega arith
+long_kept (x ∷ xs) zs (suc n) within = let more = long_kept xs zs n (omega (arith, within)) in omega (arith, more)
+
+module _ {Leaf Row : Type 0} (rows_of : Leaf → List Row) where
+  -- a leaf that is behind another one is still there where the other one went
+  pub before_removed : (leaves : List Leaf) (n : ℕ) (d : Leaf) → n + 1 < length leaves → get_or (remove leaves (n + 1)) n d ≡ get_or leaves n d
+  before_removed leaves n d within = rw add-one (one_kept leaves (drop (suc (suc n)) leaves) n d (omega (arith, within)))
+
+  -- two leaves side by side that become one
+  pub joined_pair : (leaves : List Leaf) (n : ℕ) (one two new : Leaf) → n + 1 < length leaves → one ≡ get_or leaves n one → two ≡ get_or leaves (n + 1) two → rows_of new ≡ rows_of one ++ rows_of two
+      → flat_map rows_of (set (remove leaves (n + 1)) n new) ≡ flat_map rows_of leaves
+  joined_pair leaves n one two new within is_one is_two is =
+      let low : n < length leaves = omega (arith, within) in
+      let after = drop (suc (suc n)) leaves in
+      let short : n < length (take (suc n) leaves ++ after) = long_kept leaves after n low in
+      let left : flat_map rows_of (set (remove leaves (n + 1)) n new) ≡ flat_map rows_of (take n leaves) ++ (rows_of new ++ flat_map rows_of after) =
+      rw add-one (joined_set rows_of (take (suc n) leaves ++ after) n new short ∙ (rw add-one (rw (front_kept leaves after n low, back_kept leaves after n low) refl))) in
+      let whole = joined_at rows_of leaves n one low is_one in
+      let two_more : n + 1 + 1 ≡ suc (suc n) = omega arith in
+      let next : flat_map rows_of (drop (n + 1) leaves) ≡ rows_of two ++ flat_map rows_of after =
+      ap (flat_map rows_of) (drop_more leaves (n + 1) two within) ∙ ap (λ leaf. rows_of leaf ++ flat_map rows_of (drop (n + 1 + 1) leaves)) (sym is_two) ∙ ap (λ k. rows_of two ++ flat_map rows_of (drop k leaves)) two_more in
+      left ∙ ap (λ rows. flat_map rows_of (take n leaves) ++ (rows ++ flat_map rows_of after)) is
+      ∙ ap (λ rows. flat_map rows_of (take n leaves) ++ rows) (append_assoc (rows_of one) (rows_of two) (flat_map rows_of after) ∙ ap (λ rows. rows_of one ++ rows) (sym next))
+      ∙ sym whole

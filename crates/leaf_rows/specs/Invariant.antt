@@ -1,10 +1,10 @@
 -- How the leaves stand beside the spare ones.
-use Rattle.std.specs.Prelude.{◌≡◌, ℕ, ◌+◌, ◌^◌, ◌<◌, ◌≤◌, IsTrue, Bool, ◌||◌, nat_lt, List, [], take, drop, remove, length, vec_len, vec_capacity}
+use Rattle.std.specs.Prelude.{◌≡◌, ℕ, ◌+◌, ◌-◌, ◌*◌, ◌^◌, ◌<◌, ◌≤◌, IsTrue, Bool, ◌||◌, nat_lt, List, [], take, drop, remove, length, vec_len, vec_capacity}
 use Rattle.std.specs.List.{AllByRecursion, flat_map, list_any}
 use Rattle.std.specs.declared.vec.Vec.{Vec}
 use Rattle.sorted_rows.specs.Keys.{Key, is_key, key_before, Rises}
 use Rattle.leaf_rows.specs.declared.leaf.Leaf.{Leaf}
-use Rattle.leaf_rows.specs.declared.leaf.TheConstants.{LEAF_ROWS}
+use Rattle.leaf_rows.specs.declared.leaf.TheConstants.{HALF_LEAF, LEAF_ROWS}
 
 module _ {Row : Type 0} where
   -- the rows of a leaf
@@ -53,9 +53,9 @@ module _ {Row : Type 0} where
     pub outer : vec_len leaves + vec_len spares ≤ vec_capacity leaves
     pub inner : vec_len leaves + vec_len spares ≤ vec_capacity spares
 
-  -- The leaves and the spare ones stand, the count is that of the rows, and there are spare leaves for the room that was made.
+  -- The leaves and the spare ones stand, the count is that of the rows, and half full leaves, but for one, hold the rows and fill the room.
   pub record Holds {Heap : Type 0} (key : Row → Key) (leaves spares : Vec (Leaf Row) Heap) (count room : ℕ) : Type 0 where
     pub stands : Stands key leaves spares
     pub counted : count ≡ length (flat_map leaf_rows leaves.items)
-    pub spared : room ≤ vec_len spares
+    pub spared : count + room ≤ HALF_LEAF * (vec_len leaves + vec_len spares - 1)
     pub bounded : count + room < 2 ^ 64

@@ -20,6 +20,7 @@ fn release<R: Keyed + Drop>(leaves: &mut Vec<Leaf<R>>, spares: &mut Vec<Leaf<R>>
     ensures rows { flat_map leaf_rows leaves.new.items ≡ flat_map leaf_rows leaves.old.items }
     ensures stands { Stands R.key leaves.new spares.new }
     ensures room { vec_len spares.old ≤ vec_len spares.new }
+    ensures slots { vec_len leaves.new + vec_len spares.new ≡ vec_len leaves.old + vec_len spares.old }
 {
     if leaves[place].rows.is_empty() {
         let spare = leaves.remove(place);
@@ -54,6 +55,7 @@ fn cut_at<R: Keyed + Drop>(
     ensures count { length (flat_map leaf_rows leaves.new.items) + result ≡ length (flat_map leaf_rows leaves.old.items) }
     ensures stands { Stands R.key leaves.new spares.new }
     ensures room { vec_len spares.old ≤ vec_len spares.new }
+    ensures slots { vec_len leaves.new + vec_len spares.new ≡ vec_len leaves.old + vec_len spares.old }
 {
     let leaf = &mut leaves[place];
     let count = cut_among(&mut leaf.rows, first, second, text);
@@ -74,6 +76,7 @@ pub fn cut_from<R: Keyed + Drop>(
     ensures count { length (flat_map leaf_rows leaves.new.items) + result ≡ length (flat_map leaf_rows leaves.old.items) }
     ensures stands { Stands R.key leaves.new spares.new }
     ensures room { vec_len spares.old ≤ vec_len spares.new }
+    ensures slots { vec_len leaves.new + vec_len spares.new ≡ vec_len leaves.old + vec_len spares.old }
 {
     match leaf_of(leaves.as_slice(), first, second, text) {
         Some(place) => cut_at(leaves, spares, place, first, second, text),
@@ -95,6 +98,7 @@ fn cut_first_at<R: Keyed + Drop>(
     ensures rows { flat_map leaf_rows leaves.new.items ≡ without_first (λ row. (R.key row).first == first) (flat_map leaf_rows leaves.old.items) }
     ensures stands { Stands R.key leaves.new spares.new }
     ensures room { vec_len spares.old ≤ vec_len spares.new }
+    ensures slots { vec_len leaves.new + vec_len spares.new ≡ vec_len leaves.old + vec_len spares.old }
 {
     let leaf = &mut leaves[place];
     let row = cut_first_of(&mut leaf.rows, first);
@@ -113,6 +117,7 @@ pub fn cut_first_from<R: Keyed + Drop>(
     ensures rows { flat_map leaf_rows leaves.new.items ≡ without_first (λ row. (R.key row).first == first) (flat_map leaf_rows leaves.old.items) }
     ensures stands { Stands R.key leaves.new spares.new }
     ensures room { vec_len spares.old ≤ vec_len spares.new }
+    ensures slots { vec_len leaves.new + vec_len spares.new ≡ vec_len leaves.old + vec_len spares.old }
 {
     let place = count_lower(leaves.as_slice(), first);
     if place < leaves.len() {
@@ -153,6 +158,7 @@ fn cut_share_at<R: Keyed + Drop>(
     ensures fewer { 0 < result }
     ensures stands { Stands R.key leaves.new spares.new }
     ensures room { vec_len spares.old ≤ vec_len spares.new }
+    ensures slots { vec_len leaves.new + vec_len spares.new ≡ vec_len leaves.old + vec_len spares.old }
 {
     let leaf = &mut leaves[place];
     let count = cut_in(&mut leaf.rows, share);
@@ -174,6 +180,7 @@ pub fn cut_share<R: Keyed + Drop>(
     ensures fewer { result ≤ count }
     ensures stands { Stands R.key leaves.new spares.new }
     ensures room { vec_len spares.old ≤ vec_len spares.new }
+    ensures slots { vec_len leaves.new + vec_len spares.new ≡ vec_len leaves.old + vec_len spares.old }
 {
     let mut left = count;
     'cuts: while let Some(place) = leaf_with(leaves.as_slice(), share) {

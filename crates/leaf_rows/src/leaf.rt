@@ -4,6 +4,9 @@ use sorted_rows::Keyed;
 /// How many rows a leaf holds at most.
 pub const LEAF_ROWS: usize = 64;
 
+/// Half of that. Two leaves side by side hold more than twice as many, or can be one.
+pub const HALF_LEAF: usize = 32;
+
 /// Some rows that rise by their keys.
 #[derive(Drop)]
 pub struct Leaf<R> {

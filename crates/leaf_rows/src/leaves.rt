@@ -9,7 +9,8 @@ ghost use Rattle.sorted_rows.specs.Runs.{without_first};
 use crate::behind::row_behind;
 use crate::changing::change_in;
 use crate::cutting::{cut_first_from, cut_from, cut_share};
-use crate::leaf::Leaf;
+use crate::joining::keep_spare;
+use crate::leaf::{HALF_LEAF, Leaf};
 use crate::putting::put_in;
 use crate::reading;
 use crate::runs::{self, Run};
@@ -99,7 +100,8 @@ impl<R: Keyed + Drop> Leaves<R> {
         if usize::MAX - self.count < count {
             return Err(AllocError);
         }
-        add_spares(&mut self.leaves, &mut self.spares, self.alloc, count)?;
+        let leaves = (self.count + count) / HALF_LEAF + 2;
+        add_spares(&mut self.leaves, &mut self.spares, self.alloc, leaves)?;
         self.room = count;
         Ok(())
     }
@@ -196,7 +198,9 @@ impl<R: Keyed + Drop> Leaves<R> {
         ensures rises { Rises R.key self.new.rows }
         ensures room { self.old.room ≤ self.new.room + 1 }
         ensures replaced { IsTrue (list_any (λ other. is_key (R.key other) (R.key row)) self.old.rows) → self.old.room ≤ self.new.room }
+        ensures whole { self.new.room + length self.new.rows ≡ self.old.room + length self.old.rows }
     {
+        keep_spare(&mut self.leaves, &mut self.spares, self.room);
         if put_in(&mut self.leaves, &mut self.spares, row) {
             self.count += 1;
             self.room -= 1;
@@ -217,6 +221,7 @@ impl<R: Keyed + Drop> Leaves<R> {
         ensures rows { (f : R → R) → ((old new : R) → FnOnceReturnsAtMut F.FnOnce change old tt new → new ≡ f old) → self.new.rows ≡ map (λ row. if is_key (R.key row) (record { first = first; second = second; text = text.now }) then f row else row) self.old.rows }
         ensures rises { Rises R.key self.new.rows }
         ensures room { self.new.room ≡ self.old.room }
+        ensures whole { self.new.room + length self.new.rows ≡ self.old.room + length self.old.rows }
     {
         change_in(&mut self.leaves, first, second, text, change)
     }
@@ -226,8 +231,12 @@ impl<R: Keyed + Drop> Leaves<R> {
         ensures rows { self.new.rows ≡ filter (λ row. not (is_key (R.key row) (record { first = first; second = second; text = text.now }))) self.old.rows }
         ensures rises { Rises R.key self.new.rows }
         ensures room { self.old.room ≤ self.new.room }
+        ensures gives { IsTrue (list_any (λ row. is_key (R.key row) (record { first = first; second = second; text = text.now })) self.old.rows) → self.old.room + 1 ≤ self.new.room }
+        ensures whole { self.new.room + length self.new.rows ≡ self.old.room + length self.old.rows }
     {
-        self.count -= cut_from(&mut self.leaves, &mut self.spares, first, second, text);
+        let count = cut_from(&mut self.leaves, &mut self.spares, first, second, text);
+        self.count -= count;
+        self.room += count;
     }
 
     /// The first row of this first number goes, and is handed out.
@@ -236,9 +245,12 @@ impl<R: Keyed + Drop> Leaves<R> {
         ensures rows { self.new.rows ≡ without_first (λ row. (R.key row).first == first) self.old.rows }
         ensures rises { Rises R.key self.new.rows }
         ensures room { self.old.room ≤ self.new.room }
+        ensures gives { IsTrue (list_any (λ row. (R.key row).first == first) self.old.rows) → self.old.room + 1 ≤ self.new.room }
+        ensures whole { self.new.room + length self.new.rows ≡ self.old.room + length self.old.rows }
     {
         let row = cut_first_from(&mut self.leaves, &mut self.spares, first)?;
         self.count -= 1;
+        self.room += 1;
         Some(row)
     }
 
@@ -247,13 +259,16 @@ impl<R: Keyed + Drop> Leaves<R> {
         ensures rows { self.new.rows ≡ filter (λ row. not ((R.key row).first == first)) self.old.rows }
         ensures rises { Rises R.key self.new.rows }
         ensures room { self.old.room ≤ self.new.room }
+        ensures whole { self.new.room + length self.new.rows ≡ self.old.room + length self.old.rows }
     {
+        let before = self.count;
         self.count = cut_share(
             &mut self.leaves,
             &mut self.spares,
             Share::First(first),
-            self.count,
+            before,
         );
+        self.room += before - self.count;
     }
 
     /// The rows of this pair of numbers are gone.
@@ -261,12 +276,15 @@ impl<R: Keyed + Drop> Leaves<R> {
         ensures rows { self.new.rows ≡ filter (λ row. not (is_pair first second (R.key row))) self.old.rows }
         ensures rises { Rises R.key self.new.rows }
         ensures room { self.old.room ≤ self.new.room }
+        ensures whole { self.new.room + length self.new.rows ≡ self.old.room + length self.old.rows }
     {
+        let before = self.count;
         self.count = cut_share(
             &mut self.leaves,
             &mut self.spares,
             Share::Pair(first, second),
-            self.count,
+            before,
         );
+        self.room += before - self.count;
     }
 }

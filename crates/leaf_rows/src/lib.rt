@@ -4,6 +4,7 @@
 mod behind;
 mod changing;
 mod cutting;
+mod joining;
 mod leaf;
 mod leaves;
 mod putting;

@@ -94,6 +94,7 @@ fn split_at<R: Keyed + Drop>(
     ensures rows { flat_map leaf_rows leaves.new.items ≡ put (λ x y. key_before (R.key x) (R.key y)) row (flat_map leaf_rows leaves.old.items) }
     ensures stands { Stands R.key leaves.new spares.new }
     ensures room { vec_len spares.old ≤ vec_len spares.new + 1 }
+    ensures slots { vec_len leaves.new + vec_len spares.new ≡ vec_len leaves.old + vec_len spares.old }
 {
     match spares.pop() {
         Some(spare) => {
@@ -115,6 +116,7 @@ fn put_first<R: Keyed + Drop>(leaves: &mut Vec<Leaf<R>>, spares: &mut Vec<Leaf<R
     ensures rows { flat_map leaf_rows leaves.new.items ≡ row ∷ [] }
     ensures stands { Stands R.key leaves.new spares.new }
     ensures room { vec_len spares.old ≤ vec_len spares.new + 1 }
+    ensures slots { vec_len leaves.new + vec_len spares.new ≡ vec_len leaves.old + vec_len spares.old }
 {
     match spares.pop() {
         Some(spare) => {
@@ -133,6 +135,7 @@ pub fn put_in<R: Keyed + Drop>(leaves: &mut Vec<Leaf<R>>, spares: &mut Vec<Leaf<
     ensures rows { flat_map leaf_rows leaves.new.items ≡ put (λ x y. key_before (R.key x) (R.key y)) row (flat_map leaf_rows leaves.old.items) }
     ensures stands { Stands R.key leaves.new spares.new }
     ensures room { vec_len spares.old ≤ vec_len spares.new + 1 }
+    ensures slots { vec_len leaves.new + vec_len spares.new ≡ vec_len leaves.old + vec_len spares.old }
     ensures added { result ≡ not (list_any (λ other. is_key (R.key other) (R.key row)) (flat_map leaf_rows leaves.old.items)) }
     ensures replaced { result ≡ false → vec_len spares.old ≤ vec_len spares.new }
 {

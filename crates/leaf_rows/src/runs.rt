@@ -1,5 +1,5 @@
 //! Rows that stand side by side, lent one by one.
-ghost use Rattle.std.specs.Prelude.{◌≡◌, ◌+◌, ◌≤◌, ◌++◌, filter, length, slice_range, take, drop};
+ghost use Rattle.std.specs.Prelude.{◌≡◌, ◌+◌, ◌≤◌, ◌++◌, filter, length, option_copied, slice_get, slice_range, take, drop};
 ghost use Rattle.std.specs.List.{AllByRecursion, flat_map};
 ghost use Rattle.std.specs.Iterator.{YieldsFirstRef, item_count};
 ghost use Rattle.sorted_rows.specs.Keys.{Rises};
@@ -57,6 +57,40 @@ impl<'a, R> Iterator for Run<'a, R> {
         let (row, rest) = self.back.split_first()?;
         self.back = rest;
         Some(row)
+    }
+}
+
+impl<'a, R> Run<'a, R> {
+    /// The row at the place among those that are left. It goes from leaf to leaf.
+    pub fn get(&self, place: usize) -> Option<&'a R>
+        ensures { option_copied result ≡ slice_get self.now place }
+    {
+        match self.front.get(place) {
+            Some(row) => Some(row),
+            None => row_behind(self.middle, self.back, place - self.front.len()),
+        }
+    }
+}
+
+/// The row at the place among those of the leaves and others behind them.
+fn row_behind<'a, R>(leaves: &'a [Leaf<R>], back: &'a [R], place: usize) -> Option<&'a R>
+    ensures { option_copied result ≡ slice_get (flat_map leaf_rows leaves.now ++ back.now) place }
+{
+    let mut left = leaves;
+    let mut rest = place;
+    'leaves: while let Some((leaf, others)) = left.split_first() {
+        match leaf.rows.get(rest) {
+            Some(row) => return Some(row),
+            None => {
+                rest -= leaf.rows.len();
+                left = others;
+            }
+        }
+    }
+    if rest < back.len() {
+        Some(&back[rest])
+    } else {
+        None
     }
 }
 

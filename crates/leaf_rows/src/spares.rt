@@ -25,7 +25,7 @@ pub fn add_spare<R: Keyed + Drop>(
     Ok(())
 }
 
-/// So many spare leaves at least.
+/// So many leaves at least, with the spare ones.
 pub fn add_spares<R: Keyed + Drop>(
     leaves: &mut Vec<Leaf<R>>,
     spares: &mut Vec<Leaf<R>>,
@@ -35,10 +35,10 @@ pub fn add_spares<R: Keyed + Drop>(
     requires { Stands R.key leaves.old spares.old }
     ensures leaves { leaves.new.items ≡ leaves.old.items }
     ensures stands { Stands R.key leaves.new spares.new }
-    ensures more { OnOk result (count ≤ vec_len spares.new) }
-    ensures kept { vec_len spares.old ≤ vec_len spares.new }
+    ensures more { OnOk result (count ≤ vec_len leaves.new + vec_len spares.new) }
+    ensures kept { vec_len leaves.old + vec_len spares.old ≤ vec_len leaves.new + vec_len spares.new }
 {
-    'more: while spares.len() < count {
+    'more: while leaves.len() + spares.len() < count {
         add_spare(leaves, spares, alloc)?;
     }
     Ok(())

@@ -1,5 +1,5 @@
 -- the rows of others stay, and there are fewer of the share
-use Rattle.std.proofs.Common.{◌≡◌, ◌≤◌, length, vec_len}
+use Rattle.std.proofs.Common.{◌≡◌, ◌+◌, ◌≤◌, length, vec_len}
 use Rattle.std.specs.Prelude.{not}
 use Rattle.std.specs.List.{filter, flat_map}
 use Rattle.leaf_rows.specs.Invariant.{leaf_rows, Stands}
@@ -13,6 +13,7 @@ invariant-cuts g l = record {
   fewer : l.left ≤ l.count;
   stands : Stands g.R.Keyed.key l.leaves l.spares;
   room : vec_len l.initial.spares ≤ vec_len l.spares;
+  slots : vec_len l.leaves + vec_len l.spares ≡ vec_len l.initial.leaves + vec_len l.initial.spares;
 }
 
 abbrev pub decreases-cuts : goal.decreases-cuts

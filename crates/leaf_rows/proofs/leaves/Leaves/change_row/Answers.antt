@@ -20,9 +20,14 @@ invariant_of-self g c = record {
     inner = omega (arith, c.self.invariant.stands.inner, c.change_in.ensures.len);
   };
   counted = c.self.invariant.counted ∙ sym (as_many g.R.Keyed.key (flat_map (leaf_rows {Row = g.row.R.Denot}) c.change_in.new.leaves.items) (flat_map (leaf_rows {Row = g.row.R.Denot}) c.self.inside.leaves.items) c.change_in.ensures.keys);
-  spared = c.self.invariant.spared;
+  spared = omega (arith, c.self.invariant.spared, c.change_in.ensures.len);
   bounded = c.self.invariant.bounded;
 }
 
 pub returns-clause-rows : goal.returns-clause-rows
 returns-clause-rows g c = rw (← c.self.view_is) c.change_in.ensures.rows
+
+pub returns-clause-whole : goal.returns-clause-whole
+returns-clause-whole g c =
+    let same = as_many g.R.Keyed.key (flat_map (leaf_rows {Row = g.row.R.Denot}) c.change_in.new.leaves.items) (flat_map (leaf_rows {Row = g.row.R.Denot}) c.self.inside.leaves.items) c.change_in.ensures.keys in
+    rw (← c.self.view_is) (omega (arith, same))
