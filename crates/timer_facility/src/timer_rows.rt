@@ -116,7 +116,7 @@ impl TimerRows {
                 let activity = row.activity;
                 self.by_moment.cut_row(next, timer.0, &[]);
                 self.by_activity.cut_row(activity.0, timer.0, &[]);
-                self.rows.cut_rows_of(timer.0);
+                self.rows.cut_row(timer.0, 0, &[]);
             }
             None => {}
         }
