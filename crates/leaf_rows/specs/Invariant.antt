@@ -53,7 +53,7 @@ module _ {Row : Type 0} where
     pub outer : vec_len leaves + vec_len spares ≤ vec_capacity leaves
     pub inner : vec_len leaves + vec_len spares ≤ vec_capacity spares
 
-  -- The leaves and the spare ones stand, the count is that of the rows, and half full leaves, but for one, hold the rows and fill the room.
+  -- The leaves and the spare ones stand, the count is that of the rows, and these and the room fill at most half of all leaves but one.
   pub record Holds {Heap : Type 0} (key : Row → Key) (leaves spares : Vec (Leaf Row) Heap) (count room : ℕ) : Type 0 where
     pub stands : Stands key leaves spares
     pub counted : count ≡ length (flat_map leaf_rows leaves.items)
