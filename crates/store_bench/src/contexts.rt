@@ -160,12 +160,7 @@ fn attach(contexts: &mut Contexts, rows: u64, rounds: u64) -> Result<u64, NoMemo
 }
 
 /// A name comes to stand for an activity in the middle, and for nothing again.
-fn unbind(
-    alloc: Global,
-    contexts: &mut Contexts,
-    rows: u64,
-    rounds: u64,
-) -> Result<u64, NoMemory> {
+fn unbind(alloc: Global, contexts: &mut Contexts, rows: u64, rounds: u64) -> Result<u64, NoMemory> {
     let name = word(alloc, rows)?;
     let mut sum = 0_u64;
     'rounds: for _ in 0..rounds {
