@@ -39,7 +39,7 @@ keys_stay key old new zero (x ∷ xs) read same =
 keys_stay key old new (suc n) (x ∷ xs) read same = ap (λ rest. key x ∷ rest) (keys_stay key old new n xs read same)
 
 module _ {Row : Type 0} (key : Row → Key) where
-  by_keys : (rows : List Row) → rises_by (λ x y. key_before (key x) (key y)) rows ≡ rises_by key_before (map key rows)
+  pub by_keys : (rows : List Row) → rises_by (λ x y. key_before (key x) (key y)) rows ≡ rises_by key_before (map key rows)
   by_keys [] = refl
   by_keys (x ∷ []) = refl
   by_keys (x ∷ y ∷ rows) = ap (λ rest. key_before (key x) (key y) && rest) (by_keys (y ∷ rows))

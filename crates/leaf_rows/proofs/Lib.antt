@@ -1,5 +1,6 @@
 pub mod LastLemmas
 pub mod LeafLemmas
+pub mod NumberLemmas
 pub mod PartLemmas
 pub mod JoinLemmas
 pub mod BehindLemmas

@@ -3,6 +3,7 @@ use Rattle.std.specs.Prelude.{◌≡◌, ℕ, ◌+◌, ◌-◌, ◌*◌, ◌^◌
 use Rattle.std.specs.List.{AllByRecursion, flat_map, list_any}
 use Rattle.std.specs.declared.vec.Vec.{Vec}
 use Rattle.sorted_rows.specs.Keys.{Key, is_key, key_before, Rises}
+use Rattle.leaf_rows.specs.Laying.{last_key, numbers_of}
 use Rattle.leaf_rows.specs.declared.leaf.Leaf.{Leaf}
 use Rattle.leaf_rows.specs.declared.leaf.TheConstants.{HALF_LEAF, LEAF_ROWS}
 
@@ -18,6 +19,10 @@ module _ {Row : Type 0} where
   -- there is memory for as many rows as a leaf holds
   abbrev pub HasMemory : Leaf Row → Type 0
   HasMemory leaf = LEAF_ROWS ≤ vec_capacity leaf.rows
+
+  -- the numbers beside a leaf's rows are those of the last one
+  abbrev pub IsNumbered : (Row → Key) → Leaf Row → Type 0
+  IsNumbered key leaf = leaf.last ≡ numbers_of (last_key key leaf.rows.items)
 
   -- a spare leaf has no row
   abbrev pub IsSpare : Leaf Row → Type 0
@@ -37,6 +42,7 @@ module _ {Row : Type 0} where
   pub record Stands {Heap : Type 0} (key : Row → Key) (leaves spares : Vec (Leaf Row) Heap) : Type 0 where
     pub rises : Rises key (flat_map leaf_rows leaves.items)
     pub filled : AllByRecursion HasRows leaves.items
+    pub numbered : AllByRecursion (IsNumbered key) leaves.items
     pub memory : AllByRecursion HasMemory leaves.items
     pub spare : AllByRecursion IsSpare spares.items
     pub spare_memory : AllByRecursion HasMemory spares.items
@@ -47,6 +53,7 @@ module _ {Row : Type 0} where
   pub record StandsBut {Heap : Type 0} (key : Row → Key) (leaves spares : Vec (Leaf Row) Heap) (place : ℕ) : Type 0 where
     pub rises : Rises key (flat_map leaf_rows leaves.items)
     pub filled : AllByRecursion HasRows (remove leaves.items place)
+    pub numbered : AllByRecursion (IsNumbered key) leaves.items
     pub memory : AllByRecursion HasMemory leaves.items
     pub spare : AllByRecursion IsSpare spares.items
     pub spare_memory : AllByRecursion HasMemory spares.items

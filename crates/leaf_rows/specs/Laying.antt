@@ -2,6 +2,7 @@
 use Rattle.std.specs.Prelude.{ℕ, refl, List, [], ◌∷◌}
 use Rattle.std.specs.Coded.{Coded, code_by, coded×, coded_ℕ, coded_list}
 use Rattle.sorted_rows.specs.Keys.{Key}
+use Rattle.leaf_rows.specs.declared.leaf.Numbers.{Numbers}
 
 -- the rows in order, and how many more are taken without memory
 pub record Laid (Row : Type 0) : Type 0 where
@@ -19,3 +20,7 @@ abbrev pub last_key : {Row : Type 0} → (Row → Key) → List Row → Key
 last_key key [] = record { first = 0; second = 0; text = [] }
 last_key key (x ∷ []) = key x
 last_key key (x ∷ y ∷ rows) = last_key key (y ∷ rows)
+
+-- the numbers of a key
+abbrev pub numbers_of : Key → Numbers
+numbers_of k = record { first = k.first; second = k.second }

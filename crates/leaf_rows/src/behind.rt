@@ -2,7 +2,7 @@
 ghost use Rattle.std.specs.Prelude.{◌≡◌, drop, find, option_copied, slice_get};
 ghost use Rattle.std.specs.List.{AllByRecursion, flat_map};
 ghost use Rattle.sorted_rows.specs.Keys.{Rises, is_key, key_before};
-ghost use Rattle.leaf_rows.specs.Invariant.{leaf_rows, HasRows};
+ghost use Rattle.leaf_rows.specs.Invariant.{leaf_rows, HasRows, IsNumbered};
 
 use crate::leaf::Leaf;
 use crate::search::leaf_of;
@@ -58,6 +58,7 @@ pub fn row_behind<'a, R: Keyed>(
 ) -> Option<&'a R>
     requires rises { Rises R.key (flat_map leaf_rows leaves.now) }
     requires filled { AllByRecursion HasRows leaves.now }
+    requires numbered { AllByRecursion (IsNumbered R.key) leaves.now }
     ensures { option_copied result ≡ find (λ row. key_before (record { first = first; second = second; text = text.now }) (R.key row)) (flat_map leaf_rows leaves.now) }
 {
     match leaf_of(leaves, first, second, text) {

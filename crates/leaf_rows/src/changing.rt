@@ -3,7 +3,7 @@ ghost use Rattle.std.specs.Prelude.{◌≡◌, ◌<◌, ◌≤◌, if◌then◌e
 ghost use Rattle.std.specs.Fn.{FnOnceReturnsAtMut};
 ghost use Rattle.std.specs.List.{AllByRecursion, flat_map, list_any};
 ghost use Rattle.sorted_rows.specs.Keys.{Rises, is_key};
-ghost use Rattle.leaf_rows.specs.Invariant.{leaf_rows, Belongs, HasMemory, HasRows};
+ghost use Rattle.leaf_rows.specs.Invariant.{leaf_rows, Belongs, HasMemory, HasRows, IsNumbered};
 
 use crate::leaf::Leaf;
 use crate::search::leaf_of;
@@ -56,6 +56,7 @@ fn change_at<R: Keyed, F: FnOnce(&mut R)>(
 ) -> bool
     requires rises { Rises R.key (flat_map leaf_rows leaves.old.items) }
     requires filled { AllByRecursion HasRows leaves.old.items }
+    requires numbered { AllByRecursion (IsNumbered R.key) leaves.old.items }
     requires memory { AllByRecursion HasMemory leaves.old.items }
     requires belongs { Belongs R.key leaves.old.items (record { first = first; second = second; text = text.now }) place }
     requires callable { F.IsAlwaysCallable change }
@@ -64,6 +65,7 @@ fn change_at<R: Keyed, F: FnOnce(&mut R)>(
     ensures rows { (f : R → R) → ((old new : R) → FnOnceReturnsAtMut F.FnOnce change old tt new → new ≡ f old) → flat_map leaf_rows leaves.new.items ≡ map (λ row. if is_key (R.key row) (record { first = first; second = second; text = text.now }) then f row else row) (flat_map leaf_rows leaves.old.items) }
     ensures keys { map R.key (flat_map leaf_rows leaves.new.items) ≡ map R.key (flat_map leaf_rows leaves.old.items) }
     ensures filled { AllByRecursion HasRows leaves.new.items }
+    ensures numbered { AllByRecursion (IsNumbered R.key) leaves.new.items }
     ensures memory { AllByRecursion HasMemory leaves.new.items }
     ensures len { vec_len leaves.new ≡ vec_len leaves.old }
     ensures capacity { vec_capacity leaves.new ≡ vec_capacity leaves.old }
@@ -82,6 +84,7 @@ pub fn change_in<R: Keyed, F: FnOnce(&mut R)>(
 ) -> bool
     requires rises { Rises R.key (flat_map leaf_rows leaves.old.items) }
     requires filled { AllByRecursion HasRows leaves.old.items }
+    requires numbered { AllByRecursion (IsNumbered R.key) leaves.old.items }
     requires memory { AllByRecursion HasMemory leaves.old.items }
     requires callable { F.IsAlwaysCallable change }
     requires key { (old new : R) → FnOnceReturnsAtMut F.FnOnce change old tt new → R.key new ≡ R.key old }
@@ -89,6 +92,7 @@ pub fn change_in<R: Keyed, F: FnOnce(&mut R)>(
     ensures rows { (f : R → R) → ((old new : R) → FnOnceReturnsAtMut F.FnOnce change old tt new → new ≡ f old) → flat_map leaf_rows leaves.new.items ≡ map (λ row. if is_key (R.key row) (record { first = first; second = second; text = text.now }) then f row else row) (flat_map leaf_rows leaves.old.items) }
     ensures keys { map R.key (flat_map leaf_rows leaves.new.items) ≡ map R.key (flat_map leaf_rows leaves.old.items) }
     ensures filled { AllByRecursion HasRows leaves.new.items }
+    ensures numbered { AllByRecursion (IsNumbered R.key) leaves.new.items }
     ensures memory { AllByRecursion HasMemory leaves.new.items }
     ensures len { vec_len leaves.new ≡ vec_len leaves.old }
     ensures capacity { vec_capacity leaves.new ≡ vec_capacity leaves.old }

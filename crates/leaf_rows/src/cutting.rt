@@ -4,14 +4,14 @@ ghost use Rattle.std.specs.List.{AllByRecursion, flat_map, list_any, prefix_len}
 ghost use Rattle.sorted_rows.specs.Keys.{Rises, is_key};
 ghost use Rattle.sorted_rows.specs.Runs.{without_first};
 ghost use Rattle.leaf_rows.specs.Laying.{last_key};
-ghost use Rattle.leaf_rows.specs.Invariant.{leaf_rows, Belongs, HasRows, Stands, StandsBut};
+ghost use Rattle.leaf_rows.specs.Invariant.{leaf_rows, Belongs, HasRows, IsNumbered, Stands, StandsBut};
 ghost use Rattle.leaf_rows.specs.Shares.{is_in};
 
-use crate::leaf::Leaf;
-use crate::search::leaf_of;
-use crate::share::{Share, cut_in, first_in, start_of};
+use crate::leaf::{Leaf, last_numbers};
+use crate::search::{leaf_of, start_in};
+use crate::share::{Share, cut_in, first_in};
 use crate::splitting::push_item;
-use sorted_rows::{Keyed, count_lower, cut_first_of, cut_row};
+use sorted_rows::{Keyed, cut_first_of, cut_row};
 
 /// The leaf at the place goes to the spare ones if it has no row.
 fn release<R: Keyed + Drop>(leaves: &mut Vec<Leaf<R>>, spares: &mut Vec<Leaf<R>>, place: usize)
@@ -59,6 +59,7 @@ fn cut_at<R: Keyed + Drop>(
 {
     let leaf = &mut leaves[place];
     let count = cut_among(&mut leaf.rows, first, second, text);
+    leaf.last = last_numbers(leaf.rows.as_slice());
     release(leaves, spares, place);
     count
 }
@@ -102,6 +103,7 @@ fn cut_first_at<R: Keyed + Drop>(
 {
     let leaf = &mut leaves[place];
     let row = cut_first_of(&mut leaf.rows, first);
+    leaf.last = last_numbers(leaf.rows.as_slice());
     release(leaves, spares, place);
     row
 }
@@ -119,7 +121,7 @@ pub fn cut_first_from<R: Keyed + Drop>(
     ensures room { vec_len spares.old ≤ vec_len spares.new }
     ensures slots { vec_len leaves.new + vec_len spares.new ≡ vec_len leaves.old + vec_len spares.old }
 {
-    let place = count_lower(leaves.as_slice(), first);
+    let place = start_in(leaves.as_slice(), Share::First(first));
     if place < leaves.len() {
         cut_first_at(leaves, spares, place, first)
     } else {
@@ -131,9 +133,10 @@ pub fn cut_first_from<R: Keyed + Drop>(
 fn leaf_with<R: Keyed>(leaves: &[Leaf<R>], share: Share) -> Option<usize>
     requires rises { Rises R.key (flat_map leaf_rows leaves.now) }
     requires filled { AllByRecursion HasRows leaves.now }
+    requires numbered { AllByRecursion (IsNumbered R.key) leaves.now }
     ensures { MatchOption result (find (λ row. is_in share (R.key row)) (flat_map leaf_rows leaves.now) ≡ None) (λ place. (place < length leaves.now) × ((leaf : Leaf R) → leaf ≡ slice_index_or leaves.now place leaf → IsTrue (list_any (λ row. is_in share (R.key row)) (leaf_rows leaf)))) }
 {
-    let place = start_of(leaves, share);
+    let place = start_in(leaves, share);
     if place < leaves.len() {
         let leaf = &leaves[place];
         if first_in(leaf.rows.as_slice(), share).is_some() {
@@ -162,6 +165,7 @@ fn cut_share_at<R: Keyed + Drop>(
 {
     let leaf = &mut leaves[place];
     let count = cut_in(&mut leaf.rows, share);
+    leaf.last = last_numbers(leaf.rows.as_slice());
     release(leaves, spares, place);
     count
 }

@@ -3,7 +3,7 @@ ghost use Rattle.std.specs.Prelude.{◌≡◌, ◌-◌, ◌+◌, ◌*◌, ◌≤
 ghost use Rattle.std.specs.List.{flat_map};
 ghost use Rattle.leaf_rows.specs.Invariant.{leaf_rows, Stands};
 
-use crate::leaf::{HALF_LEAF, LEAF_ROWS, Leaf};
+use crate::leaf::{HALF_LEAF, LEAF_ROWS, Leaf, last_numbers};
 use crate::splitting::push_item;
 use sorted_rows::Keyed;
 
@@ -55,6 +55,7 @@ fn join_at<R: Keyed + Drop>(leaves: &mut Vec<Leaf<R>>, spares: &mut Vec<Leaf<R>>
     let mut next = leaves.remove(place + 1);
     let leaf = &mut leaves[place];
     move_behind(&mut next.rows, &mut leaf.rows);
+    leaf.last = last_numbers(leaf.rows.as_slice());
     push_item(spares, next);
 }
 

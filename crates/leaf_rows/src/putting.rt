@@ -3,9 +3,9 @@ ghost use Rattle.std.specs.Prelude.{◌≡◌, ◌-◌, ◌+◌, ◌≤◌, ◌<
 ghost use Rattle.std.specs.List.{AllByRecursion, flat_map, insert, list_any};
 ghost use Rattle.slee_state.specs.Orders.{put};
 ghost use Rattle.sorted_rows.specs.Keys.{Rises, is_key, key_before};
-ghost use Rattle.leaf_rows.specs.Invariant.{leaf_rows, has_place, Belongs, HasMemory, HasRows, Stands};
+ghost use Rattle.leaf_rows.specs.Invariant.{leaf_rows, has_place, Belongs, HasMemory, HasRows, IsNumbered, Stands};
 
-use crate::leaf::{LEAF_ROWS, Leaf};
+use crate::leaf::{LEAF_ROWS, Leaf, last_numbers};
 use crate::search::leaf_of;
 use crate::splitting::{push_item, put_in_two};
 use sorted_rows::{Keyed, has_row, put_row};
@@ -27,24 +27,29 @@ fn put_among<R: Keyed + Drop>(rows: &mut Vec<R>, row: R) -> bool
 fn put_at<R: Keyed + Drop>(leaves: &mut Vec<Leaf<R>>, place: usize, row: R) -> bool
     requires rises { Rises R.key (flat_map leaf_rows leaves.old.items) }
     requires filled { AllByRecursion HasRows leaves.old.items }
+    requires numbered { AllByRecursion (IsNumbered R.key) leaves.old.items }
     requires memory { AllByRecursion HasMemory leaves.old.items }
     requires belongs { Belongs R.key leaves.old.items (R.key row) place }
     requires room { (leaf : Leaf R) → leaf ≡ slice_index_or leaves.old.items place leaf → IsTrue (has_place R.key (R.key row) leaf) }
     ensures rows { flat_map leaf_rows leaves.new.items ≡ put (λ x y. key_before (R.key x) (R.key y)) row (flat_map leaf_rows leaves.old.items) }
     ensures added { result ≡ not (list_any (λ other. is_key (R.key other) (R.key row)) (flat_map leaf_rows leaves.old.items)) }
     ensures filled { AllByRecursion HasRows leaves.new.items }
+    ensures numbered { AllByRecursion (IsNumbered R.key) leaves.new.items }
     ensures memory { AllByRecursion HasMemory leaves.new.items }
     ensures len { vec_len leaves.new ≡ vec_len leaves.old }
     ensures capacity { vec_capacity leaves.new ≡ vec_capacity leaves.old }
 {
     let leaf = &mut leaves[place];
-    put_among(&mut leaf.rows, row)
+    let is_new = put_among(&mut leaf.rows, row);
+    leaf.last = last_numbers(leaf.rows.as_slice());
+    is_new
 }
 
 /// Where the leaf stands in which the row belongs.
 fn leaf_of_row<R: Keyed>(leaves: &[Leaf<R>], row: &R) -> Option<usize>
     requires rises { Rises R.key (flat_map leaf_rows leaves.now) }
     requires filled { AllByRecursion HasRows leaves.now }
+    requires numbered { AllByRecursion (IsNumbered R.key) leaves.now }
     ensures { MatchOption result (leaves.now ≡ []) (λ place. Belongs R.key leaves.now (R.key row.now) place) }
 {
     leaf_of(leaves, row.first(), row.second(), row.text())
@@ -102,6 +107,8 @@ fn split_at<R: Keyed + Drop>(
             let count = count_to_move(place + 1 == leaves.len());
             let leaf = &mut leaves[place];
             put_in_two(&mut leaf.rows, &mut behind.rows, count, row);
+            leaf.last = last_numbers(leaf.rows.as_slice());
+            behind.last = last_numbers(behind.rows.as_slice());
             insert_item(leaves, place + 1, behind);
         }
         None => unreachable!(),
@@ -122,6 +129,7 @@ fn put_first<R: Keyed + Drop>(leaves: &mut Vec<Leaf<R>>, spares: &mut Vec<Leaf<R
         Some(spare) => {
             let mut leaf = spare;
             push_item(&mut leaf.rows, row);
+            leaf.last = last_numbers(leaf.rows.as_slice());
             push_item(leaves, leaf);
         }
         None => unreachable!(),

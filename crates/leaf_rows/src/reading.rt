@@ -2,12 +2,12 @@
 ghost use Rattle.std.specs.Prelude.{◌≡◌, ◌<◌, find, length, option_copied, slice_get, Some};
 ghost use Rattle.std.specs.List.{AllByRecursion, flat_map, list_any};
 ghost use Rattle.sorted_rows.specs.Keys.{Rises, is_key};
-ghost use Rattle.leaf_rows.specs.Invariant.{leaf_rows, HasRows};
+ghost use Rattle.leaf_rows.specs.Invariant.{leaf_rows, HasRows, IsNumbered};
 ghost use Rattle.leaf_rows.specs.Shares.{is_in};
 
 use crate::leaf::Leaf;
-use crate::search::leaf_of;
-use crate::share::{Share, first_in, start_of};
+use crate::search::{leaf_of, start_in};
+use crate::share::{Share, first_in};
 use sorted_rows::Keyed;
 
 /// The row of this key.
@@ -19,6 +19,7 @@ pub fn row_of<'a, R: Keyed>(
 ) -> Option<&'a R>
     requires rises { Rises R.key (flat_map leaf_rows leaves.now) }
     requires filled { AllByRecursion HasRows leaves.now }
+    requires numbered { AllByRecursion (IsNumbered R.key) leaves.now }
     ensures { option_copied result ≡ find (λ row. is_key (R.key row) (record { first = first; second = second; text = text.now })) (flat_map leaf_rows leaves.now) }
 {
     match leaf_of(leaves, first, second, text) {
@@ -34,6 +35,7 @@ pub fn row_of<'a, R: Keyed>(
 pub fn has_row<R: Keyed>(leaves: &[Leaf<R>], first: u64, second: u64, text: &[u8]) -> bool
     requires rises { Rises R.key (flat_map leaf_rows leaves.now) }
     requires filled { AllByRecursion HasRows leaves.now }
+    requires numbered { AllByRecursion (IsNumbered R.key) leaves.now }
     ensures { result ≡ list_any (λ row. is_key (R.key row) (record { first = first; second = second; text = text.now })) (flat_map leaf_rows leaves.now) }
 {
     match leaf_of(leaves, first, second, text) {
@@ -49,9 +51,10 @@ pub fn has_row<R: Keyed>(leaves: &[Leaf<R>], first: u64, second: u64, text: &[u8
 pub fn first_row_of<R: Keyed>(leaves: &[Leaf<R>], share: Share) -> Option<&R>
     requires rises { Rises R.key (flat_map leaf_rows leaves.now) }
     requires filled { AllByRecursion HasRows leaves.now }
+    requires numbered { AllByRecursion (IsNumbered R.key) leaves.now }
     ensures { option_copied result ≡ find (λ row. is_in share (R.key row)) (flat_map leaf_rows leaves.now) }
 {
-    let place = start_of(leaves, share);
+    let place = start_in(leaves, share);
     if place < leaves.len() {
         let leaf = &leaves[place];
         first_in(leaf.rows.as_slice(), share)
@@ -64,6 +67,7 @@ pub fn first_row_of<R: Keyed>(leaves: &[Leaf<R>], share: Share) -> Option<&R>
 pub fn has_row_of<R: Keyed>(leaves: &[Leaf<R>], share: Share) -> bool
     requires rises { Rises R.key (flat_map leaf_rows leaves.now) }
     requires filled { AllByRecursion HasRows leaves.now }
+    requires numbered { AllByRecursion (IsNumbered R.key) leaves.now }
     ensures { result ≡ list_any (λ row. is_in share (R.key row)) (flat_map leaf_rows leaves.now) }
 {
     first_row_of(leaves, share).is_some()

@@ -3,11 +3,12 @@ ghost use Rattle.std.specs.Prelude.{◌≡◌, ◌+◌, ◌-◌, ◌^◌, ◌≤
 ghost use Rattle.std.specs.List.{AllByRecursion, flat_map};
 ghost use Rattle.std.specs.Iterator.{YieldsFirstRef, item_count};
 ghost use Rattle.sorted_rows.specs.Keys.{Rises};
-ghost use Rattle.leaf_rows.specs.Invariant.{leaf_rows, HasRows};
+ghost use Rattle.leaf_rows.specs.Invariant.{leaf_rows, HasRows, IsNumbered};
 ghost use Rattle.leaf_rows.specs.Shares.{is_in};
 
 use crate::leaf::Leaf;
-use crate::share::{Share, places_of, rows_in};
+use crate::search::places_in;
+use crate::share::{Share, rows_in};
 use sorted_rows::Keyed;
 use std::marker::Model;
 
@@ -140,9 +141,10 @@ fn rows_at<R: Keyed>(leaves: &[Leaf<R>], place: usize, share: Share) -> &[R]
 pub fn run_of<R: Keyed>(leaves: &[Leaf<R>], share: Share) -> Run<'_, R>
     requires rises { Rises R.key (flat_map leaf_rows leaves.now) }
     requires filled { AllByRecursion HasRows leaves.now }
+    requires numbered { AllByRecursion (IsNumbered R.key) leaves.now }
     ensures { result ≡ filter (λ row. is_in share (R.key row)) (flat_map leaf_rows leaves.now) }
 {
-    let (start, end) = places_of(leaves, share);
+    let (start, end) = places_in(leaves, share);
     let front = rows_at(leaves, start, share);
     if start < end {
         Run {

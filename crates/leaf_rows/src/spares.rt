@@ -2,7 +2,7 @@
 ghost use Rattle.std.specs.Prelude.{◌≡◌, ◌+◌, ◌≤◌, OnOk, vec_len};
 ghost use Rattle.leaf_rows.specs.Invariant.{Stands};
 
-use crate::leaf::{LEAF_ROWS, Leaf};
+use crate::leaf::{LEAF_ROWS, Leaf, last_numbers};
 use sorted_rows::Keyed;
 use std::alloc::{AllocError, Global};
 
@@ -21,7 +21,8 @@ pub fn add_spare<R: Keyed + Drop>(
     let rows = Vec::with_capacity(alloc, LEAF_ROWS)?;
     leaves.reserve(spares.len() + 1)?;
     spares.reserve(leaves.len() + 1)?;
-    spares.push(Leaf { rows })?;
+    let last = last_numbers(rows.as_slice());
+    spares.push(Leaf { rows, last })?;
     Ok(())
 }
 

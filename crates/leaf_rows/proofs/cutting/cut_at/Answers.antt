@@ -4,7 +4,7 @@ use Rattle.std.specs.Prelude.{not}
 use Rattle.std.specs.List.{AllByRecursion, filter, flat_map}
 use Rattle.sorted_rows.specs.Keys.{Key, Rises, is_key}
 use Rattle.sorted_rows.proofs.OrderLemmas.{filter_rises}
-use Rattle.leaf_rows.specs.Invariant.{leaf_rows, HasMemory, HasRows}
+use Rattle.leaf_rows.specs.Invariant.{leaf_rows, HasMemory, HasRows, IsNumbered}
 use Rattle.leaf_rows.specs.declared.leaf.Leaf.{Leaf}
 use Rattle.leaf_rows.proofs.JoinLemmas.{all_get, all_set, all_remove, cut_in_leaf, joined_set, leaf_rises, removed_same}
 use Rattle.leaf_rows.proofs.CountLemmas.{joined_length}
@@ -18,7 +18,7 @@ release-requires-clause-stands g c =
     let k : Key = record { first = c.args.first; second = c.args.second; text = c.args.text.now } in
     let rows_of = leaf_rows {Row = g.row.R.Denot} in
     let items = c.args.leaves.now.items in
-    let new : Leaf g.row.R.Denot = record { rows = c.cut_among-count.new.rows } in
+    let new : Leaf g.row.R.Denot = record { rows = c.cut_among-count.new.rows; last = c.last_numbers-leaf.result } in
     let left : flat_map rows_of (set items c.args.place new) ≡ filter (λ row. not (is_key (g.R.Keyed.key row) k)) (flat_map rows_of items) =
     joined_set rows_of items c.args.place new c.requires.belongs.within
     ∙ ap (λ rows. flat_map rows_of (take c.args.place items) ++ (rows ++ flat_map rows_of (drop (c.args.place + 1) items))) c.cut_among-count.ensures.items
@@ -27,6 +27,7 @@ release-requires-clause-stands g c =
     record {
       rises = subst (Rises g.R.Keyed.key) (sym left) (filter_rises g.R.Keyed.key _ _ c.requires.stands.rises);
       filled = subst (AllByRecursion HasRows) (sym (removed_same items c.args.place new)) (all_remove HasRows items c.args.place c.requires.stands.filled);
+      numbered = all_set (IsNumbered g.R.Keyed.key) items c.args.place new c.requires.stands.numbered (rw c.as_slice.ensures.value at c.last_numbers-leaf.ensures);
       memory = all_set HasMemory items c.args.place new c.requires.stands.memory (omega (arith, had, c.cut_among-count.ensures.memory));
       spare = c.requires.stands.spare;
       spare_memory = c.requires.stands.spare_memory;
@@ -39,7 +40,7 @@ returns-clause-rows g c =
     let k : Key = record { first = c.args.first; second = c.args.second; text = c.args.text.now } in
     let rows_of = leaf_rows {Row = g.row.R.Denot} in
     let items = c.args.leaves.now.items in
-    let new : Leaf g.row.R.Denot = record { rows = c.cut_among-count.new.rows } in
+    let new : Leaf g.row.R.Denot = record { rows = c.cut_among-count.new.rows; last = c.last_numbers-leaf.result } in
     c.release.ensures.rows
     ∙ joined_set rows_of items c.args.place new c.requires.belongs.within
     ∙ ap (λ rows. flat_map rows_of (take c.args.place items) ++ (rows ++ flat_map rows_of (drop (c.args.place + 1) items))) c.cut_among-count.ensures.items
@@ -49,5 +50,5 @@ pub returns-clause-count : goal.returns-clause-count
 returns-clause-count g c =
     let rows_of = leaf_rows {Row = g.row.R.Denot} in
     let old = c.index_mut-leaf.result.now in
-    let new : Leaf g.row.R.Denot = record { rows = c.cut_among-count.new.rows } in
+    let new : Leaf g.row.R.Denot = record { rows = c.cut_among-count.new.rows; last = c.last_numbers-leaf.result } in
     omega (arith, ap length c.release.ensures.rows, joined_length rows_of c.args.leaves.now.items c.args.place old new c.requires.belongs.within c.index_mut-leaf.ensures.value, c.cut_among-count.ensures.count, old.rows.ok.0, new.rows.ok.0)

@@ -6,7 +6,7 @@ use Rattle.sorted_rows.specs.Keys.{Rises}
 use Rattle.sorted_rows.specs.Runs.{without_first}
 use Rattle.sorted_rows.proofs.HeadLemmas.{without_first_rises}
 use Rattle.leaf_rows.specs.declared.share.Share.TheVariants as shares
-use Rattle.leaf_rows.specs.Invariant.{leaf_rows, HasMemory, HasRows}
+use Rattle.leaf_rows.specs.Invariant.{leaf_rows, HasMemory, HasRows, IsNumbered}
 use Rattle.leaf_rows.specs.declared.leaf.Leaf.{Leaf}
 use Rattle.leaf_rows.proofs.FirstLemmas.{first_in_leaf, without_in_leaf}
 use Rattle.leaf_rows.proofs.JoinLemmas.{all_get, all_set, all_remove, joined_set, leaf_rises, removed_same}
@@ -19,7 +19,7 @@ pub release-requires-clause-stands : goal.release-requires-clause-stands
 release-requires-clause-stands g c =
     let rows_of = leaf_rows {Row = g.row.R.Denot} in
     let items = c.args.leaves.now.items in
-    let new : Leaf g.row.R.Denot = record { rows = c.cut_first_of-row.new.rows } in
+    let new : Leaf g.row.R.Denot = record { rows = c.cut_first_of-row.new.rows; last = c.last_numbers-leaf.result } in
     let within : c.args.place < length items = omega (arith, c.requires.within, c.args.leaves.now.ok.0) in
     let left : flat_map rows_of (set items c.args.place new) ≡ without_first (λ row. (g.R.Keyed.key row).first == c.args.first) (flat_map rows_of items) =
     joined_set rows_of items c.args.place new within
@@ -29,6 +29,7 @@ release-requires-clause-stands g c =
     record {
       rises = subst (Rises g.R.Keyed.key) (sym left) (without_first_rises g.R.Keyed.key _ _ c.requires.stands.rises);
       filled = subst (AllByRecursion HasRows) (sym (removed_same items c.args.place new)) (all_remove HasRows items c.args.place c.requires.stands.filled);
+      numbered = all_set (IsNumbered g.R.Keyed.key) items c.args.place new c.requires.stands.numbered (rw c.as_slice.ensures.value at c.last_numbers-leaf.ensures);
       memory = all_set HasMemory items c.args.place new c.requires.stands.memory (omega (arith, had, c.cut_first_of-row.ensures.memory));
       spare = c.requires.stands.spare;
       spare_memory = c.requires.stands.spare_memory;
@@ -46,7 +47,7 @@ pub returns-clause-rows : goal.returns-clause-rows
 returns-clause-rows g c =
     let rows_of = leaf_rows {Row = g.row.R.Denot} in
     let items = c.args.leaves.now.items in
-    let new : Leaf g.row.R.Denot = record { rows = c.cut_first_of-row.new.rows } in
+    let new : Leaf g.row.R.Denot = record { rows = c.cut_first_of-row.new.rows; last = c.last_numbers-leaf.result } in
     let within : c.args.place < length items = omega (arith, c.requires.within, c.args.leaves.now.ok.0) in
     c.release.ensures.rows
     ∙ joined_set rows_of items c.args.place new within

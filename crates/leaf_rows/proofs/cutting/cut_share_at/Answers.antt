@@ -3,7 +3,7 @@ use Rattle.std.proofs.Common.{◌+◌, ◌<◌, ◌++◌, take, drop, length, sy
 use Rattle.std.specs.Prelude.{not}
 use Rattle.std.specs.List.{AllByRecursion, filter, flat_map}
 use Rattle.sorted_rows.specs.Keys.{Rises}
-use Rattle.leaf_rows.specs.Invariant.{leaf_rows, HasMemory, HasRows}
+use Rattle.leaf_rows.specs.Invariant.{leaf_rows, HasMemory, HasRows, IsNumbered}
 use Rattle.leaf_rows.specs.Shares.{is_in}
 use Rattle.leaf_rows.specs.declared.leaf.Leaf.{Leaf}
 use Rattle.leaf_rows.proofs.CountLemmas.{cut_rises, joined_length, others_stay}
@@ -20,7 +20,7 @@ release-requires-clause-stands g c =
     let others = λ (row : g.row.R.Denot). not (is_in c.args.share (g.R.Keyed.key row)) in
     let items = c.args.leaves.now.items in
     let old = c.index_mut-leaf.result.now in
-    let new : Leaf g.row.R.Denot = record { rows = c.cut_in-count.new.rows } in
+    let new : Leaf g.row.R.Denot = record { rows = c.cut_in-count.new.rows; last = c.last_numbers-leaf.result } in
     let front = flat_map rows_of (take c.args.place items) in
     let back = flat_map rows_of (drop (c.args.place + 1) items) in
     let within : c.args.place < length items = omega (arith, c.requires.within, c.args.leaves.now.ok.0) in
@@ -30,6 +30,7 @@ release-requires-clause-stands g c =
     record {
       rises = subst (Rises g.R.Keyed.key) (sym left) (cut_rises g.R.Keyed.key others front (rows_of old) back rose);
       filled = subst (AllByRecursion HasRows) (sym (removed_same items c.args.place new)) (all_remove HasRows items c.args.place c.requires.stands.filled);
+      numbered = all_set (IsNumbered g.R.Keyed.key) items c.args.place new c.requires.stands.numbered (rw c.as_slice.ensures.value at c.last_numbers-leaf.ensures);
       memory = all_set HasMemory items c.args.place new c.requires.stands.memory (omega (arith, had, c.cut_in-count.ensures.memory));
       spare = c.requires.stands.spare;
       spare_memory = c.requires.stands.spare_memory;
@@ -43,7 +44,7 @@ returns-clause-others g c =
     let others = λ (row : g.row.R.Denot). not (is_in c.args.share (g.R.Keyed.key row)) in
     let items = c.args.leaves.now.items in
     let old = c.index_mut-leaf.result.now in
-    let new : Leaf g.row.R.Denot = record { rows = c.cut_in-count.new.rows } in
+    let new : Leaf g.row.R.Denot = record { rows = c.cut_in-count.new.rows; last = c.last_numbers-leaf.result } in
     let front = flat_map rows_of (take c.args.place items) in
     let back = flat_map rows_of (drop (c.args.place + 1) items) in
     let within : c.args.place < length items = omega (arith, c.requires.within, c.args.leaves.now.ok.0) in
@@ -55,7 +56,7 @@ pub returns-clause-count : goal.returns-clause-count
 returns-clause-count g c =
     let rows_of = leaf_rows {Row = g.row.R.Denot} in
     let old = c.index_mut-leaf.result.now in
-    let new : Leaf g.row.R.Denot = record { rows = c.cut_in-count.new.rows } in
+    let new : Leaf g.row.R.Denot = record { rows = c.cut_in-count.new.rows; last = c.last_numbers-leaf.result } in
     let within : c.args.place < length c.args.leaves.now.items = omega (arith, c.requires.within, c.args.leaves.now.ok.0) in
     omega (arith, ap length c.release.ensures.rows, joined_length rows_of c.args.leaves.now.items c.args.place old new within c.index_mut-leaf.ensures.value, c.cut_in-count.ensures.count, old.rows.ok.0, new.rows.ok.0)
 

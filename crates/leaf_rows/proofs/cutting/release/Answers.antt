@@ -4,7 +4,7 @@ use Rattle.std.specs.List.{AllByRecursion, flat_map}
 use Rattle.std.proofs.lemmas.Bool.Decides.{nat_tests}
 use Rattle.std.proofs.lemmas.List.{get_or_default}
 use Rattle.sorted_rows.specs.Keys.{Rises}
-use Rattle.leaf_rows.specs.Invariant.{leaf_rows, HasMemory, HasRows, IsSpare}
+use Rattle.leaf_rows.specs.Invariant.{leaf_rows, HasMemory, HasRows, IsNumbered, IsSpare}
 use Rattle.leaf_rows.proofs.JoinLemmas.{all_get, all_push, all_remove, all_restored, empty_is, joined_at, joined_removed}
 use Rattle.leaf_rows.proofs.cutting.release.Goals as goal
 
@@ -33,6 +33,7 @@ returns-then-is_empty-clause-stands g c =
     record {
       rises = subst (Rises g.R.Keyed.key) (sym (returns-then-is_empty-clause-rows g c)) c.requires.stands.rises;
       filled = subst (AllByRecursion HasRows) (sym c.remove-spare.ensures.items) c.requires.stands.filled;
+      numbered = subst (AllByRecursion (IsNumbered g.R.Keyed.key)) (sym c.remove-spare.ensures.items) (all_remove (IsNumbered g.R.Keyed.key) items c.args.place c.requires.stands.numbered);
       memory = subst (AllByRecursion HasMemory) (sym c.remove-spare.ensures.items) (all_remove HasMemory items c.args.place c.requires.stands.memory);
       spare = subst (AllByRecursion IsSpare) (sym c.push_item.ensures.items) (all_push IsSpare c.args.spares.now.items c.remove-spare.result c.requires.stands.spare (subst IsSpare (sym spare) empty));
       spare_memory = subst (AllByRecursion HasMemory) (sym c.push_item.ensures.items) (all_push HasMemory c.args.spares.now.items c.remove-spare.result c.requires.stands.spare_memory (subst HasMemory (sym spare) has));
@@ -49,6 +50,7 @@ returns-else-is_empty-clause-stands g c =
     record {
       rises = c.requires.stands.rises;
       filled = all_restored HasRows items c.args.place leaf c.requires.stands.filled (subst HasRows c.index.ensures has);
+      numbered = c.requires.stands.numbered;
       memory = c.requires.stands.memory;
       spare = c.requires.stands.spare;
       spare_memory = c.requires.stands.spare_memory;

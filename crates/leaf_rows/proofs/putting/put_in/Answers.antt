@@ -35,6 +35,7 @@ pub returns-then-takes-clause-stands : goal.returns-then-takes-clause-stands
 returns-then-takes-clause-stands g c = record {
   rises = subst (Rises g.R.Keyed.key) (sym c.put_at.ensures.rows) (put_rises g.R.Keyed.key c.args.row _ c.requires.stands.rises);
   filled = c.put_at.ensures.filled;
+  numbered = c.put_at.ensures.numbered;
   memory = c.put_at.ensures.memory;
   spare = c.requires.stands.spare;
   spare_memory = c.requires.stands.spare_memory;

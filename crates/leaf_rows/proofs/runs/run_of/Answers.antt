@@ -2,12 +2,8 @@
 use Rattle.std.proofs.Common.{◌∙◌, arith}
 use Rattle.std.proofs.lemmas.List.{append-nil}
 use Rattle.leaf_rows.specs.Invariant.{leaf_rows}
-use Rattle.leaf_rows.proofs.LeafLemmas.{leaves_rise}
 use Rattle.leaf_rows.proofs.RunLemmas.{each_rises, kept_part, kept_parts}
 use Rattle.leaf_rows.proofs.runs.run_of.Goals as goal
-
-pub places_of-start-requires : goal.places_of-start-requires
-places_of-start-requires g c = leaves_rise g.R.Keyed.key (leaf_rows {Row = g.row.R.Denot}) c.args.leaves.now c.requires.filled c.requires.rises
 
 pub rows_at-front-requires : goal.rows_at-front-requires
 rows_at-front-requires g c = each_rises g.R.Keyed.key (leaf_rows {Row = g.row.R.Denot}) c.args.leaves.now c.requires.rises
@@ -18,9 +14,9 @@ rows_at-requires g c = each_rises g.R.Keyed.key (leaf_rows {Row = g.row.R.Denot}
 pub returns-then-start-end : goal.returns-then-start-end
 returns-then-start-end g c =
     rw (c.rows_at-front.ensures, c.part.ensures, c.rows_at.ensures)
-    (kept_parts g.R.Keyed.key (leaf_rows {Row = g.row.R.Denot}) c.args.share c.places_of-start.result.0 c.places_of-start.result.1 c.args.leaves.now c.requires.filled c.requires.rises c.places_of-start.ensures.start c.places_of-start.ensures.end c.if-start-end.true)
+    (kept_parts g.R.Keyed.key (leaf_rows {Row = g.row.R.Denot}) c.args.share c.places_in-start.result.0 c.places_in-start.result.1 c.args.leaves.now c.requires.filled c.requires.rises c.places_in-start.ensures.start c.places_in-start.ensures.end c.if-start-end.true)
 
 pub returns-else-start-end : goal.returns-else-start-end
 returns-else-start-end g c =
     append-nil c.rows_at-front.result.now ∙ c.rows_at-front.ensures
-    ∙ kept_part g.R.Keyed.key (leaf_rows {Row = g.row.R.Denot}) c.args.share c.places_of-start.result.0 c.places_of-start.result.1 c.args.leaves.now c.requires.filled c.requires.rises c.places_of-start.ensures.start c.places_of-start.ensures.end (omega (arith, c.if-start-end.false))
+    ∙ kept_part g.R.Keyed.key (leaf_rows {Row = g.row.R.Denot}) c.args.share c.places_in-start.result.0 c.places_in-start.result.1 c.args.leaves.now c.requires.filled c.requires.rises c.places_in-start.ensures.start c.places_in-start.ensures.end (omega (arith, c.if-start-end.false))

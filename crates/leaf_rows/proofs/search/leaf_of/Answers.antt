@@ -3,11 +3,8 @@ use Rattle.std.proofs.Common.{◌<◌, length, arith, add-one}
 use Rattle.std.proofs.lemmas.Bool.Decides.{nat_tests}
 use Rattle.sorted_rows.specs.Keys.{Key}
 use Rattle.leaf_rows.specs.Invariant.{leaf_rows}
-use Rattle.leaf_rows.proofs.LeafLemmas.{leaves_rise, leaf_low, leaf_high}
+use Rattle.leaf_rows.proofs.LeafLemmas.{leaf_low, leaf_high}
 use Rattle.leaf_rows.proofs.search.leaf_of.Goals as goal
-
-pub count_before-count-requires : goal.count_before-count-requires
-count_before-count-requires g c = leaves_rise g.R.Keyed.key (leaf_rows {Row = g.row.R.Denot}) c.args.leaves.now c.requires.filled c.requires.rises
 
 pub returns : goal.returns
 returns g c =
@@ -15,6 +12,6 @@ returns g c =
     let some : 0 < length c.args.leaves.now = grind (arith, nat_tests) in
     record {
       within = omega (arith, some, c.min.ensures);
-      low = leaf_low g.R.Keyed.key (leaf_rows {Row = g.row.R.Denot}) k c.count_before-count.result c.min.result c.args.leaves.now c.requires.rises c.count_before-count.ensures.count (omega (arith, c.min.ensures));
-      high = rw add-one (leaf_high g.R.Keyed.key (leaf_rows {Row = g.row.R.Denot}) k c.count_before-count.result c.min.result c.args.leaves.now c.requires.filled c.requires.rises c.count_before-count.ensures.count (omega (arith, some, c.min.ensures)) (λ inside. omega (arith, some, inside, c.min.ensures)) (λ behind. omega (arith, some, behind, c.min.ensures)));
+      low = leaf_low g.R.Keyed.key (leaf_rows {Row = g.row.R.Denot}) k c.count_in-count.result c.min.result c.args.leaves.now c.requires.rises c.count_in-count.ensures (omega (arith, c.min.ensures));
+      high = rw add-one (leaf_high g.R.Keyed.key (leaf_rows {Row = g.row.R.Denot}) k c.count_in-count.result c.min.result c.args.leaves.now c.requires.filled c.requires.rises c.count_in-count.ensures (omega (arith, some, c.min.ensures)) (λ inside. omega (arith, some, inside, c.min.ensures)) (λ behind. omega (arith, some, behind, c.min.ensures)));
     }

@@ -13,6 +13,7 @@ invariant_of-self g c = record {
   stands = record {
     rises = rises_as g.R.Keyed.key _ _ c.change_in.ensures.keys c.self.invariant.stands.rises;
     filled = c.change_in.ensures.filled;
+    numbered = c.change_in.ensures.numbered;
     memory = c.change_in.ensures.memory;
     spare = c.self.invariant.stands.spare;
     spare_memory = c.self.invariant.stands.spare_memory;
