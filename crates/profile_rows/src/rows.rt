@@ -86,7 +86,7 @@ fn rows_have_other_values_again_and_again(rt: HostRuntime) -> Result<(), Fail> {
     'rounds: for round in 1..8_i64 {
         'rows: for number in 0..150_i64 {
             let row = word(alloc, number)?;
-            let other = number + round * 1000;
+            let other = number.wrapping_add(round.wrapping_mul(1000));
             let tel = word(alloc, other)?;
             let fields = values(alloc, other, tel.as_str())?;
             let changed = profiles.update(ACCOUNTS, Text::from_str(alloc, row.as_str())?, fields);
