@@ -197,6 +197,7 @@ fn a_timer_that_stays_due_is_met_once(rt: HostRuntime) -> Result<(), Fail> {
     set(&mut timers, spec(TWO, 3, 0, 2, Keep::All))?;
     assert!(rt; is_due(alloc, &timers, 0, &[(0, 0), (0, 1), (0, 2)]));
     timers.advance(0);
+    assert_eq!(rt; timers.len(), 4);
     assert_eq!(rt; timers.at(0).left, 1);
     assert_eq!(rt; timers.at(1).left, 2);
     assert_eq!(rt; timers.at(2).next, 5);
