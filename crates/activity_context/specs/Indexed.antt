@@ -1,5 +1,5 @@
 -- How activities are kept with an index of external names.
-use Rattle.std.specs.Prelude.{ℕ, ◌-◌, min, vec_capacity, vec_len}
+use Rattle.std.specs.Prelude.{ℕ, min}
 use Rattle.slee_state.specs.declared.rows.AcKind.{AcKind}
 use Rattle.slee_state.specs.declared.rows.AcKind.TheVariants as kinds
 use Rattle.slee_state.specs.declared.rows.Activity.{Activity}
@@ -28,11 +28,11 @@ name_entry row = record { key = name_number row.kind; number = row.number.0 }
 -- the activities, with the room beside both lists
 abbrev pub rows_seen : Inside → ActivitiesView
 rows_seen s = record {
-  activities = s.rows.items;
-  room = min (vec_capacity s.rows - vec_len s.rows) (vec_capacity s.by_name - vec_len s.by_name);
+  activities = s.rows.rows;
+  room = min s.rows.room s.by_name.room;
 }
 
 -- the activities rise, and the index has them all
 pub record AreIndexed (s : Inside) : Type 0 where
-  pub rises : Rises activity_key s.rows.items
-  pub names : IsIndex name_entry s.rows.items s.by_name.items
+  pub rises : Rises activity_key s.rows.rows
+  pub names : IsIndex name_entry s.rows.rows s.by_name.rows

@@ -1,5 +1,5 @@
 pub mod Views
 pub mod Faults
 pub mod Indexed
-pub mod Counted
+pub mod Naming
 pub mod Kept

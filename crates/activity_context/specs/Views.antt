@@ -21,6 +21,8 @@ pub record ContextsView : Type 0 where
   pub attributes : List Attribute
   pub links : List Link
   pub names : List Named
+  -- the names again, in the order in which they are kept
+  pub names_kept : List Named
   pub next : ℕ
   pub rooms : Rooms
 
@@ -29,9 +31,10 @@ pub record ActivitiesView : Type 0 where
   pub activities : List Activity
   pub room : ℕ
 
--- the names alone, and for how many there is room
+-- the names alone, in byte order and as they are kept, and for how many there is room
 pub record NamesView : Type 0 where
   pub names : List Named
+  pub kept : List Named
   pub room : ℕ
 
 -- there is room for so many rows in each list

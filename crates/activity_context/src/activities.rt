@@ -1,5 +1,5 @@
 //! Activities that rise by number, of which an external one is found by its name; clauses see them as a list, with the room.
-ghost use Rattle.std.specs.Prelude.{ℕ, ◌≡◌, ◌+◌, ◌<◌, ◌≤◌, [], None, IsTrue, OnOk, option_copied};
+ghost use Rattle.std.specs.Prelude.{ℕ, ◌≡◌, ◌+◌, ◌<◌, ◌≤◌, [], length, None, Some, IsTrue, OnOk, slice_get, option_copied};
 ghost use Rattle.slee_state.specs.Orders.{put};
 ghost use Rattle.slee_state.specs.Ordered.{are_below, rises_in};
 ghost use Rattle.slee_state.specs.Contexts.{activity_at, external, with_activity, with_end, without_activity};
@@ -8,10 +8,10 @@ ghost use Rattle.activity_context.specs.Views.{activity_before};
 
 use crate::AcFault;
 use crate::externals::{external_among, name_entry, name_number};
+use leaf_rows::Leaves;
 use row_index::Entry;
 use slee_state::{AcKind, Activity};
 use slee_value::{ActivityId, Name, NoMemory};
-use sorted_rows::{cut_row, cut_rows_of, first_row_of, place_of_first, put_row, rows_of};
 use std::alloc::Global;
 use std::marker::Model;
 use text_index::number_of;
@@ -19,8 +19,8 @@ use text_index::number_of;
 /// Activities by number, with their numbers by the number of their name.
 #[derive(Drop)]
 pub struct Activities {
-    rows: Vec<Activity>,
-    by_name: Vec<Entry>,
+    rows: Leaves<Activity>,
+    by_name: Leaves<Entry>,
 }
 
 impl Model for Activities {
@@ -41,8 +41,8 @@ impl Activities {
         ensures { result.activities ≡ [] }
     {
         Activities {
-            rows: Vec::new(alloc),
-            by_name: Vec::new(alloc),
+            rows: Leaves::new(alloc),
+            by_name: Leaves::new(alloc),
         }
     }
 
@@ -50,14 +50,22 @@ impl Activities {
     pub fn ordered(&self)
         ensures { IsTrue (rises_in (λ row. row.number.0) self.now.activities) }
     {
-        let _count = self.rows.len();
+        self.rows.rises();
     }
 
-    /// The activities, by number.
-    pub fn rows(&self) -> &[Activity]
-        ensures { result.now ≡ self.now.activities }
+    /// How many activities there are.
+    pub fn len(&self) -> usize
+        ensures { result ≡ length self.now.activities }
     {
-        &self.rows
+        self.rows.len()
+    }
+
+    /// The activity at this place.
+    pub fn at(&self, place: usize) -> &Activity
+        requires { place < length self.now.activities }
+        ensures { slice_get self.now.activities place ≡ Some result.now }
+    {
+        self.rows.at(place)
     }
 
     /// Makes room for so many more activities.
@@ -75,14 +83,14 @@ impl Activities {
     pub fn find(&self, activity: ActivityId) -> Option<&Activity>
         ensures { option_copied result ≡ activity_at self.now.activities activity.0 }
     {
-        first_row_of(&self.rows, activity.0)
+        self.rows.first_row_of(activity.0)
     }
 
     /// The external activity of this name.
     pub fn external(&self, name: &Name) -> Option<&Activity>
         ensures { option_copied result ≡ external self.now.activities name.now }
     {
-        let run = rows_of(&self.by_name, number_of(name.as_bytes()));
+        let run = self.by_name.rows_of(number_of(name.as_bytes()));
         external_among(&self.rows, run, name)
     }
 
@@ -131,8 +139,8 @@ impl Activities {
             kind,
             ending: false,
         };
-        put_row(&mut self.by_name, name_entry(&activity));
-        self.rows.push_reserved(activity);
+        self.by_name.put_row(name_entry(&activity));
+        self.rows.put_row(activity);
     }
 
     fn add(&mut self, activity: Activity)
@@ -141,8 +149,8 @@ impl Activities {
         ensures activities { self.new.activities ≡ put activity_before activity self.old.activities }
         ensures room { self.old.room ≤ self.new.room + 1 }
     {
-        put_row(&mut self.by_name, name_entry(&activity));
-        put_row(&mut self.rows, activity);
+        self.by_name.put_row(name_entry(&activity));
+        self.rows.put_row(activity);
     }
 
     /// The activity stands in its place. Another one of its number gives way.
@@ -162,22 +170,12 @@ impl Activities {
         ensures below { (n : ℕ) → IsTrue (are_below (λ row. row.number.0) n self.old.activities) → IsTrue (are_below (λ row. row.number.0) n self.new.activities) }
         ensures room { self.old.room ≤ self.new.room }
     {
-        match first_row_of(&self.rows, activity.0) {
+        match self.rows.first_row_of(activity.0) {
             Some(row) => {
                 let name = name_number(&row.kind);
-                cut_row(&mut self.by_name, name, activity.0, &[]);
-                cut_rows_of(&mut self.rows, activity.0);
+                self.by_name.cut_row(name, activity.0, &[]);
+                self.rows.cut_rows_of(activity.0);
             }
-            None => {}
-        }
-    }
-
-    fn end_at_place(&mut self, activity: ActivityId)
-        ensures activities { self.new.activities ≡ with_end self.old.activities activity.0 }
-        ensures room { self.old.room ≤ self.new.room }
-    {
-        match place_of_first(&self.rows, activity.0) {
-            Some(place) => self.rows[place].ending = true,
             None => {}
         }
     }
@@ -188,6 +186,7 @@ impl Activities {
         ensures below { (n : ℕ) → IsTrue (are_below (λ row. row.number.0) n self.old.activities) → IsTrue (are_below (λ row. row.number.0) n self.new.activities) }
         ensures room { self.old.room ≤ self.new.room }
     {
-        self.end_at_place(activity);
+        self.rows
+            .change_row(activity.0, 0, &[], |row| row.ending = true);
     }
 }

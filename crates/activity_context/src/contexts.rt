@@ -1,5 +1,6 @@
 //! The contexts of activities; clauses see them as four lists, with the next number and the room.
 ghost use Rattle.std.specs.Prelude.{◌≡◌, ◌+◌, ◌-◌, ◌<◌, ◌≤◌, ◌^◌, not, [], length, Some, IsTrue, IfOk, OnOk, OnErr, slice_get, option_copied, option_map};
+ghost use Rattle.std.specs.List.Sorted.{IsPermutation};
 ghost use Rattle.slee_state.specs.Ordered.{rises_in, are_below};
 ghost use Rattle.slee_state.specs.Orders.{put, rises_by};
 ghost use Rattle.slee_state.specs.Contexts.{activity_at, external, with_activity, with_end, without_activity, attribute_at, attribute_before, link_before, name_before, with_attribute, without_attributes, is_linked, links_on, with_link, without_link, without_links_on, named_at, with_name, without_name, without_names_of};
@@ -9,9 +10,9 @@ ghost use Rattle.activity_context.specs.Views.{HasRoom, activity_before, parts_o
 use crate::activities::Activities;
 use crate::names::Names;
 use crate::{AcFault, attributes, links};
+use leaf_rows::{Leaves, Run};
 use slee_state::{AcKind, Activity, Attribute, Link};
 use slee_value::{ActivityId, EntityId, Name, NoMemory, Text, Value};
-use sorted_rows::{cut_rows_of, row_of, rows_of};
 use std::alloc::Global;
 use std::marker::Model;
 
@@ -19,8 +20,8 @@ use std::marker::Model;
 #[derive(Drop)]
 pub struct Contexts {
     activities: Activities,
-    attributes: Vec<Attribute>,
-    links: Vec<Link>,
+    attributes: Leaves<Attribute>,
+    links: Leaves<Link>,
     names: Names,
     next: u64,
 }
@@ -48,24 +49,27 @@ impl Contexts {
     {
         Contexts {
             activities: Activities::new(alloc),
-            attributes: Vec::new(alloc),
-            links: Vec::new(alloc),
+            attributes: Leaves::new(alloc),
+            links: Leaves::new(alloc),
             names: Names::new(alloc),
             next: 1,
         }
     }
 
-    /// Passes on that the lists rise, and that activities' numbers are below the next one.
+    /// Passes on that the lists rise, that activities' numbers are below the next one, and that the names are kept in some order.
     pub fn ordered(&self)
         ensures activities { IsTrue (rises_in (λ row. row.number.0) self.now.activities) }
         ensures below { IsTrue (are_below (λ row. row.number.0) self.now.next self.now.activities) }
         ensures attributes { IsTrue (rises_by attribute_before self.now.attributes) }
         ensures links { IsTrue (rises_by link_before self.now.links) }
         ensures names { IsTrue (rises_by name_before self.now.names) }
+        ensures names_kept { IsPermutation self.now.names self.now.names_kept }
     {
         let _next = self.next;
         self.activities.ordered();
-        self.names.rows();
+        self.names.ordered();
+        self.attributes.rises();
+        self.links.rises();
     }
 
     /// Makes room for so many more rows in each list.
@@ -142,8 +146,8 @@ impl Contexts {
         ensures name_room { self.old.rooms.names ≤ self.new.rooms.names }
     {
         self.activities.cut(activity);
-        cut_rows_of(&mut self.attributes, activity.0);
-        cut_rows_of(&mut self.links, activity.0);
+        self.attributes.cut_rows_of(activity.0);
+        self.links.cut_rows_of(activity.0);
         self.names.cut_of(activity);
     }
 
@@ -195,7 +199,7 @@ impl Contexts {
     pub fn bind(&mut self, name: Text, activity: ActivityId) -> Result<(), AcFault>
         requires { 0 < self.old.rooms.names }
         ensures fault { fault_of result ≡ bind_fault self.old.activities self.old.names name activity.0 }
-        ensures bound { OnOk result (self.new ≡ record self.old { names = with_name self.old.names name activity.0; rooms = record self.old.rooms { names = self.new.rooms.names } }) }
+        ensures bound { OnOk result (self.new ≡ record self.old { names = with_name self.old.names name activity.0; names_kept = self.new.names_kept; rooms = record self.old.rooms { names = self.new.rooms.names } }) }
         ensures room { self.old.rooms.names ≤ self.new.rooms.names + 1 }
         ensures kept { OnErr result (self.new ≡ self.old) }
     {
@@ -211,7 +215,7 @@ impl Contexts {
     /// The name stands for nothing any more.
     pub fn unbind(&mut self, name: &Text) -> Result<(), AcFault>
         ensures fault { fault_of result ≡ unbind_fault self.old.names name.now }
-        ensures unbound { OnOk result (self.new ≡ record self.old { names = without_name self.old.names name.now; rooms = record self.old.rooms { names = self.new.rooms.names } }) }
+        ensures unbound { OnOk result (self.new ≡ record self.old { names = without_name self.old.names name.now; names_kept = self.new.names_kept; rooms = record self.old.rooms { names = self.new.rooms.names } }) }
         ensures room { self.old.rooms.names ≤ self.new.rooms.names }
         ensures kept { OnErr result (self.new ≡ self.old) }
     {
@@ -246,7 +250,7 @@ impl Contexts {
     /// Puts a name back.
     pub fn restore_name(&mut self, name: Text, activity: ActivityId)
         requires { 0 < self.old.rooms.names }
-        ensures restored { self.new ≡ record self.old { names = with_name self.old.names name activity.0; rooms = record self.old.rooms { names = self.new.rooms.names } } }
+        ensures restored { self.new ≡ record self.old { names = with_name self.old.names name activity.0; names_kept = self.new.names_kept; rooms = record self.old.rooms { names = self.new.rooms.names } } }
         ensures room { self.old.rooms.names ≤ self.new.rooms.names + 1 }
     {
         self.names.put(name, activity);
@@ -271,7 +275,7 @@ impl Contexts {
     pub fn len(&self) -> u64
         ensures { result ≡ length self.now.activities }
     {
-        self.activities.rows().len() as u64
+        self.activities.len() as u64
     }
 
     /// The activity at this place; they rise by number.
@@ -279,7 +283,7 @@ impl Contexts {
         requires { place < length self.now.activities }
         ensures { slice_get self.now.activities place ≡ Some result.now }
     {
-        &self.activities.rows()[place as usize]
+        self.activities.at(place as usize)
     }
 
     /// How many attachments there are.
@@ -294,7 +298,7 @@ impl Contexts {
         requires { place < length self.now.links }
         ensures { option_map parts_of_link (slice_get self.now.links place) ≡ Some result }
     {
-        let row = &self.links[place as usize];
+        let row = self.links.at(place as usize);
         (row.entity, row.activity)
     }
 
@@ -302,15 +306,15 @@ impl Contexts {
     pub fn names_len(&self) -> u64
         ensures { result ≡ length self.now.names }
     {
-        self.names.rows().len() as u64
+        self.names.len() as u64
     }
 
-    /// The name at this place, with its activity; they rise in byte order.
+    /// The name at this place, with its activity; they stand in an order of their own.
     pub fn names_at(&self, place: u64) -> (&Text, ActivityId)
         requires { place < length self.now.names }
-        ensures { option_map parts_of_name (slice_get self.now.names place) ≡ Some (result.0.now, result.1) }
+        ensures { option_map parts_of_name (slice_get self.now.names_kept place) ≡ Some (result.0.now, result.1) }
     {
-        let row = &self.names.rows()[place as usize];
+        let row = self.names.at(place as usize);
         (&row.name, row.activity)
     }
 
@@ -326,7 +330,7 @@ impl Contexts {
         requires { place < length self.now.attributes }
         ensures { option_map parts_of_attribute (slice_get self.now.attributes place) ≡ Some (result.0, result.1.now, result.2.now) }
     {
-        let row = &self.attributes[place as usize];
+        let row = self.attributes.at(place as usize);
         (row.activity, &row.key, &row.value)
     }
 
@@ -358,7 +362,7 @@ impl Contexts {
     pub fn attr(&self, activity: ActivityId, key: &Text) -> Option<&Value>
         ensures { option_copied result ≡ attribute_at self.now.attributes activity.0 key.now }
     {
-        match row_of(&self.attributes, activity.0, 0, key.as_bytes()) {
+        match self.attributes.row_of(activity.0, 0, key.as_bytes()) {
             Some(row) => Some(&row.value),
             None => None,
         }
@@ -372,9 +376,9 @@ impl Contexts {
     }
 
     /// The attachments to the activity.
-    pub fn links_on(&self, activity: ActivityId) -> &[Link]
-        ensures { result.now ≡ links_on self.now.links activity.0 }
+    pub fn links_on(&self, activity: ActivityId) -> Run<'_, Link>
+        ensures { result ≡ links_on self.now.links activity.0 }
     {
-        rows_of(&self.links, activity.0)
+        self.links.rows_of(activity.0)
     }
 }

@@ -1,14 +1,13 @@
 //! External activities by their names.
 ghost use Rattle.std.specs.Prelude.{◌≡◌, option_copied};
 ghost use Rattle.slee_state.specs.Contexts.{activity_at, has_name};
-ghost use Rattle.sorted_rows.specs.Keys.{activity_key, Rises};
 ghost use Rattle.text_index.specs.Found.{first_found};
 ghost use Rattle.activity_context.specs.Indexed.{name_entry, name_number};
 
+use leaf_rows::{Leaves, Run};
 use row_index::Entry;
 use slee_state::{AcKind, Activity};
 use slee_value::Name;
-use sorted_rows::first_row_of;
 use text_index::number_of;
 
 /// Above the numbers of all names: here stand the activities that have none.
@@ -45,15 +44,14 @@ pub fn name_entry(activity: &Activity) -> Entry
 
 /// The first activity of these entries that is the external one of the name.
 pub fn external_among<'a>(
-    rows: &'a [Activity],
-    entries: &[Entry],
+    rows: &'a Leaves<Activity>,
+    entries: Run<'_, Entry>,
     name: &Name,
 ) -> Option<&'a Activity>
-    requires { Rises activity_key rows.now }
-    ensures { option_copied result ≡ first_found (activity_at rows.now) (λ row. has_name row.kind name.now) entries.now }
+    ensures { option_copied result ≡ first_found (activity_at rows.now.rows) (λ row. has_name row.kind name.now) entries.entry }
 {
     for entry in entries {
-        if let Some(row) = first_row_of(rows, entry.number) {
+        if let Some(row) = rows.first_row_of(entry.number) {
             if has_name(&row.kind, name) {
                 return Some(row);
             }

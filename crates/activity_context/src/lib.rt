@@ -6,8 +6,10 @@ mod attributes;
 mod contexts;
 mod externals;
 mod fault;
+mod filing;
 mod links;
 mod names;
+mod numbered;
 
 pub use contexts::Contexts;
 pub use fault::AcFault;

@@ -1,21 +1,23 @@
-//! Names of the naming facility that rise in byte order, counted by activity; clauses see them as a list, with the room.
-ghost use Rattle.std.specs.Prelude.{◌≡◌, ◌+◌, ◌-◌, ◌<◌, ◌≤◌, [], None, IsTrue, OnOk, find, vec_capacity, vec_len};
-ghost use Rattle.std.specs.Str.{bytes_eq};
-ghost use Rattle.slee_state.specs.Orders.{put, rises_by};
+//! Names of the naming facility; clauses see them as a list in byte order, and as they are kept, with the room.
+ghost use Rattle.std.specs.Prelude.{◌≡◌, ◌+◌, ◌<◌, ◌≤◌, [], length, Some, IsTrue, OnOk, slice_get};
+ghost use Rattle.std.specs.List.Sorted.{IsPermutation};
+ghost use Rattle.slee_state.specs.Orders.{rises_by};
 ghost use Rattle.slee_state.specs.Contexts.{name_before, named_at, with_name, without_name, without_names_of};
 
-use row_tally::{Tally, count_one, count_under, uncount_one};
+use crate::filing::{cut_named, cut_names_of, file, row_named};
+use crate::numbered::NumberedName;
+use leaf_rows::Leaves;
+use row_index::Entry;
 use slee_state::Named;
 use slee_value::{ActivityId, NoMemory, Text};
-use sorted_rows::{cut_row, cut_rows_of, put_row, row_of};
 use std::alloc::Global;
 use std::marker::Model;
 
-/// Names with their activities, and how many each activity has.
+/// Names under the numbers of their texts, and these numbers under their activities.
 #[derive(Drop)]
 pub struct Names {
-    rows: Vec<Named>,
-    by_activity: Vec<Tally>,
+    rows: Leaves<NumberedName>,
+    by_activity: Leaves<Entry>,
 }
 
 impl Model for Names {
@@ -23,18 +25,11 @@ impl Model for Names {
 
     ghost Value = { NamesView };
 
-    ghost use Rattle.activity_context.specs.Counted.{names_seen, AreCounted};
+    ghost use Rattle.activity_context.specs.Naming.{names_seen, AreFiled};
 
     ghost view = { names_seen };
 
-    ghost invariant = { AreCounted };
-}
-
-fn keep_other_names(rows: &mut Vec<Named>, activity: ActivityId)
-    ensures items { rows.new.items ≡ without_names_of rows.old.items activity.0 }
-    ensures room { vec_capacity rows.old - vec_len rows.old ≤ vec_capacity rows.new - vec_len rows.new }
-{
-    rows.retain(|row| row.activity.0 != activity.0);
+    ghost invariant = { λ s. AreFiled s.rows.rows s.by_activity.rows };
 }
 
 impl Names {
@@ -43,22 +38,38 @@ impl Names {
         ensures { result.names ≡ [] }
     {
         Names {
-            rows: Vec::new(alloc),
-            by_activity: Vec::new(alloc),
+            rows: Leaves::new(alloc),
+            by_activity: Leaves::new(alloc),
         }
     }
 
-    /// The names, in byte order.
-    pub fn rows(&self) -> &[Named]
-        ensures rows { result.now ≡ self.now.names }
+    /// Passes on that the names rise, and that as many of them are kept.
+    pub fn ordered(&self)
         ensures rises { IsTrue (rises_by name_before self.now.names) }
+        ensures kept { IsPermutation self.now.names self.now.kept }
     {
-        &self.rows
+        self.rows.rises();
+    }
+
+    /// How many names there are.
+    pub fn len(&self) -> usize
+        ensures { result ≡ length self.now.names }
+    {
+        self.rows.len()
+    }
+
+    /// The name that is kept at this place, with its activity.
+    pub fn at(&self, place: usize) -> &Named
+        requires { place < length self.now.names }
+        ensures { slice_get self.now.kept place ≡ Some result.now }
+    {
+        &self.rows.at(place).named
     }
 
     /// Makes room for so many more names.
     pub fn reserve(&mut self, rows: u64) -> Result<(), NoMemory>
         ensures names { self.new.names ≡ self.old.names }
+        ensures kept { self.new.kept ≡ self.old.kept }
         ensures room { OnOk result (rows ≤ self.new.room) }
         ensures grown { self.old.room ≤ self.new.room }
     {
@@ -71,20 +82,10 @@ impl Names {
     pub fn activity_named(&self, name: &Text) -> Option<ActivityId>
         ensures { result ≡ named_at self.now.names name.now }
     {
-        match row_of(&self.rows, 0, 0, name.as_bytes()) {
-            Some(row) => Some(row.activity),
+        match row_named(&self.rows, &self.by_activity, name) {
+            Some(row) => Some(row.named.activity),
             None => None,
         }
-    }
-
-    fn add(&mut self, row: Named)
-        requires room { 0 < self.old.room }
-        requires absent { find (λ other. bytes_eq other.name row.name) self.old.names ≡ None }
-        ensures names { self.new.names ≡ put name_before row self.old.names }
-        ensures room { self.old.room ≤ self.new.room + 1 }
-    {
-        count_one(&mut self.by_activity, row.activity.0);
-        put_row(&mut self.rows, row);
     }
 
     /// The name stands for nothing.
@@ -92,14 +93,7 @@ impl Names {
         ensures names { self.new.names ≡ without_name self.old.names name.now }
         ensures room { self.old.room ≤ self.new.room }
     {
-        match row_of(&self.rows, 0, 0, name.as_bytes()) {
-            Some(row) => {
-                let activity = row.activity;
-                uncount_one(&mut self.by_activity, activity.0);
-                cut_row(&mut self.rows, 0, 0, name.as_bytes());
-            }
-            None => {}
-        }
+        cut_named(&mut self.rows, &mut self.by_activity, name);
     }
 
     /// The name stands for the activity, whatever it stood for.
@@ -108,26 +102,19 @@ impl Names {
         ensures names { self.new.names ≡ with_name self.old.names name activity.0 }
         ensures room { self.old.room ≤ self.new.room + 1 }
     {
-        self.cut(&name);
-        self.add(Named { name, activity });
+        cut_named(&mut self.rows, &mut self.by_activity, &name);
+        file(
+            &mut self.rows,
+            &mut self.by_activity,
+            Named { name, activity },
+        );
     }
 
-    /// All names are looked at.
-    fn sweep(&mut self, activity: ActivityId)
-        ensures names { self.new.names ≡ without_names_of self.old.names activity.0 }
-        ensures room { self.old.room ≤ self.new.room }
-    {
-        keep_other_names(&mut self.rows, activity);
-        cut_rows_of(&mut self.by_activity, activity.0);
-    }
-
-    /// No names stand for the activity. No name is looked at where it has none.
+    /// No names stand for the activity. Only its own are looked at.
     pub fn cut_of(&mut self, activity: ActivityId)
         ensures names { self.new.names ≡ without_names_of self.old.names activity.0 }
         ensures room { self.old.room ≤ self.new.room }
     {
-        if count_under(&self.by_activity, activity.0) > 0 {
-            self.sweep(activity);
-        }
+        cut_names_of(&mut self.rows, &mut self.by_activity, activity);
     }
 }

@@ -137,7 +137,7 @@ fn an_entity_is_attached_once(rt: HostRuntime) -> Result<(), Fail> {
 fn what_an_activity_has_goes_with_it(rt: HostRuntime) -> Result<(), Fail> {
     let alloc = rt.alloc();
     let mut contexts = two_activities(alloc)?;
-    for (activity, spelled) in [(ONE, "first"), (TWO, "second")] {
+    for (activity, spelled) in [(ONE, "first"), (TWO, "second"), (ONE, "third")] {
         attach(&mut contexts, activity)?;
         count(&mut contexts, alloc, activity)?;
         assert_eq!(rt; bind(&mut contexts, alloc, spelled, activity)?, Ok(()));
@@ -153,6 +153,9 @@ fn what_an_activity_has_goes_with_it(rt: HostRuntime) -> Result<(), Fail> {
         contexts.named(&Text::from_str(alloc, "second")?),
         Some(TWO)
     );
+    assert!(rt; contexts.names_at(0).0.as_bytes() == b"second".as_slice());
+    assert!(rt; contexts.names_at(0).1 == TWO);
+    assert!(rt; contexts.named(&Text::from_str(alloc, "third")?).is_none());
     assert!(rt;
         contexts
             .attr(ONE, &Text::from_str(alloc, "count")?)

@@ -1,9 +1,5 @@
-//! Tests of what a container keeps of activities, by public calls: contexts, queues of events and timers.
+//! Tests of activity contexts, by public calls: activities with their attributes, attachments and names.
 #![tactic(auto)]
 
 #[cfg(test)]
 mod activities;
-#[cfg(test)]
-mod queues;
-#[cfg(test)]
-mod timers;

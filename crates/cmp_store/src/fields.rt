@@ -4,29 +4,24 @@ ghost use Rattle.slee_state.specs.Fields.{field_at, field_before, with_field, wi
 ghost use Rattle.slee_state.specs.Orders.{rises_by};
 ghost use Rattle.cmp_store.specs.Views.{has_field};
 
+use leaf_rows::{Leaves, Run};
 use slee_state::Field;
 use slee_value::{EntityId, Name, NoMemory, Value};
-use sorted_rows::{cut_rows_of, put_row, row_of, rows_of};
 use std::alloc::Global;
 use std::marker::Model;
 
 /// The fields of all entities.
-#[derive(Debug, Drop)]
+#[derive(Drop)]
 pub struct Fields {
-    rows: Vec<Field>,
+    rows: Leaves<Field>,
 }
 
 impl Model for Fields {
-    ghost use Rattle.std.specs.Prelude.{vec_capacity, vec_len, ◌-◌, IsTrue};
-    ghost use Rattle.slee_state.specs.Fields.{field_before};
-    ghost use Rattle.slee_state.specs.Orders.{rises_by};
     ghost use Rattle.cmp_store.specs.Views.{FieldsView};
 
     ghost Value = { FieldsView };
 
-    ghost view = { λ t. record { rows = t.rows.items; room = vec_capacity t.rows - vec_len t.rows } };
-
-    ghost invariant = { λ t. IsTrue (rises_by field_before t.rows.items) };
+    ghost view = { λ t. record { rows = t.rows.rows; room = t.rows.room } };
 }
 
 impl Fields {
@@ -35,7 +30,7 @@ impl Fields {
         ensures { result.rows ≡ [] }
     {
         Fields {
-            rows: Vec::new(alloc),
+            rows: Leaves::new(alloc),
         }
     }
 
@@ -53,17 +48,17 @@ impl Fields {
     pub fn get(&self, entity: EntityId, field: &Name) -> Option<&Value>
         ensures { option_copied result ≡ field_at self.now.rows entity.0 field.now }
     {
-        match row_of(&self.rows, entity.0, 0, field.as_bytes()) {
+        match self.rows.row_of(entity.0, 0, field.as_bytes()) {
             Some(row) => Some(&row.value),
             None => None,
         }
     }
 
     /// The entity's fields, rising by name.
-    pub fn of(&self, entity: EntityId) -> &[Field]
-        ensures { result.now ≡ filter (λ row. row.entity.0 == entity.0) self.now.rows }
+    pub fn of(&self, entity: EntityId) -> Run<'_, Field>
+        ensures { result ≡ filter (λ row. row.entity.0 == entity.0) self.now.rows }
     {
-        rows_of(&self.rows, entity.0)
+        self.rows.rows_of(entity.0)
     }
 
     /// The entity's field has this value. A new field stands in the room that was made.
@@ -73,14 +68,11 @@ impl Fields {
         ensures room { self.old.room ≤ self.new.room + 1 }
         ensures changed { IsTrue (has_field self.old.rows entity.0 field) → self.old.room ≤ self.new.room }
     {
-        put_row(
-            &mut self.rows,
-            Field {
-                entity,
-                name: field,
-                value,
-            },
-        );
+        self.rows.put_row(Field {
+            entity,
+            name: field,
+            value,
+        });
     }
 
     /// Puts a field of a snapshot back.
@@ -89,7 +81,7 @@ impl Fields {
         ensures rows { self.new.rows ≡ with_field self.old.rows item.entity.0 item.name item.value }
         ensures room { self.old.room ≤ self.new.room + 1 }
     {
-        put_row(&mut self.rows, item);
+        self.rows.put_row(item);
     }
 
     /// The entity has no fields.
@@ -97,7 +89,7 @@ impl Fields {
         ensures rows { self.new.rows ≡ without_fields self.old.rows entity.0 }
         ensures room { self.old.room ≤ self.new.room }
     {
-        cut_rows_of(&mut self.rows, entity.0);
+        self.rows.cut_rows_of(entity.0);
     }
 
     /// How many fields there are.
@@ -105,6 +97,7 @@ impl Fields {
         ensures length { result ≡ length self.now.rows }
         ensures order { IsTrue (rises_by field_before self.now.rows) }
     {
+        self.rows.rises();
         self.rows.len() as u64
     }
 
@@ -114,6 +107,7 @@ impl Fields {
         ensures field { slice_get self.now.rows place ≡ Some result.now }
         ensures order { IsTrue (rises_by field_before self.now.rows) }
     {
-        &self.rows[place as usize]
+        self.rows.rises();
+        self.rows.at(place as usize)
     }
 }

@@ -1,5 +1,6 @@
 //! The store of event masks: masks of one attachment, set and forgotten.
 
+use crate::words::count;
 use event_mask::Masks;
 use slee_state::Mask;
 use slee_value::{ActivityId, EntityId, NoMemory, Text};
@@ -50,7 +51,7 @@ fn an_attachment_begins_with_its_own_masks(rt: HostRuntime) -> Result<(), Fail> 
             is_masked
         );
     }
-    assert_eq!(rt; masks.of(ME, CALL).len(), 2);
+    assert_eq!(rt; count(masks.of(ME, CALL)), 2);
     assert_eq!(rt; masks.len(), 3);
     Ok(())
 }

@@ -1,5 +1,6 @@
-//! Names that the tests are written with.
+//! Names that the tests are written with, and how many rows there are.
 
+use leaf_rows::Run;
 use slee_value::{Name, NoMemory};
 use std::alloc::Global;
 
@@ -11,4 +12,13 @@ pub fn name(alloc: Global, spelled: &str) -> Result<Name, NoMemory> {
     } else {
         Err(NoMemory)
     }
+}
+
+/// How many rows the run has.
+pub fn count<R>(run: Run<'_, R>) -> u64 {
+    let mut count = 0_u64;
+    for _ in run {
+        count = count.wrapping_add(1);
+    }
+    count
 }

@@ -9,7 +9,6 @@ use Rattle.slee_state.specs.declared.rows.Stem.TheVariants as stems
 use Rattle.slee_state.specs.Orders.{put}
 use Rattle.slee_state.specs.Ordered.{are_below}
 use Rattle.slee_state.specs.Trees.{entity_at, number_of, is_root, parent_in, parent_of, with_priority, without_entity}
-use Rattle.sorted_rows.specs.Keys.{Rises, entity_key}
 use Rattle.sorted_rows.proofs.OrderLemmas.{all_filter, all_from_all}
 use Rattle.entity_tree.specs.declared.branch.Branch.{Branch}
 use Rattle.entity_tree.specs.Kept.{AreEntities, IsIndex, entity_before}
@@ -22,18 +21,16 @@ lower_than n m rows le below = all_from_all (λ (row : Entity). row.number.0 < n
 
 -- an entity that was put in its place
 pub added_keeps : (next later : ℕ) (row : Entity) (rows more : List Entity) → AreEntities next rows → next ≤ later → row.number.0 < later → parent_of row < row.number.0
-    → more ≡ put entity_before row rows → Rises entity_key more → AreEntities later more
-added_keeps next later row rows more kept le drawn parent is rises = record {
-  rises = rises;
+    → more ≡ put entity_before row rows → AreEntities later more
+added_keeps next later row rows more kept le drawn parent is = record {
   below = subst (λ (all : List Entity). AllByRecursion (λ row. row.number.0 < later) all) (sym is) (all_put (λ row. row.number.0 < later) row rows (lower_than next later rows le kept.below) drawn);
   parents = subst (λ (all : List Entity). AllByRecursion (λ row. parent_of row < row.number.0) all) (sym is) (all_put (λ row. parent_of row < row.number.0) row rows kept.parents parent);
   from_one = omega (arith, kept.from_one, le);
 }
 
 -- an entity that went
-pub cut_keeps : (next e : ℕ) (rows fewer : List Entity) → AreEntities next rows → fewer ≡ without_entity rows e → Rises entity_key fewer → AreEntities next fewer
-cut_keeps next e rows fewer kept is rises = record {
-  rises = rises;
+pub cut_keeps : (next e : ℕ) (rows fewer : List Entity) → AreEntities next rows → fewer ≡ without_entity rows e → AreEntities next fewer
+cut_keeps next e rows fewer kept is = record {
   below = subst (λ (all : List Entity). AllByRecursion (λ row. row.number.0 < next) all) (sym is) (all_filter (λ row. row.number.0 < next) _ rows kept.below);
   parents = subst (λ (all : List Entity). AllByRecursion (λ row. parent_of row < row.number.0) all) (sym is) (all_filter (λ row. parent_of row < row.number.0) _ rows kept.parents);
   from_one = kept.from_one;
@@ -57,12 +54,11 @@ there_is_drawn next e rows kept there = by (entity_at rows e) refl
 
 -- a priority doesn't count for the index
 pub priority_keeps_index : (e : ℕ) (priority : ℤ) (rows : List Entity) (branches : List Branch) → IsIndex rows branches → IsIndex (with_priority rows e priority) branches
-priority_keeps_index e priority rows branches index = record { rises = index.rises; runs = λ p. index.runs p ∙ sym (index_set e p priority rows) }
+priority_keeps_index e priority rows branches index = λ p. index p ∙ sym (index_set e p priority rows)
 
 -- a next number that is above all
 pub next_keeps : (next later : ℕ) (rows : List Entity) → AreEntities next rows → 0 < later → IsTrue (are_below number_of later rows) → AreEntities later rows
 next_keeps next later rows kept one above = record {
-  rises = kept.rises;
   below = all_from_all (λ (row : Entity). nat_lt row.number.0 later ≡ true) (λ row. row.number.0 < later) (λ row less. grind (arith, nat_tests, less)) rows (all_tested (λ row. nat_lt (number_of row) later) rows above);
   parents = kept.parents;
   from_one = one;

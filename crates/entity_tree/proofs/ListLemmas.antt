@@ -1,8 +1,9 @@
 -- What filters leave of a list.
-use Rattle.std.proofs.Common.{◌≡◌, Bool, true, false, List, [], ◌∷◌, ◌++◌, map, cond, refl, ap, ◌∙◌, inl, inr}
-use Rattle.std.specs.Prelude.{◌&&◌, ◌||◌}
-use Rattle.std.specs.List.{AllByRecursion, filter, list_all}
+use Rattle.std.proofs.Common.{◌≡◌, Bool, true, false, List, [], ◌∷◌, ◌++◌, map, cond, refl, ap, ◌∙◌, arith, inl, inr}
+use Rattle.std.specs.Prelude.{◌&&◌, ◌||◌, nat_lt, length}
+use Rattle.std.specs.List.{AllByRecursion, filter, list_all, list_any}
 use Rattle.std.proofs.lemmas.Bool.{cases_Bool, cond_both, and_parts}
+use Rattle.std.proofs.lemmas.Bool.Decides.{nat_tests}
 use Rattle.std.proofs.lemmas.List.Elements.{filter-append}
 use Rattle.slee_state.specs.Orders.{put}
 
@@ -39,6 +40,14 @@ all_of_any P any (x ∷ xs) = (any x, all_of_any P any xs)
 pub all_tested : {X : Type 0} (p : X → Bool) (xs : List X) → list_all p xs ≡ true → AllByRecursion (λ x. p x ≡ true) xs
 all_tested p [] all = tt
 all_tested p (x ∷ xs) all = let parts = and_parts (p x) (list_all p xs) all in (parts.0, all_tested p xs parts.1)
+
+-- one passes where something is left
+pub some_left : {X : Type 0} (p : X → Bool) (xs : List X) → list_any p xs ≡ nat_lt 0 (length (filter p xs))
+some_left p [] = refl
+some_left p (x ∷ xs) = elim (cases_Bool (p x)) [
+  | inl goes ↦ rw goes (grind (arith, nat_tests))
+  | inr stays ↦ rw stays (some_left p xs)
+]
 
 pub filter_all : {X : Type 0} (p : X → Bool) (xs : List X) → AllByRecursion (λ x. p x ≡ true) xs → filter p xs ≡ xs
 filter_all p [] all = refl

@@ -38,18 +38,6 @@ up_to_there (x ∷ xs) f row is = elim (cases_Bool (x.number.0 == f)) [
   | inr other ↦ let more = up_to_there xs f row (rw other at is) in grind (arith, nat_tests, more)
 ]
 
-short : (n : ℕ) (rows : List Entity) (e : ℕ) → length (path n rows e) ≤ n
-short zero rows e = omega arith
-short (suc n) rows e = by (entity_at rows e) (λ row. short n rows (parent_of row))
-  where
-    by : (found : Option Entity) → ((row : Entity) → length (path n rows (parent_of row)) ≤ n) → length (option_map_or (λ (row : Entity). path n rows (parent_of row) ++ (row.priority, row.number.0) ∷ []) found []) ≤ suc n
-    by None less = omega arith
-    by (Some row) less = omega (arith, length-append (path n rows (parent_of row)) ((row.priority, row.number.0) ∷ []), less row)
-
--- no path has more steps than there are entities
-pub path_short : (rows : List Entity) (e : ℕ) → length (path_at rows e) ≤ length rows
-path_short rows e = short (length rows) rows e
-
 pub nothing : (whole : List (ℤ × ℕ)) → BeginsWith whole []
 nothing [] = tt
 nothing (x ∷ whole) = tt
@@ -69,6 +57,18 @@ module _ (rows : List Entity) (parents : AreParents rows) where
       let below = found_holds (λ (row : Entity). parent_of row < row.number.0) e row rows parents is in
       let same = found_number e row rows is in
       omega (arith, below, same)
+
+  low : (n e : ℕ) → length (path n rows e) ≤ e
+  low zero e = omega arith
+  low (suc n) e = by (entity_at rows e) refl (λ row. low n (parent_of row))
+    where
+      by : (found : Option Entity) → entity_at rows e ≡ found → ((row : Entity) → length (path n rows (parent_of row)) ≤ parent_of row) → length (option_map_or (λ (row : Entity). path n rows (parent_of row) ++ (row.priority, row.number.0) ∷ []) found []) ≤ e
+      by None is less = omega arith
+      by (Some row) is less = omega (arith, length-append (path n rows (parent_of row)) ((row.priority, row.number.0) ∷ []), less row, parent_lower e row is)
+
+  -- no path has more steps than the number of its entity
+  pub path_low : (e : ℕ) → length (path_at rows e) ≤ e
+  path_low e = low (length rows) e
 
   fewer_above : (e n : ℕ) (row : Entity) → entity_at rows e ≡ Some row → up_to rows e ≤ suc n → up_to rows (parent_of row) ≤ n
   fewer_above e n row is few = let less = up_to_found rows (parent_of row) e row is (parent_lower e row is) in omega (arith, less, few)

@@ -1,11 +1,10 @@
 -- Entities found by their numbers.
-use Rattle.std.proofs.Common.{◌≡◌, ℕ, ℤ, ◌<◌, ◌==◌, Bool, true, false, List, [], ◌∷◌, ◌++◌, Some, None, map, cond, drop, length, ◌≤◌, append-nil, refl, sym, ap, subst, ◌∙◌, arith, inl, inr}
+use Rattle.std.proofs.Common.{◌≡◌, ℕ, ℤ, ◌<◌, ◌==◌, Bool, true, false, List, [], ◌∷◌, ◌++◌, Some, None, map, cond, refl, sym, ap, subst, ◌∙◌, arith, inl, inr}
 use Rattle.std.specs.Prelude.{not}
 use Rattle.std.specs.List.{AllByRecursion, filter, find}
 use Rattle.std.specs.Option.{option_map_or}
 use Rattle.std.specs.Str.{bytes_eq}
 use Rattle.std.proofs.lemmas.Bool.{cases_Bool, and_parts}
-use Rattle.std.proofs.lemmas.List.{drop_all}
 use Rattle.std.proofs.lemmas.Bool.Decides.{nat_tests}
 use Rattle.slee_state.specs.declared.rows.Entity.{Entity}
 use Rattle.slee_state.specs.Orders.{put}
@@ -135,10 +134,3 @@ named_is e relation rows branches rises run =
     ∙ ap (map (λ (b : Branch). b.number.0)) (filter_of_map test branch_of (children rows e))
     ∙ numbers_mapped (filter (λ row. test (branch_of row)) (children rows e))
     ∙ ap (map number_of) (filter_agree (λ row. test (branch_of row)) own (children rows e) each ∙ filter_within own (λ row. parent_of row == e) (λ row is. child_parent e relation row.stem is) rows)
-
--- a whole run was gone through
-pub named_end : (i e : ℕ) (relation : List ℕ) (rows : List Entity) (run : List Branch) (numbers : List ℕ) → length run ≤ i
-    → numbers ++ named rows e relation (drop i run) ≡ named rows e relation run → numbers ≡ named rows e relation run
-named_end i e relation rows run numbers past same =
-    let bare = rw (drop_all i run past) at same in
-    sym (append-nil numbers) ∙ bare

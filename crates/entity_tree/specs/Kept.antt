@@ -1,11 +1,11 @@
--- What the store of entities keeps: entities rise by number, a parent has a lower number than its children, and an index has the children of each parent.
+-- What the store of entities keeps: a parent has a lower number than its children, and an index has the children of each parent.
 use Rattle.std.specs.Prelude.{◌≡◌, ℕ, ◌<◌, ◌==◌, nat_lt, Bool, is_some, List, map, filter}
 use Rattle.std.specs.List.{AllByRecursion}
 use Rattle.std.specs.Option.{option_map_or}
 use Rattle.slee_value.specs.declared.ids.EntityId.{EntityId}
 use Rattle.slee_state.specs.declared.rows.Entity.{Entity}
 use Rattle.slee_state.specs.Trees.{entity_at, parent_of, children}
-use Rattle.sorted_rows.specs.Keys.{Key, Rises, entity_key, pair_key}
+use Rattle.sorted_rows.specs.Keys.{Key, pair_key}
 use Rattle.entity_tree.specs.declared.branch.Branch.{Branch}
 
 -- entities stand by number
@@ -28,9 +28,8 @@ numbers_of ids = map (λ id. id.0) ids
 abbrev pub AreParents : List Entity → Type 0
 AreParents rows = AllByRecursion (λ row. parent_of row < row.number.0) rows
 
--- entities rise by number, numbers are below the next one, and a parent's number is below its child's
+-- numbers are below the next one, and a parent's number is below its child's
 pub record AreEntities (next : ℕ) (rows : List Entity) : Type 0 where
-  pub rises : Rises entity_key rows
   pub below : AllByRecursion (λ row. row.number.0 < next) rows
   pub parents : AreParents rows
   pub from_one : 0 < next
@@ -43,7 +42,6 @@ branch_key branch = pair_key branch.parent.0 branch.number.0
 abbrev pub branch_of : Entity → Branch
 branch_of row = record { parent = record { 0 = parent_of row }; number = row.number }
 
--- the index has the children of each parent, rising
-pub record IsIndex (rows : List Entity) (branches : List Branch) : Type 0 where
-  pub rises : Rises branch_key branches
-  pub runs : (p : ℕ) → filter (λ branch. branch.parent.0 == p) branches ≡ map branch_of (children rows p)
+-- the index has the children of each parent, in their order
+abbrev pub IsIndex : List Entity → List Branch → Type 0
+IsIndex rows branches = (p : ℕ) → filter (λ branch. branch.parent.0 == p) branches ≡ map branch_of (children rows p)

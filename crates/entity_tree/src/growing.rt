@@ -1,62 +1,52 @@
 //! Entities and the index of children, changed together.
-ghost use Rattle.std.specs.Prelude.{◌≡◌, ◌<◌, ◌≤◌, ◌+◌, ◌-◌, None, vec_capacity, vec_len};
-ghost use Rattle.sorted_rows.specs.Keys.{Rises, entity_key};
+ghost use Rattle.std.specs.Prelude.{◌≡◌, ◌<◌, ◌≤◌, ◌+◌, None};
 ghost use Rattle.slee_state.specs.Orders.{put};
 ghost use Rattle.slee_state.specs.Trees.{entity_at, with_priority, without_entity};
 ghost use Rattle.entity_tree.specs.Kept.{IsIndex, entity_before};
 
 use crate::branch::Branch;
 use crate::reading::{parent_at, parent_in};
+use leaf_rows::Leaves;
 use slee_state::Entity;
 use slee_value::EntityId;
-use sorted_rows::{cut_row, place_of, put_row};
 
 /// The entity stands in its place, and its parent finds it.
-pub fn add(rows: &mut Vec<Entity>, branches: &mut Vec<Branch>, row: Entity)
-    requires room { vec_len rows.old < vec_capacity rows.old }
-    requires branch_room { vec_len branches.old < vec_capacity branches.old }
-    requires rises { Rises entity_key rows.old.items }
-    requires index { IsIndex rows.old.items branches.old.items }
-    requires absent { entity_at rows.old.items row.number.0 ≡ None }
-    ensures rows { rows.new.items ≡ put entity_before row rows.old.items }
-    ensures rises { Rises entity_key rows.new.items }
-    ensures index { IsIndex rows.new.items branches.new.items }
-    ensures room { vec_capacity rows.old - vec_len rows.old ≤ vec_capacity rows.new - vec_len rows.new + 1 }
-    ensures branch_room { vec_capacity branches.old - vec_len branches.old ≤ vec_capacity branches.new - vec_len branches.new + 1 }
+pub fn add(rows: &mut Leaves<Entity>, branches: &mut Leaves<Branch>, row: Entity)
+    requires room { 0 < rows.old.room }
+    requires branch_room { 0 < branches.old.room }
+    requires index { IsIndex rows.old.rows branches.old.rows }
+    requires absent { entity_at rows.old.rows row.number.0 ≡ None }
+    ensures rows { rows.new.rows ≡ put entity_before row rows.old.rows }
+    ensures index { IsIndex rows.new.rows branches.new.rows }
+    ensures room { rows.old.room ≤ rows.new.room + 1 }
+    ensures branch_room { branches.old.room ≤ branches.new.room + 1 }
 {
-    put_row(
-        branches,
-        Branch {
-            parent: parent_in(&row.stem),
-            number: row.number,
-        },
-    );
-    put_row(rows, row);
+    rows.rises();
+    branches.put_row(Branch {
+        parent: parent_in(&row.stem),
+        number: row.number,
+    });
+    rows.put_row(row);
 }
 
 /// The entity is gone, and its parent doesn't find it.
-pub fn cut(rows: &mut Vec<Entity>, branches: &mut Vec<Branch>, entity: EntityId)
-    requires rises { Rises entity_key rows.old.items }
-    requires index { IsIndex rows.old.items branches.old.items }
-    ensures rows { rows.new.items ≡ without_entity rows.old.items entity.0 }
-    ensures rises { Rises entity_key rows.new.items }
-    ensures index { IsIndex rows.new.items branches.new.items }
-    ensures room { vec_capacity rows.old - vec_len rows.old ≤ vec_capacity rows.new - vec_len rows.new }
-    ensures branch_room { vec_capacity branches.old - vec_len branches.old ≤ vec_capacity branches.new - vec_len branches.new }
+pub fn cut(rows: &mut Leaves<Entity>, branches: &mut Leaves<Branch>, entity: EntityId)
+    requires { IsIndex rows.old.rows branches.old.rows }
+    ensures rows { rows.new.rows ≡ without_entity rows.old.rows entity.0 }
+    ensures index { IsIndex rows.new.rows branches.new.rows }
+    ensures room { rows.old.room ≤ rows.new.room }
+    ensures branch_room { branches.old.room ≤ branches.new.room }
 {
+    rows.rises();
     let parent = parent_at(rows, entity);
-    cut_row(branches, parent.0, entity.0, &[]);
-    cut_row(rows, entity.0, 0, &[]);
+    branches.cut_row(parent.0, entity.0, &[]);
+    rows.cut_row(entity.0, 0, &[]);
 }
 
 /// The entity has this priority.
-pub fn set_priority(rows: &mut Vec<Entity>, entity: EntityId, priority: i8)
-    requires { Rises entity_key rows.old.items }
-    ensures rows { rows.new.items ≡ with_priority rows.old.items entity.0 priority }
-    ensures room { vec_capacity rows.old - vec_len rows.old ≤ vec_capacity rows.new - vec_len rows.new }
+pub fn set_priority(rows: &mut Leaves<Entity>, entity: EntityId, priority: i8)
+    ensures rows { rows.new.rows ≡ with_priority rows.old.rows entity.0 priority }
+    ensures room { rows.old.room ≤ rows.new.room }
 {
-    match place_of(rows, entity.0, 0, &[]) {
-        Some(place) => rows[place].priority = priority,
-        None => {}
-    }
+    rows.change_row(entity.0, 0, &[], |row| row.priority = priority);
 }

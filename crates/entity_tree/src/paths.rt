@@ -1,7 +1,6 @@
 //! The order of entities by their paths, without the paths: both are followed up until they meet.
 ghost use Rattle.std.specs.Prelude.{◌≡◌, ◌+◌, ◌-◌, ◌≤◌, ◌==◌, false, Some, length, IsTrue};
 ghost use Rattle.std.specs.Ordering.{is_lt, is_gt, is_eq};
-ghost use Rattle.sorted_rows.specs.Keys.{Rises, entity_key};
 ghost use Rattle.slee_state.specs.Paths.{step_before, path_before};
 ghost use Rattle.slee_state.specs.Trees.{entity_at};
 ghost use Rattle.slee_state.specs.declared.rows.Entity.{Entity};
@@ -9,23 +8,22 @@ ghost use Rattle.entity_tree.specs.Kept.{AreParents, is_entity, parent_at};
 ghost use Rattle.entity_tree.specs.Climbing.{BeginsWith, path_at, step_of};
 
 use crate::reading::{entity_in, parent_at};
+use leaf_rows::Leaves;
 use slee_state::Entity;
 use slee_value::EntityId;
 use std::cmp::Ordering;
 
-fn is_entity(rows: &[Entity], entity: EntityId) -> bool
-    requires { Rises entity_key rows.now }
-    ensures { result ≡ is_entity rows.now entity.0 }
+fn is_entity(rows: &Leaves<Entity>, entity: EntityId) -> bool
+    ensures { result ≡ is_entity rows.now.rows entity.0 }
 {
     entity_in(rows, entity).is_some()
 }
 
 /// How many entities stand on the path of this one, with itself.
-#[tactic(auto, using(crate::proofs::PathLemmas::up_length, crate::proofs::PathLemmas::there_length, crate::proofs::PathLemmas::path_short, crate::proofs::ClimbLemmas::gone_length))]
-fn depth(rows: &[Entity], entity: EntityId) -> usize
-    requires rises { Rises entity_key rows.now }
-    requires parents { AreParents rows.now }
-    ensures { result ≡ length (path_at rows.now entity.0) }
+#[tactic(auto, using(crate::proofs::PathLemmas::up_length, crate::proofs::PathLemmas::there_length, crate::proofs::PathLemmas::path_low, crate::proofs::ClimbLemmas::gone_length))]
+fn depth(rows: &Leaves<Entity>, entity: EntityId) -> usize
+    requires parents { AreParents rows.now.rows }
+    ensures { result ≡ length (path_at rows.now.rows entity.0) }
 {
     let mut top = entity;
     let mut steps = 0;
@@ -38,11 +36,10 @@ fn depth(rows: &[Entity], entity: EntityId) -> usize
 
 /// The entity that stands so many steps above.
 #[tactic(auto, using(crate::proofs::PathLemmas::up_length, crate::proofs::PathLemmas::up_begins, crate::proofs::PathLemmas::begins_itself))]
-fn above(rows: &[Entity], entity: EntityId, steps: usize) -> EntityId
-    requires rises { Rises entity_key rows.now }
-    requires parents { AreParents rows.now }
-    ensures path { BeginsWith (path_at rows.now entity.0) (path_at rows.now result.0) }
-    ensures length { length (path_at rows.now result.0) ≡ length (path_at rows.now entity.0) - steps }
+fn above(rows: &Leaves<Entity>, entity: EntityId, steps: usize) -> EntityId
+    requires parents { AreParents rows.now.rows }
+    ensures path { BeginsWith (path_at rows.now.rows entity.0) (path_at rows.now.rows result.0) }
+    ensures length { length (path_at rows.now.rows result.0) ≡ length (path_at rows.now.rows entity.0) - steps }
     ensures none { steps ≡ 0 → result ≡ entity }
 {
     let mut top = entity;
@@ -67,11 +64,10 @@ fn compare_rows(one: &Entity, other: &Entity) -> Ordering
 }
 
 /// Two entities by their own priorities and numbers.
-fn compare_steps(rows: &[Entity], one: EntityId, other: EntityId) -> Ordering
-    requires rises { Rises entity_key rows.now }
-    ensures less { (x y : Entity) → entity_at rows.now one.0 ≡ Some x → entity_at rows.now other.0 ≡ Some y → is_lt result ≡ step_before (step_of x) (step_of y) }
-    ensures greater { (x y : Entity) → entity_at rows.now one.0 ≡ Some x → entity_at rows.now other.0 ≡ Some y → is_gt result ≡ step_before (step_of y) (step_of x) }
-    ensures apart { (x y : Entity) → entity_at rows.now one.0 ≡ Some x → entity_at rows.now other.0 ≡ Some y → (x.number.0 == y.number.0) ≡ false → is_eq result ≡ false }
+fn compare_steps(rows: &Leaves<Entity>, one: EntityId, other: EntityId) -> Ordering
+    ensures less { (x y : Entity) → entity_at rows.now.rows one.0 ≡ Some x → entity_at rows.now.rows other.0 ≡ Some y → is_lt result ≡ step_before (step_of x) (step_of y) }
+    ensures greater { (x y : Entity) → entity_at rows.now.rows one.0 ≡ Some x → entity_at rows.now.rows other.0 ≡ Some y → is_gt result ≡ step_before (step_of y) (step_of x) }
+    ensures apart { (x y : Entity) → entity_at rows.now.rows one.0 ≡ Some x → entity_at rows.now.rows other.0 ≡ Some y → (x.number.0 == y.number.0) ≡ false → is_eq result ≡ false }
 {
     match entity_in(rows, one) {
         Some(x) => match entity_in(rows, other) {
@@ -83,14 +79,13 @@ fn compare_steps(rows: &[Entity], one: EntityId, other: EntityId) -> Ordering
 }
 
 /// Two entities that stand as deep as each other, by their paths.
-fn compare_level(rows: &[Entity], one: EntityId, other: EntityId) -> Ordering
-    requires rises { Rises entity_key rows.now }
-    requires parents { AreParents rows.now }
-    requires there { IsTrue (is_entity rows.now one.0) }
-    requires level { length (path_at rows.now one.0) ≡ length (path_at rows.now other.0) }
+fn compare_level(rows: &Leaves<Entity>, one: EntityId, other: EntityId) -> Ordering
+    requires parents { AreParents rows.now.rows }
+    requires there { IsTrue (is_entity rows.now.rows one.0) }
+    requires level { length (path_at rows.now.rows one.0) ≡ length (path_at rows.now.rows other.0) }
     requires apart { (one.0 == other.0) ≡ false }
-    ensures less { is_lt result ≡ path_before (path_at rows.now one.0) (path_at rows.now other.0) }
-    ensures greater { is_gt result ≡ path_before (path_at rows.now other.0) (path_at rows.now one.0) }
+    ensures less { is_lt result ≡ path_before (path_at rows.now.rows one.0) (path_at rows.now.rows other.0) }
+    ensures greater { is_gt result ≡ path_before (path_at rows.now.rows other.0) (path_at rows.now.rows one.0) }
     ensures apart { is_eq result ≡ false }
 {
     let mut left = one;
@@ -107,13 +102,12 @@ fn compare_level(rows: &[Entity], one: EntityId, other: EntityId) -> Ordering
 }
 
 /// Two entities by their paths, the other one so many steps deeper.
-fn compare_deeper(rows: &[Entity], one: EntityId, other: EntityId, steps: usize) -> Ordering
-    requires rises { Rises entity_key rows.now }
-    requires parents { AreParents rows.now }
-    requires there { IsTrue (is_entity rows.now one.0) }
-    requires deeper { length (path_at rows.now other.0) ≡ length (path_at rows.now one.0) + steps }
-    ensures less { is_lt result ≡ path_before (path_at rows.now one.0) (path_at rows.now other.0) }
-    ensures greater { is_gt result ≡ path_before (path_at rows.now other.0) (path_at rows.now one.0) }
+fn compare_deeper(rows: &Leaves<Entity>, one: EntityId, other: EntityId, steps: usize) -> Ordering
+    requires parents { AreParents rows.now.rows }
+    requires there { IsTrue (is_entity rows.now.rows one.0) }
+    requires deeper { length (path_at rows.now.rows other.0) ≡ length (path_at rows.now.rows one.0) + steps }
+    ensures less { is_lt result ≡ path_before (path_at rows.now.rows one.0) (path_at rows.now.rows other.0) }
+    ensures greater { is_gt result ≡ path_before (path_at rows.now.rows other.0) (path_at rows.now.rows one.0) }
 {
     let level = above(rows, other, steps);
     if level.0 != one.0 {
@@ -127,11 +121,10 @@ fn compare_deeper(rows: &[Entity], one: EntityId, other: EntityId, steps: usize)
 }
 
 /// Two entities by their paths. One that isn't there has no steps on its path, and comes first.
-pub fn compare(rows: &[Entity], one: EntityId, other: EntityId) -> Ordering
-    requires rises { Rises entity_key rows.now }
-    requires parents { AreParents rows.now }
-    ensures less { is_lt result ≡ path_before (path_at rows.now one.0) (path_at rows.now other.0) }
-    ensures greater { is_gt result ≡ path_before (path_at rows.now other.0) (path_at rows.now one.0) }
+pub fn compare(rows: &Leaves<Entity>, one: EntityId, other: EntityId) -> Ordering
+    requires parents { AreParents rows.now.rows }
+    ensures less { is_lt result ≡ path_before (path_at rows.now.rows one.0) (path_at rows.now.rows other.0) }
+    ensures greater { is_gt result ≡ path_before (path_at rows.now.rows other.0) (path_at rows.now.rows one.0) }
 {
     let depth_of_one = depth(rows, one);
     let depth_of_other = depth(rows, other);

@@ -1,23 +1,21 @@
 //! Entities read by their numbers, and children by their parents.
 ghost use Rattle.std.specs.Prelude.{◌≡◌, ◌==◌, [], false, length, filter, nat_lt, option_copied, IfOk};
 ghost use Rattle.std.specs.Option.{option_map_or};
-ghost use Rattle.sorted_rows.specs.Keys.{Rises, entity_key};
 ghost use Rattle.slee_state.specs.Trees.{entity_at, parent_in, is_child_of, children_under, service_above, service_of};
-ghost use Rattle.entity_tree.specs.Kept.{IsIndex, branch_key, parent_at, numbers_of};
+ghost use Rattle.entity_tree.specs.Kept.{IsIndex, parent_at, numbers_of};
 
 use crate::branch::Branch;
+use leaf_rows::Leaves;
 use slee_state::{Entity, Stem};
 use slee_value::{EntityId, Name, NoMemory};
-use sorted_rows::{row_of, rows_of};
 use std::alloc::Global;
 
 /// The entity of this number.
 #[tactic(auto, using(crate::proofs::RowLemmas::found_by_number))]
-pub fn entity_in(rows: &[Entity], entity: EntityId) -> Option<&Entity>
-    requires { Rises entity_key rows.now }
-    ensures { option_copied result ≡ entity_at rows.now entity.0 }
+pub fn entity_in(rows: &Leaves<Entity>, entity: EntityId) -> Option<&Entity>
+    ensures { option_copied result ≡ entity_at rows.now.rows entity.0 }
 {
-    row_of(rows, entity.0, 0, &[])
+    rows.row_of(entity.0, 0, &[])
 }
 
 /// The number of the parent, and 0 for a root.
@@ -31,9 +29,8 @@ pub fn parent_in(stem: &Stem) -> EntityId
 }
 
 /// The number of the entity's parent, and 0 for a root or where there is no such entity.
-pub fn parent_at(rows: &[Entity], entity: EntityId) -> EntityId
-    requires { Rises entity_key rows.now }
-    ensures { result.0 ≡ parent_at rows.now entity.0 }
+pub fn parent_at(rows: &Leaves<Entity>, entity: EntityId) -> EntityId
+    ensures { result.0 ≡ parent_at rows.now.rows entity.0 }
 {
     match entity_in(rows, entity) {
         Some(row) => parent_in(&row.stem),
@@ -52,9 +49,8 @@ fn is_child_of(entity: EntityId, relation: &Name, stem: &Stem) -> bool
     }
 }
 
-fn is_child_at(rows: &[Entity], entity: EntityId, relation: &Name, number: EntityId) -> bool
-    requires { Rises entity_key rows.now }
-    ensures { result ≡ option_map_or (λ row. is_child_of entity.0 relation.now row.stem) (entity_at rows.now number.0) false }
+fn is_child_at(rows: &Leaves<Entity>, entity: EntityId, relation: &Name, number: EntityId) -> bool
+    ensures { result ≡ option_map_or (λ row. is_child_of entity.0 relation.now row.stem) (entity_at rows.now.rows number.0) false }
 {
     match entity_in(rows, number) {
         Some(row) => is_child_of(entity, relation, &row.stem),
@@ -65,18 +61,17 @@ fn is_child_at(rows: &[Entity], entity: EntityId, relation: &Name, number: Entit
 /// The children of the entity under the relation, rising.
 pub fn children_under(
     alloc: Global,
-    rows: &[Entity],
-    branches: &[Branch],
+    rows: &Leaves<Entity>,
+    branches: &Leaves<Branch>,
     entity: EntityId,
     relation: &Name,
 ) -> Result<Vec<EntityId>, NoMemory>
-    requires rises { Rises entity_key rows.now }
-    requires index { IsIndex rows.now branches.now }
-    ensures { IfOk result (λ all. numbers_of all.items ≡ children_under rows.now entity.0 relation.now) }
+    requires { IsIndex rows.now.rows branches.now.rows }
+    ensures { IfOk result (λ all. numbers_of all.items ≡ children_under rows.now.rows entity.0 relation.now) }
 {
+    rows.rises();
     let mut all = Vec::new(alloc);
-    let run = rows_of(branches, entity.0);
-    'children: for branch in run {
+    'children: for branch in branches.rows_of(entity.0) {
         if is_child_at(rows, entity, relation, branch.number) {
             all.push(branch.number)?;
         }
@@ -85,11 +80,11 @@ pub fn children_under(
 }
 
 /// Whether the entity has a child.
-pub fn has_child(branches: &[Branch], entity: EntityId) -> bool
-    requires { Rises branch_key branches.now }
-    ensures { result ≡ nat_lt 0 (length (filter (λ branch. branch.parent.0 == entity.0) branches.now)) }
+#[tactic(auto, using(crate::proofs::ListLemmas::some_left))]
+pub fn has_child(branches: &Leaves<Branch>, entity: EntityId) -> bool
+    ensures { result ≡ nat_lt 0 (length (filter (λ branch. branch.parent.0 == entity.0) branches.now.rows)) }
 {
-    !rows_of(branches, entity.0).is_empty()
+    branches.has_row_of(entity.0)
 }
 
 fn own_service(stem: &Stem) -> Option<u32>
@@ -102,9 +97,8 @@ fn own_service(stem: &Stem) -> Option<u32>
 }
 
 /// The service of the entity's tree.
-pub fn service_of(rows: &[Entity], row: &Entity) -> Option<u32>
-    requires { Rises entity_key rows.now }
-    ensures { result ≡ service_of rows.now row.now }
+pub fn service_of(rows: &Leaves<Entity>, row: &Entity) -> Option<u32>
+    ensures { result ≡ service_of rows.now.rows row.now }
 {
     let mut top = row;
     'rows: for _ in 0..rows.len() {

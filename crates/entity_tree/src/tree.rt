@@ -12,6 +12,7 @@ ghost use Rattle.entity_tree.specs.Kept.{AreParents, entity_before, is_entity, n
 
 use crate::branch::Branch;
 use crate::{growing, paths, reading, removal};
+use leaf_rows::Leaves;
 use slee_state::{Entity, Stem};
 use slee_value::{EntityId, Name, NoMemory};
 use std::alloc::Global;
@@ -19,23 +20,23 @@ use std::cmp::Ordering;
 use std::marker::Model;
 
 /// All entities, and the number of the next one.
-#[derive(Debug, Drop)]
+#[derive(Drop)]
 pub struct Tree {
-    rows: Vec<Entity>,
-    branches: Vec<Branch>,
+    rows: Leaves<Entity>,
+    branches: Leaves<Branch>,
     next: u64,
 }
 
 impl Model for Tree {
-    ghost use Rattle.std.specs.Prelude.{vec_capacity, vec_len, min, ◌-◌};
+    ghost use Rattle.std.specs.Prelude.{min};
     ghost use Rattle.entity_tree.specs.Views.{TreeView};
     ghost use Rattle.entity_tree.specs.Kept.{AreEntities, IsIndex};
 
     ghost Value = { TreeView };
 
-    ghost view = { λ t. record { rows = t.rows.items; next = t.next; room = min (vec_capacity t.rows - vec_len t.rows) (vec_capacity t.branches - vec_len t.branches) } };
+    ghost view = { λ t. record { rows = t.rows.rows; next = t.next; room = min t.rows.room t.branches.room } };
 
-    ghost invariant = { λ t. AreEntities t.next t.rows.items × IsIndex t.rows.items t.branches.items };
+    ghost invariant = { λ t. AreEntities t.next t.rows.rows × IsIndex t.rows.rows t.branches.rows };
 }
 
 impl Tree {
@@ -45,8 +46,8 @@ impl Tree {
         ensures next { result.next ≡ 1 }
     {
         Tree {
-            rows: Vec::new(alloc),
-            branches: Vec::new(alloc),
+            rows: Leaves::new(alloc),
+            branches: Leaves::new(alloc),
             next: 1,
         }
     }
@@ -199,7 +200,7 @@ impl Tree {
         ensures rises { Rises entity_key self.now.rows }
         ensures parents { AreParents self.now.rows }
     {
-        let _next = self.next;
+        self.rows.rises();
     }
 
     /// The entity has this priority.
@@ -237,6 +238,6 @@ impl Tree {
         requires { place < length self.now.rows }
         ensures { slice_get self.now.rows place ≡ Some result.now }
     {
-        &self.rows[place as usize]
+        self.rows.at(place as usize)
     }
 }

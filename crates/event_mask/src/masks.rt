@@ -1,50 +1,40 @@
 //! The store of event masks. Contracts see it as the list of all masks in order, and the number of masks that can be added without memory.
-ghost use Rattle.std.specs.Prelude.{◌≡◌, ◌+◌, ◌-◌, ◌≤◌, ◌<◌, ◌||◌, [], Some, not, nat_lt, length, slice_get, filter, IsTrue, OnOk, vec_capacity, vec_len};
+ghost use Rattle.std.specs.Prelude.{◌≡◌, ◌+◌, ◌≤◌, ◌<◌, ◌||◌, [], Some, not, nat_lt, length, slice_get, filter, IsTrue, OnOk};
 ghost use Rattle.slee_state.specs.Masks.{is_mask_of, is_masked, mask_before, with_mask, with_mask_set, with_masks, without_masks};
 ghost use Rattle.slee_state.specs.Orders.{rises_by};
 
+use leaf_rows::{Leaves, Run};
 use slee_state::Mask;
 use slee_value::{ActivityId, EntityId, NoMemory, Text};
-use sorted_rows::{cut_row, cut_rows_of_pair, has_row, put_row, rows_of_pair};
 use std::alloc::Global;
 use std::marker::Model;
 
 /// The masks of all attachments.
-#[derive(Debug, Drop)]
+#[derive(Drop)]
 pub struct Masks {
-    rows: Vec<Mask>,
+    rows: Leaves<Mask>,
 }
 
 impl Model for Masks {
-    ghost use Rattle.std.specs.Prelude.{vec_capacity, vec_len, ◌-◌, IsTrue};
-    ghost use Rattle.slee_state.specs.Masks.{mask_before};
-    ghost use Rattle.slee_state.specs.Orders.{rises_by};
     ghost use Rattle.event_mask.specs.Views.{MasksView};
 
     ghost Value = { MasksView };
 
-    ghost view = { λ t. record { rows = t.rows.items; room = vec_capacity t.rows - vec_len t.rows } };
-
-    ghost invariant = { λ t. IsTrue (rises_by mask_before t.rows.items) };
+    ghost view = { λ t. record { rows = t.rows.rows; room = t.rows.room } };
 }
 
 /// These events are masked too for the entity on the activity.
-fn mask_each(rows: &mut Vec<Mask>, entity: EntityId, activity: ActivityId, events: Vec<Text>)
-    requires rises { IsTrue (rises_by mask_before rows.old.items) }
-    requires room { length events.items ≤ vec_capacity rows.old - vec_len rows.old }
-    ensures items { rows.new.items ≡ with_masks rows.old.items entity.0 activity.0 events.items }
-    ensures rises { IsTrue (rises_by mask_before rows.new.items) }
-    ensures room { vec_capacity rows.old - vec_len rows.old ≤ vec_capacity rows.new - vec_len rows.new + length events.items }
+fn mask_each(rows: &mut Leaves<Mask>, entity: EntityId, activity: ActivityId, events: Vec<Text>)
+    requires { length events.items ≤ rows.old.room }
+    ensures rows { rows.new.rows ≡ with_masks rows.old.rows entity.0 activity.0 events.items }
+    ensures room { rows.old.room ≤ rows.new.room + length events.items }
 {
     'each: for event in events {
-        put_row(
-            rows,
-            Mask {
-                entity,
-                activity,
-                event,
-            },
-        );
+        rows.put_row(Mask {
+            entity,
+            activity,
+            event,
+        });
     }
 }
 
@@ -54,7 +44,7 @@ impl Masks {
         ensures { result.rows ≡ [] }
     {
         Masks {
-            rows: Vec::new(alloc),
+            rows: Leaves::new(alloc),
         }
     }
 
@@ -73,15 +63,15 @@ impl Masks {
     pub fn is_masked(&self, entity: EntityId, activity: ActivityId, event: &Text) -> bool
         ensures { result ≡ is_masked self.now.rows entity.0 activity.0 event.now }
     {
-        has_row(&self.rows, activity.0, entity.0, event.as_bytes())
+        self.rows.has_row(activity.0, entity.0, event.as_bytes())
     }
 
     /// The masks of the entity on the activity, rising by event.
     #[tactic(auto, using(crate::proofs::MaskLemmas::masks_shared))]
-    pub fn of(&self, entity: EntityId, activity: ActivityId) -> &[Mask]
-        ensures { result.now ≡ filter (is_mask_of entity.0 activity.0) self.now.rows }
+    pub fn of(&self, entity: EntityId, activity: ActivityId) -> Run<'_, Mask>
+        ensures { result ≡ filter (is_mask_of entity.0 activity.0) self.now.rows }
     {
-        rows_of_pair(&self.rows, activity.0, entity.0)
+        self.rows.rows_of_pair(activity.0, entity.0)
     }
 
     /// These events are masked for the entity on the activity, and no others.
@@ -102,16 +92,13 @@ impl Masks {
         ensures room { self.old.room ≤ self.new.room + 1 }
     {
         if on {
-            put_row(
-                &mut self.rows,
-                Mask {
-                    entity,
-                    activity,
-                    event,
-                },
-            );
+            self.rows.put_row(Mask {
+                entity,
+                activity,
+                event,
+            });
         } else {
-            cut_row(&mut self.rows, activity.0, entity.0, event.as_bytes());
+            self.rows.cut_row(activity.0, entity.0, event.as_bytes());
         }
     }
 
@@ -121,7 +108,7 @@ impl Masks {
         ensures rows { self.new.rows ≡ with_mask self.old.rows item.entity.0 item.activity.0 item.event }
         ensures room { self.old.room ≤ self.new.room + 1 }
     {
-        put_row(&mut self.rows, item);
+        self.rows.put_row(item);
     }
 
     /// The entity has no masks on the activity.
@@ -130,7 +117,7 @@ impl Masks {
         ensures rows { self.new.rows ≡ without_masks self.old.rows entity.0 activity.0 }
         ensures room { self.old.room ≤ self.new.room }
     {
-        cut_rows_of_pair(&mut self.rows, activity.0, entity.0);
+        self.rows.cut_rows_of_pair(activity.0, entity.0);
     }
 
     /// How many masks there are.
@@ -138,6 +125,7 @@ impl Masks {
         ensures length { result ≡ length self.now.rows }
         ensures order { IsTrue (rises_by mask_before self.now.rows) }
     {
+        self.rows.rises();
         self.rows.len() as u64
     }
 
@@ -147,6 +135,7 @@ impl Masks {
         ensures mask { slice_get self.now.rows place ≡ Some result.now }
         ensures order { IsTrue (rises_by mask_before self.now.rows) }
     {
-        &self.rows[place as usize]
+        self.rows.rises();
+        self.rows.at(place as usize)
     }
 }

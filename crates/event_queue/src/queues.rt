@@ -4,42 +4,44 @@ ghost use Rattle.slee_state.specs.Orders.{rises_by};
 ghost use Rattle.event_queue.specs.Views.{HasRoom};
 ghost use Rattle.slee_state.specs.Queues.{queued_before, service_mark_before, entity_mark_before, suspension_before, queue, head_event, is_waiting, is_done, is_delivered, is_suspended, suspended_until, with_event, without_head, with_service_mark, without_service_marks, with_entity_mark, without_entity_marks, with_suspension, without_suspension};
 
+use leaf_rows::{Leaves, Run};
 use slee_state::{EntityMark, Event, Queued, ServiceMark, Suspension};
 use slee_value::{ActivityId, EntityId, NoMemory};
-use sorted_rows::{
-    cut_first_of, cut_rows_of, first_row_of, has_row_of, has_row_of_pair, put_row, rows_of,
-};
 use std::alloc::Global;
 use std::marker::Model;
 
 /// The events that wait on all activities, with marks and suspensions.
-#[derive(Debug, Drop)]
+#[derive(Drop)]
 pub struct Queues {
-    events: Vec<Queued>,
-    services_done: Vec<ServiceMark>,
-    delivered: Vec<EntityMark>,
-    suspensions: Vec<Suspension>,
+    events: Leaves<Queued>,
+    services_done: Leaves<ServiceMark>,
+    delivered: Leaves<EntityMark>,
+    suspensions: Leaves<Suspension>,
 }
 
 impl Model for Queues {
-    ghost use Rattle.std.specs.Prelude.{vec_capacity, vec_len, ◌-◌};
-    ghost use Rattle.sorted_rows.specs.Keys.{Rises, queued_key, service_mark_key, entity_mark_key, suspension_key};
     ghost use Rattle.event_queue.specs.Views.{QueuesView};
 
     ghost Value = { QueuesView };
 
     ghost view = { λ t. record {
-      events = t.events.items;
-      services_done = t.services_done.items;
-      delivered = t.delivered.items;
-      suspensions = t.suspensions.items;
-      events_room = vec_capacity t.events - vec_len t.events;
-      services_room = vec_capacity t.services_done - vec_len t.services_done;
-      entities_room = vec_capacity t.delivered - vec_len t.delivered;
-      suspensions_room = vec_capacity t.suspensions - vec_len t.suspensions;
+      events = t.events.rows;
+      services_done = t.services_done.rows;
+      delivered = t.delivered.rows;
+      suspensions = t.suspensions.rows;
+      events_room = t.events.room;
+      services_room = t.services_done.room;
+      entities_room = t.delivered.room;
+      suspensions_room = t.suspensions.room;
     } };
+}
 
-    ghost invariant = { λ t. Rises queued_key t.events.items × Rises service_mark_key t.services_done.items × Rises entity_mark_key t.delivered.items × Rises suspension_key t.suspensions.items };
+/// The row at this place of the run, counted from 0.
+fn row_in(run: Run<'_, Queued>, place: u64) -> Option<&Queued>
+    ensures { option_copied result ≡ slice_get run.entry place }
+{
+    let mut left = run;
+    left.nth(place as usize)
 }
 
 impl Queues {
@@ -51,10 +53,10 @@ impl Queues {
         ensures suspensions { result.suspensions ≡ [] }
     {
         Queues {
-            events: Vec::new(alloc),
-            services_done: Vec::new(alloc),
-            delivered: Vec::new(alloc),
-            suspensions: Vec::new(alloc),
+            events: Leaves::new(alloc),
+            services_done: Leaves::new(alloc),
+            delivered: Leaves::new(alloc),
+            suspensions: Leaves::new(alloc),
         }
     }
 
@@ -77,7 +79,7 @@ impl Queues {
         ensures rows { self.new ≡ record self.old { events = with_event self.old.events activity.0 event; events_room = self.new.events_room } }
         ensures room { self.old.events_room ≤ self.new.events_room + 1 }
     {
-        put_row(&mut self.events, Queued { activity, event });
+        self.events.put_row(Queued { activity, event });
     }
 
     /// Puts an event of a snapshot back.
@@ -86,7 +88,7 @@ impl Queues {
         ensures rows { self.new ≡ record self.old { events = with_event self.old.events item.activity.0 item.event; events_room = self.new.events_room } }
         ensures room { self.old.events_room ≤ self.new.events_room + 1 }
     {
-        put_row(&mut self.events, item);
+        self.events.put_row(item);
     }
 
     /// The head event of the activity is gone, with its marks, and is handed out.
@@ -102,9 +104,9 @@ impl Queues {
         } }
         ensures room { (n : ℕ) → HasRoom n self.old → HasRoom n self.new }
     {
-        cut_rows_of(&mut self.services_done, activity.0);
-        cut_rows_of(&mut self.delivered, activity.0);
-        match cut_first_of(&mut self.events, activity.0) {
+        self.services_done.cut_rows_of(activity.0);
+        self.delivered.cut_rows_of(activity.0);
+        match self.events.cut_first_of(activity.0) {
             Some(queued) => Some(queued.event),
             None => None,
         }
@@ -116,7 +118,8 @@ impl Queues {
         ensures rows { self.new ≡ record self.old { services_done = with_service_mark self.old.services_done activity.0 service; services_room = self.new.services_room } }
         ensures room { self.old.services_room ≤ self.new.services_room + 1 }
     {
-        put_row(&mut self.services_done, ServiceMark { activity, service });
+        self.services_done
+            .put_row(ServiceMark { activity, service });
     }
 
     /// The entity has received the head event of the activity.
@@ -125,7 +128,7 @@ impl Queues {
         ensures rows { self.new ≡ record self.old { delivered = with_entity_mark self.old.delivered activity.0 entity.0; entities_room = self.new.entities_room } }
         ensures room { self.old.entities_room ≤ self.new.entities_room + 1 }
     {
-        put_row(&mut self.delivered, EntityMark { activity, entity });
+        self.delivered.put_row(EntityMark { activity, entity });
     }
 
     /// The head event of the activity is suspended until this moment.
@@ -135,7 +138,7 @@ impl Queues {
         ensures rows { self.new ≡ record self.old { suspensions = with_suspension self.old.suspensions activity.0 until; suspensions_room = self.new.suspensions_room } }
         ensures room { self.old.suspensions_room ≤ self.new.suspensions_room + 1 }
     {
-        put_row(&mut self.suspensions, Suspension { activity, until });
+        self.suspensions.put_row(Suspension { activity, until });
     }
 
     /// The head event of the activity isn't suspended. Answers whether it was.
@@ -145,7 +148,7 @@ impl Queues {
         ensures room { self.old.suspensions_room ≤ self.new.suspensions_room }
     {
         let was = self.suspended_until(activity).is_some();
-        cut_rows_of(&mut self.suspensions, activity.0);
+        self.suspensions.cut_rows_of(activity.0);
         was
     }
 
@@ -153,7 +156,7 @@ impl Queues {
     pub fn suspended_until(&self, activity: ActivityId) -> Option<u64>
         ensures { result ≡ suspended_until self.now.suspensions activity.0 }
     {
-        match first_row_of(&self.suspensions, activity.0) {
+        match self.suspensions.first_row_of(activity.0) {
             Some(row) => Some(row.until),
             None => None,
         }
@@ -163,7 +166,7 @@ impl Queues {
     pub fn front(&self, activity: ActivityId) -> Option<&Event>
         ensures { option_copied result ≡ head_event self.now.events activity.0 }
     {
-        match first_row_of(&self.events, activity.0) {
+        match self.events.first_row_of(activity.0) {
             Some(row) => Some(&row.event),
             None => None,
         }
@@ -173,7 +176,7 @@ impl Queues {
     pub fn event_at(&self, activity: ActivityId, place: u64) -> Option<&Event>
         ensures { option_copied result ≡ slice_get (queue self.now.events activity.0) place }
     {
-        match rows_of(&self.events, activity.0).get(place as usize) {
+        match row_in(self.events.rows_of(activity.0), place) {
             Some(row) => Some(&row.event),
             None => None,
         }
@@ -183,42 +186,43 @@ impl Queues {
     pub fn is_waiting(&self, activity: ActivityId) -> bool
         ensures { result ≡ is_waiting self.now.events activity.0 }
     {
-        has_row_of(&self.events, activity.0)
+        self.events.has_row_of(activity.0)
     }
 
     /// Whether the service's selection was done for the head event of the activity.
     pub fn is_done(&self, activity: ActivityId, service: u32) -> bool
         ensures { result ≡ is_done self.now.services_done activity.0 service }
     {
-        has_row_of_pair(&self.services_done, activity.0, service as u64)
+        self.services_done
+            .has_row_of_pair(activity.0, service as u64)
     }
 
     /// Whether the entity has received the head event of the activity.
     pub fn is_delivered(&self, activity: ActivityId, entity: EntityId) -> bool
         ensures { result ≡ is_delivered self.now.delivered activity.0 entity.0 }
     {
-        has_row_of_pair(&self.delivered, activity.0, entity.0)
+        self.delivered.has_row_of_pair(activity.0, entity.0)
     }
 
     /// The marks of services for the head event of the activity, rising by service.
-    pub fn services_done(&self, activity: ActivityId) -> &[ServiceMark]
-        ensures { result.now ≡ filter (λ m. m.activity.0 == activity.0) self.now.services_done }
+    pub fn services_done(&self, activity: ActivityId) -> Run<'_, ServiceMark>
+        ensures { result ≡ filter (λ m. m.activity.0 == activity.0) self.now.services_done }
     {
-        rows_of(&self.services_done, activity.0)
+        self.services_done.rows_of(activity.0)
     }
 
     /// The marks of entities for the head event of the activity, rising by entity.
-    pub fn delivered(&self, activity: ActivityId) -> &[EntityMark]
-        ensures { result.now ≡ filter (λ m. m.activity.0 == activity.0) self.now.delivered }
+    pub fn delivered(&self, activity: ActivityId) -> Run<'_, EntityMark>
+        ensures { result ≡ filter (λ m. m.activity.0 == activity.0) self.now.delivered }
     {
-        rows_of(&self.delivered, activity.0)
+        self.delivered.rows_of(activity.0)
     }
 
     /// All suspensions, rising by activity.
-    pub fn suspensions(&self) -> &[Suspension]
-        ensures { result.now ≡ self.now.suspensions }
+    pub fn suspensions(&self) -> Run<'_, Suspension>
+        ensures { result ≡ self.now.suspensions }
     {
-        &self.suspensions
+        self.suspensions.iter()
     }
 
     /// How many events wait.
@@ -233,7 +237,7 @@ impl Queues {
         requires { place < length self.now.events }
         ensures { slice_get self.now.events place ≡ Some result.now }
     {
-        &self.events[place as usize]
+        self.events.at(place as usize)
     }
 
     /// Passes on that each list stands in its order.
@@ -244,6 +248,9 @@ impl Queues {
         ensures delivered { IsTrue (rises_by entity_mark_before self.now.delivered) }
         ensures suspensions { IsTrue (rises_by suspension_before self.now.suspensions) }
     {
-        let _events = &self.events;
+        self.events.rises();
+        self.services_done.rises();
+        self.delivered.rises();
+        self.suspensions.rises();
     }
 }

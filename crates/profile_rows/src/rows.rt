@@ -62,6 +62,42 @@ fn a_row_has_other_values(rt: HostRuntime) -> Result<(), Fail> {
     Ok(())
 }
 
+// A row's name, or its text, by a number.
+fn word(alloc: Global, number: i64) -> Result<String, NoMemory> {
+    let word = format!(in alloc; "n{number}")?;
+    Ok(word)
+}
+
+// Rows with the numbers from 0 on.
+fn many_rows(alloc: Global, rows: i64) -> Result<Profiles, NoMemory> {
+    let mut profiles = tables(alloc)?;
+    'rows: for number in 0..rows {
+        let row = word(alloc, number)?;
+        let fields = values(alloc, number, row.as_str())?;
+        let _added = add(&mut profiles, alloc, ACCOUNTS, row.as_str(), fields)?;
+    }
+    Ok(profiles)
+}
+
+#[test]
+fn rows_have_other_values_again_and_again(rt: HostRuntime) -> Result<(), Fail> {
+    let alloc = rt.alloc();
+    let mut profiles = many_rows(alloc, 150)?;
+    'rounds: for round in 1..8_i64 {
+        'rows: for number in 0..150_i64 {
+            let row = word(alloc, number)?;
+            let other = number.wrapping_add(round.wrapping_mul(1000));
+            let tel = word(alloc, other)?;
+            let fields = values(alloc, other, tel.as_str())?;
+            let changed = profiles.update(ACCOUNTS, Text::from_str(alloc, row.as_str())?, fields);
+            assert_eq!(rt; changed, Ok(()));
+            assert_eq!(rt; pin(&profiles, alloc, ACCOUNTS, row.as_str())?, Some(other));
+        }
+    }
+    assert_eq!(rt; profiles.len(), 150);
+    Ok(())
+}
+
 #[test]
 fn a_row_that_went_leaves_its_values_to_others(rt: HostRuntime) -> Result<(), Fail> {
     let alloc = rt.alloc();

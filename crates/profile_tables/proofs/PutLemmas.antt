@@ -1,8 +1,8 @@
 -- Rows that come and go with their counts.
-use Rattle.std.proofs.Common.{◌≡◌, ℕ, ◌+◌, ◌*◌, ◌<◌, ◌≤◌, ◌==◌, Bool, true, false, cond, List, [], ◌∷◌, Option, Some, None, map, length, refl, sym, ap, ◌∙◌, arith, inl, inr}
+use Rattle.std.proofs.Common.{◌≡◌, ℕ, ◌+◌, ◌*◌, ◌<◌, ◌≤◌, ◌==◌, Bool, true, false, List, [], ◌∷◌, Option, Some, None, length, refl, sym, ap, ◌∙◌, arith, inl, inr}
 use Rattle.std.specs.Prelude.{not, ◌||◌, ◌-◌, nat_lt, nat_le, min, max, is_some}
 use Rattle.std.specs.Str.{bytes_eq}
-use Rattle.std.specs.List.{AllByRecursion, filter, find, list_any, sum_by}
+use Rattle.std.specs.List.{filter, find, list_any, sum_by}
 use Rattle.std.proofs.lemmas.Bool.{cases_Bool, and_parts}
 use Rattle.std.proofs.lemmas.Bool.Decides.{nat_tests}
 use Rattle.std.proofs.lemmas.Nat.{mul-le}
@@ -49,17 +49,17 @@ filter_within p [] = omega arith
 filter_within p (x ∷ xs) = let rest = filter_within p xs in elim (cases_Bool (p x)) [ inl stays ↦ rw stays (omega (arith, rest)) | inr goes ↦ rw goes (omega (arith, rest)) ]
 
 -- a new row has a place
-pub free_place : (rows : List ProfileRow) (table : ℕ) (name : List ℕ) (n capacity places : ℕ) → (has_row rows table name || nat_lt 0 (min capacity places - n)) ≡ true → find (is_row table name) rows ≡ None → n < places
-free_place rows table name n capacity places asked is =
-    let some : nat_lt 0 (min capacity places - n) ≡ true = rw is at asked in
-    let left : 0 < min capacity places - n = grind (arith, nat_tests, some) in
+pub free_place : (rows : List ProfileRow) (table : ℕ) (name : List ℕ) (room places : ℕ) → (has_row rows table name || nat_lt 0 (min room (places - length rows))) ≡ true → find (is_row table name) rows ≡ None → length rows < places
+free_place rows table name room places asked is =
+    let some : nat_lt 0 (min room (places - length rows)) ≡ true = rw is at asked in
+    let left : 0 < min room (places - length rows) = grind (arith, nat_tests, some) in
     omega (arith, left)
 
-pub room_beside : (there : Bool) (n capacity places : ℕ) → (there || nat_lt 0 (min capacity places - n)) ≡ true → (there || nat_lt 0 (capacity - n)) ≡ true
-room_beside true n capacity places asked = refl
-room_beside false n capacity places asked =
-    let left : 0 < min capacity places - n = grind (arith, nat_tests, asked) in
-    let some : 0 < capacity - n = omega (arith, left) in
+pub room_beside : (there : Bool) (room places : ℕ) → (there || nat_lt 0 (min room places)) ≡ true → (there || nat_lt 0 room) ≡ true
+room_beside true room places asked = refl
+room_beside false room places asked =
+    let left : 0 < min room places = grind (arith, nat_tests, asked) in
+    let some : 0 < room = omega (arith, left) in
     grind (arith, nat_tests, some)
 
 there_any : (o : Option ProfileRow) (rows : List ProfileRow) (table : ℕ) (name : List ℕ) → find (is_row table name) rows ≡ o → list_any (is_row table name) rows ≡ is_some o
@@ -132,22 +132,22 @@ module _ (tables : List TableSpec) where
           }
 
   -- there is room to count a row that has a place
-  pub room_for : (x : ProfileRow) (rows : List ProfileRow) (ts : List Tally) (places capacity : ℕ) → Rises profile_row_key rows → IsTally (row_keys tables) rows ts → length rows ≤ places → most_of tables * places ≤ capacity
-      → (find (is_row x.table x.row) rows ≡ None → length rows < places) → total (without_old tables (find (is_row x.table x.row) rows) ts) + length (unique_of tables x.table) ≤ capacity
-  room_for x rows ts places capacity rises tally within fits free = by (find (is_row x.table x.row) rows) refl
+  pub room_for : (x : ProfileRow) (rows : List ProfileRow) (ts : List Tally) (places : ℕ) → Rises profile_row_key rows → IsTally (row_keys tables) rows ts → length rows ≤ places
+      → (find (is_row x.table x.row) rows ≡ None → length rows < places) → total (without_old tables (find (is_row x.table x.row) rows) ts) + length (unique_of tables x.table) ≤ most_of tables * places
+  room_for x rows ts places rises tally within free = by (find (is_row x.table x.row) rows) refl
     where
-      by : (o : Option ProfileRow) → find (is_row x.table x.row) rows ≡ o → total (without_old tables (find (is_row x.table x.row) rows) ts) + length (unique_of tables x.table) ≤ capacity
+      by : (o : Option ProfileRow) → find (is_row x.table x.row) rows ≡ o → total (without_old tables (find (is_row x.table x.row) rows) ts) + length (unique_of tables x.table) ≤ most_of tables * places
       by None is =
           let low = free is in
           let all = total_within tables rows ts tally in
           let most = unique_within tables x.table in
           let times = mul-le (most_of tables) (length rows + 1) (most_of tables) places (omega arith) (omega (arith, low)) in
           let one : most_of tables * (length rows + 1) ≡ most_of tables * length rows + most_of tables = omega arith in
-          rw is (omega (arith, all, most, times, one, fits))
+          rw is (omega (arith, all, most, times, one))
       by (Some old) is =
           let counted = found_counted tables x.table x.row old rows ts rises tally is in
           let less = share_all_less (λ n. 1) (row_keys tables old) ts tally.rises counted in
           let ones = count_ones (value_key old.table old.attributes) (unique_of tables old.table) ∙ ap (λ n. length (unique_of tables n)) (found_table x.table x.row old rows is) in
           let all = total_within tables rows ts tally in
           let times = mul-le (most_of tables) (length rows) (most_of tables) places (omega arith) within in
-          rw is (omega (arith, less, ones, all, times, fits))
+          rw is (omega (arith, less, ones, all, times))

@@ -1,7 +1,6 @@
 -- Rows that are counted by their unique values.
-use Rattle.std.proofs.Common.{◌≡◌, ℕ, zero, suc, ◌+◌, ◌*◌, ◌<◌, ◌≤◌, ◌==◌, Bool, true, false, cond, List, [], ◌∷◌, Option, Some, None, map, length, refl, sym, ap, ◌∙◌, arith, inl, inr}
-use Rattle.std.specs.Prelude.{slice_get, max}
-use Rattle.std.specs.List.{AllByRecursion, filter, find, sum_by}
+use Rattle.std.proofs.Common.{◌≡◌, ℕ, zero, suc, ◌+◌, ◌*◌, ◌≤◌, ◌==◌, true, false, cond, List, [], ◌∷◌, Some, map, length, refl, arith}
+use Rattle.std.specs.List.{find, sum_by}
 use Rattle.std.proofs.lemmas.List.Sums.{sum_by-cons}
 use Rattle.slee_state.specs.Profiles.{is_row}
 use Rattle.slee_state.specs.declared.rows.ProfileRow.{ProfileRow}
@@ -9,7 +8,7 @@ use Rattle.sorted_rows.specs.Keys.{profile_row_key, text_key, Rises}
 use Rattle.sorted_rows.proofs.OrderLemmas.{IsBefore, in_order}
 use Rattle.sorted_rows.proofs.PartLemmas.{parted_by_key}
 use Rattle.row_tally.specs.declared.tally.Tally.{Tally}
-use Rattle.row_tally.specs.Tallies.{count_at, total, AreCounted, IsTally}
+use Rattle.row_tally.specs.Tallies.{total, AreCounted, IsTally}
 use Rattle.row_tally.proofs.CountLemmas.{count_is, sum_cut}
 use Rattle.profile_tables.specs.Unique.{most_of, row_keys, unique_of, value_key}
 use Rattle.profile_tables.specs.declared.table_spec.TableSpec.{TableSpec}

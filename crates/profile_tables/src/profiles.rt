@@ -11,19 +11,19 @@ use crate::fitting::are_declared;
 use crate::rivals::{may_have_rival, place_of_rival};
 use crate::table_spec::{most_of, unique_of};
 use crate::{RowFault, TableSpec};
+use leaf_rows::Leaves;
 use row_tally::Tally;
 use slee_state::ProfileRow;
 use slee_value::{NoMemory, Payload, Text};
-use sorted_rows::{cut_row, put_row, row_of};
 use std::alloc::Global;
 use std::marker::Model;
 
 /// The rows of all profile tables, counted by their unique values. There are places for so many rows among the counts.
-#[derive(Debug, Drop)]
+#[derive(Drop)]
 pub struct Profiles {
     tables: Vec<TableSpec>,
-    rows: Vec<ProfileRow>,
-    by_value: Vec<Tally>,
+    rows: Leaves<ProfileRow>,
+    by_value: Leaves<Tally>,
     most: u64,
     places: u64,
 }
@@ -59,8 +59,8 @@ impl Profiles {
         let most = most_of(&tables);
         Profiles {
             tables,
-            rows: Vec::new(alloc),
-            by_value: Vec::new(alloc),
+            rows: Leaves::new(alloc),
+            by_value: Leaves::new(alloc),
             most,
             places: 0,
         }
@@ -92,7 +92,7 @@ impl Profiles {
     fn find(&self, table: u32, row: &Text) -> Option<&ProfileRow>
         ensures { option_copied result ≡ find (is_row table row.now) self.now.rows }
     {
-        row_of(&self.rows, table as u64, 0, row.as_bytes())
+        self.rows.row_of(table as u64, 0, row.as_bytes())
     }
 
     fn has_row(&self, table: u32, row: &Text) -> bool
@@ -225,7 +225,7 @@ impl Profiles {
             item.table,
             item.attributes.as_slice(),
         );
-        put_row(&mut self.rows, item);
+        self.rows.put_row(item);
     }
 
     /// A new row stands in the room that was made.
@@ -278,7 +278,7 @@ impl Profiles {
         ensures room { self.old.room ≤ self.new.room }
     {
         uncount_old(&mut self.by_value, &self.tables, &self.rows, table, row);
-        cut_row(&mut self.rows, table as u64, 0, row.as_bytes());
+        self.rows.cut_row(table as u64, 0, row.as_bytes());
     }
 
     /// The row is gone.
@@ -336,6 +336,6 @@ impl Profiles {
         ensures row { slice_get self.now.rows place ≡ Some result.now }
         ensures order { IsTrue (rises_by row_before self.now.rows) }
     {
-        &self.rows[place as usize]
+        self.rows.at(place as usize)
     }
 }

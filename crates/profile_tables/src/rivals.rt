@@ -2,17 +2,15 @@
 ghost use Rattle.std.specs.Prelude.{◌≡◌, find, Some, None};
 ghost use Rattle.std.specs.List.{position_from, list_any};
 ghost use Rattle.slee_state.specs.Profiles.{is_row};
-ghost use Rattle.sorted_rows.specs.Keys.{profile_row_key, Rises};
-ghost use Rattle.row_tally.specs.Tallies.{tally_key};
 ghost use Rattle.profile_tables.specs.Faults.{alike_in, is_rival};
 ghost use Rattle.profile_tables.specs.Unique.{is_taken};
 
 use crate::same::is_alike;
 use crate::values::value_key;
+use leaf_rows::Leaves;
 use row_tally::{Tally, count_under};
 use slee_state::ProfileRow;
 use slee_value::{Name, Payload, Text, Value};
-use sorted_rows::row_of;
 
 fn are_alike(unique: &[Name], one: &[(Name, Value)], other: &[(Name, Value)]) -> bool
     ensures { result ≡ list_any (alike_in one.now other.now) unique.now }
@@ -30,23 +28,21 @@ fn is_rival(unique: &[Name], table: u32, row: &Text, fields: &Payload, other: &P
 }
 
 /// Whether rows are counted under the number of the attribute's value.
-fn is_taken(tallies: &[Tally], table: u32, fields: &[(Name, Value)], name: &Name) -> bool
-    requires { Rises tally_key tallies.now }
-    ensures { result ≡ is_taken tallies.now None table fields.now name.now }
+fn is_taken(tallies: &Leaves<Tally>, table: u32, fields: &[(Name, Value)], name: &Name) -> bool
+    ensures { result ≡ is_taken tallies.now.rows None table fields.now name.now }
 {
     count_under(tallies, value_key(table, fields, name)) > 0
 }
 
 /// Whether other rows than this one are counted under the number of the attribute's value.
 fn is_taken_beside(
-    tallies: &[Tally],
+    tallies: &Leaves<Tally>,
     own: &ProfileRow,
     table: u32,
     fields: &[(Name, Value)],
     name: &Name,
 ) -> bool
-    requires { Rises tally_key tallies.now }
-    ensures { result ≡ is_taken tallies.now (Some own.now) table fields.now name.now }
+    ensures { result ≡ is_taken tallies.now.rows (Some own.now) table fields.now name.now }
 {
     let key = value_key(table, fields, name);
     let own_count = if value_key(own.table, own.attributes.as_slice(), name) == key {
@@ -57,9 +53,8 @@ fn is_taken_beside(
     count_under(tallies, key) > own_count
 }
 
-fn has_taken(tallies: &[Tally], unique: &[Name], table: u32, fields: &[(Name, Value)]) -> bool
-    requires { Rises tally_key tallies.now }
-    ensures { result ≡ list_any (is_taken tallies.now None table fields.now) unique.now }
+fn has_taken(tallies: &Leaves<Tally>, unique: &[Name], table: u32, fields: &[(Name, Value)]) -> bool
+    ensures { result ≡ list_any (is_taken tallies.now.rows None table fields.now) unique.now }
 {
     unique
         .iter()
@@ -67,14 +62,13 @@ fn has_taken(tallies: &[Tally], unique: &[Name], table: u32, fields: &[(Name, Va
 }
 
 fn has_taken_beside(
-    tallies: &[Tally],
+    tallies: &Leaves<Tally>,
     own: &ProfileRow,
     unique: &[Name],
     table: u32,
     fields: &[(Name, Value)],
 ) -> bool
-    requires { Rises tally_key tallies.now }
-    ensures { result ≡ list_any (is_taken tallies.now (Some own.now) table fields.now) unique.now }
+    ensures { result ≡ list_any (is_taken tallies.now.rows (Some own.now) table fields.now) unique.now }
 {
     unique
         .iter()
@@ -83,18 +77,16 @@ fn has_taken_beside(
 
 /// Whether another row may have one of the unique values: where none is counted beside the row itself, none has.
 pub fn may_have_rival(
-    tallies: &[Tally],
-    rows: &[ProfileRow],
+    tallies: &Leaves<Tally>,
+    rows: &Leaves<ProfileRow>,
     unique: &[Name],
     table: u32,
     row: &Text,
     fields: &[(Name, Value)],
 ) -> bool
-    requires tallies { Rises tally_key tallies.now }
-    requires rows { Rises profile_row_key rows.now }
-    ensures { result ≡ list_any (is_taken tallies.now (find (is_row table row.now) rows.now) table fields.now) unique.now }
+    ensures { result ≡ list_any (is_taken tallies.now.rows (find (is_row table row.now) rows.now.rows) table fields.now) unique.now }
 {
-    match row_of(rows, table as u64, 0, row.as_bytes()) {
+    match rows.row_of(table as u64, 0, row.as_bytes()) {
         Some(own) => has_taken_beside(tallies, own, unique, table, fields),
         None => has_taken(tallies, unique, table, fields),
     }
@@ -102,18 +94,21 @@ pub fn may_have_rival(
 
 /// Where the first other row of the table stands that has one of the unique values.
 pub fn place_of_rival(
-    rows: &[ProfileRow],
+    rows: &Leaves<ProfileRow>,
     unique: &[Name],
     table: u32,
     row: &Text,
     fields: &Payload,
 ) -> Option<u64>
-    ensures { result ≡ position_from (is_rival unique.now (record { table = table; row = row.now; attributes = fields.now })) 0 rows.now }
+    ensures { result ≡ position_from (is_rival unique.now (record { table = table; row = row.now; attributes = fields.now })) 0 rows.now.rows }
 {
-    for (place, other) in rows.iter().enumerate() {
+    let count = rows.len() as u64;
+    let mut left = count;
+    for other in rows.iter() {
         if is_rival(unique, table, row, fields, other) {
-            return Some(place as u64);
+            return Some(count - left);
         }
+        left -= 1;
     }
     None
 }

@@ -1,5 +1,5 @@
 -- Going through the attachments of an activity finds the first of all eligible entities.
-use Rattle.std.proofs.Common.{◌≡◌, ℕ, suc, ◌<◌, ◌==◌, Bool, true, false, List, [], ◌∷◌, Option, Some, None, refl, sym, ap, ◌∙◌, arith, inl, inr, length, drop, drop-cons, get_or, ◌+◌}
+use Rattle.std.proofs.Common.{◌≡◌, ℕ, ◌<◌, ◌==◌, Bool, true, false, List, [], ◌∷◌, Option, Some, None, refl, sym, ap, ◌∙◌, arith, inl, inr}
 use Rattle.std.specs.Prelude.{◌&&◌, nat_lt}
 use Rattle.std.specs.List.{AllByRecursion, filter, cons_option}
 use Rattle.std.proofs.lemmas.Bool.{cases_Bool}
@@ -22,7 +22,7 @@ use Rattle.router_order.specs.Asked.{IsAbout, entities_of, is_wanted}
 use Rattle.router_order.proofs.LinkLemmas.{all_on, has, linked_is}
 
 -- one entity more is considered
-pub one_more : (rows : List Entity) (wanted : Entity → Bool) (best : Option Entity) (l : Link) (ls : List Link)
+one_more : (rows : List Entity) (wanted : Entity → Bool) (best : Option Entity) (l : Link) (ls : List Link)
     → least_path rows best (filter wanted (entities_of rows (l ∷ ls))) ≡ least_path rows (least_path rows best (filter wanted (cons_option (entity_at rows l.entity.0) []))) (filter wanted (entities_of rows ls))
 one_more rows wanted best l ls = by (entity_at rows l.entity.0)
   where
@@ -41,15 +41,13 @@ pub considered_other : (rows : List Entity) (wanted : Entity → Bool) (best fou
 considered_other rows wanted best found row is fails = rw (is, fails) refl
 
 -- one attachment more was gone through
-pub next_considered : (rows : List Entity) (wanted : Entity → Bool) (best more total : Option Entity) (links : List Link) (i : ℕ) (d : Link) → i < length links
-    → more ≡ least_path rows best (filter wanted (cons_option (entity_at rows (get_or links i d).entity.0) []))
-    → least_path rows best (filter wanted (entities_of rows (drop i links))) ≡ total
-    → least_path rows more (filter wanted (entities_of rows (drop (i + 1) links))) ≡ total
-next_considered rows wanted best more total links i d within is same =
-    let one : i + 1 ≡ suc i = omega arith in
-    let cut : drop i links ≡ get_or links i d ∷ drop (i + 1) links = rw one (drop-cons links i d within) in
-    ap (λ (b : Option Entity). least_path rows b (filter wanted (entities_of rows (drop (i + 1) links)))) is
-    ∙ sym (one_more rows wanted best (get_or links i d) (drop (i + 1) links))
+pub next_considered : (rows : List Entity) (wanted : Entity → Bool) (best more total : Option Entity) (links rest : List Link) (l : Link) → links ≡ l ∷ rest
+    → more ≡ least_path rows best (filter wanted (cons_option (entity_at rows l.entity.0) []))
+    → least_path rows best (filter wanted (entities_of rows links)) ≡ total
+    → least_path rows more (filter wanted (entities_of rows rest)) ≡ total
+next_considered rows wanted best more total links rest l cut is same =
+    ap (λ (b : Option Entity). least_path rows b (filter wanted (entities_of rows rest))) is
+    ∙ sym (one_more rows wanted best l rest)
     ∙ ap (λ (ls : List Link). least_path rows best (filter wanted (entities_of rows ls))) (sym cut)
     ∙ same
 

@@ -12,6 +12,7 @@ use crate::wants::{Wants, is_wanted};
 use activity_context::Contexts;
 use entity_tree::Tree;
 use event_mask::Masks;
+use leaf_rows::Run;
 use slee_state::{Entity, Link};
 use slee_value::{ActivityId, EntityId};
 
@@ -56,15 +57,14 @@ fn consider<'a>(
 }
 
 /// The entity of least path among those that may receive the event, of the entities of these attachments.
-#[tactic(auto, using(crate::proofs::NextLemmas::one_more))]
 fn least<'a>(
     tree: &'a Tree,
-    links: &[Link],
+    links: Run<'_, Link>,
     masks: &Masks,
     activity: ActivityId,
     wants: &Wants<'_>,
 ) -> Option<&'a Entity>
-    ensures { option_copied result ≡ least_path tree.now.rows None (filter (is_wanted tree.now.rows masks.now.rows activity.0 wants.now.event.now wants.now.blocks.now wants.now.target wants.now.delivered.now) (entities_of tree.now.rows links.now)) }
+    ensures { option_copied result ≡ least_path tree.now.rows None (filter (is_wanted tree.now.rows masks.now.rows activity.0 wants.now.event.now wants.now.blocks.now wants.now.target wants.now.delivered.now) (entities_of tree.now.rows links.entry)) }
 {
     let mut best = None;
     'links: for link in links {

@@ -1,42 +1,19 @@
 -- What changes of rows leave of their index.
-use Rattle.std.proofs.Common.{◌≡◌, ℕ, ◌+◌, ◌<◌, ◌≤◌, ◌==◌, Bool, true, false, cond, List, [], ◌∷◌, ◌++◌, map, take, length, refl, sym, ap, subst, ◌∙◌, arith, inl, inr, suc}
-use Rattle.std.specs.Prelude.{nat_le, ◌&&◌}
-use Rattle.std.specs.List.{AllByRecursion, filter, insert, prefix_len, sum_by}
+use Rattle.std.proofs.Common.{◌≡◌, ℕ, ◌+◌, ◌<◌, ◌==◌, Bool, true, false, cond, List, [], ◌∷◌, Some, map, refl, sym, ap, ◌∙◌, arith, inl, inr}
+use Rattle.std.specs.Prelude.{◌&&◌}
+use Rattle.std.specs.List.{AllByRecursion, filter, find, insert, prefix_len, sum_by}
 use Rattle.std.proofs.lemmas.Bool.{cases_Bool, and_parts}
 use Rattle.std.proofs.lemmas.Bool.Decides.{nat_tests}
 use Rattle.std.proofs.lemmas.List.Sorted.{sum_by-IsPermutation, IsPermutation-insert}
 use Rattle.std.proofs.lemmas.List.Sums.{sum_by-cons}
 use Rattle.slee_state.specs.Orders.{put}
 use Rattle.sorted_rows.specs.Keys.{Key, is_key, key_before, Rises}
-use Rattle.sorted_rows.proofs.OrderLemmas.{AllInOrder, IsBefore, in_order, filter_rises, put_rises, all_from_all}
+use Rattle.sorted_rows.proofs.OrderLemmas.{in_order, filter_rises, put_rises, all_from_all}
 use Rattle.sorted_rows.proofs.RowLemmas.{inserted_is}
 use Rattle.sorted_rows.proofs.PartLemmas.{parted_by_key}
 use Rattle.row_index.specs.declared.entry.Entry.{Entry}
 use Rattle.row_index.specs.Index.{entry_key, entry_before, is_entry, IsIndex}
-use Rattle.row_index.proofs.SumLemmas.{if_passes, one_if, sum_filter, sum_mapped, sum_agree, none_counted, none_passes, some_passes, all_passed}
-
-none_left : {Row : Type 0} (p : Row → Bool) (ys : List Row) → AllByRecursion (λ y. p y ≡ false) ys → filter p ys ≡ []
-none_left p [] all = refl
-none_left p (y ∷ ys) all = rw all.0 (none_left p ys all.1)
-
-fails_too : {Row : Type 0} (R : Row → Row → Type 0) (p : Row → Bool) → ((x y : Row) → R x y → p y ≡ true → p x ≡ true) → (x y : Row) → p x ≡ false → R x y → p y ≡ false
-fails_too R p down x y fails later = elim (cases_Bool (p y)) [
-  | inl passes ↦ let wrong = down x y later passes in cc
-  | inr also ↦ also
-]
-
--- where a test that earlier rows pass with later ones stops, the list is cut
-pub front_is : {Row : Type 0} (R : Row → Row → Type 0) (p : Row → Bool) → ((x y : Row) → R x y → p y ≡ true → p x ≡ true) → (rows : List Row) → AllInOrder R rows → take (prefix_len p rows) rows ≡ filter p rows
-front_is R p down [] order = refl
-front_is R p down (x ∷ xs) order = elim (cases_Bool (p x)) [
-  | inl passes ↦
-      let one : 1 + prefix_len p xs ≡ suc (prefix_len p xs) = omega arith in
-      rw (passes, one) (ap (λ rest. x ∷ rest) (front_is R p down xs order.1))
-  | inr fails ↦ rw fails (sym (none_left p xs (all_from_all (R x) (λ y. p y ≡ false) (λ y later. fails_too R p down x y fails later) xs order.0)))
-]
-
-pub up_to_earlier : (k : ℕ) (x y : Entry) → IsBefore entry_key x y → nat_le y.key k ≡ true → nat_le x.key k ≡ true
-up_to_earlier k x y rises low = grind (arith, nat_tests)
+use Rattle.row_index.proofs.SumLemmas.{if_passes, one_if, sum_filter, sum_mapped, sum_agree, none_counted, none_passes, some_passes}
 
 both_true : (a b : Bool) → a ≡ true → b ≡ true → (a && b) ≡ true
 both_true true true passes also = refl
@@ -63,9 +40,6 @@ sum_put key f x rows rises absent =
     ap (sum_by f) (sym is) ∙ sum_by-IsPermutation f (x ∷ rows) (insert rows place x) (IsPermutation-insert rows place x) ∙ sum_by-cons f x rows
 
 module _ {Row : Type 0} (entry : Row → Entry) where
-  pub index_empty : IsIndex entry [] []
-  index_empty = record { rises = refl; same = λ f. refl }
-
   -- where no row's entry passes, no entry does
   pub entries_fail : (q : Entry → Bool) (rows : List Row) (entries : List Entry) → IsIndex entry rows entries → AllByRecursion (λ row. q (entry row) ≡ false) rows → AllByRecursion (λ e. q e ≡ false) entries
   entries_fail q rows entries index none = none_passes q entries (index.same (one_if q) ∙ none_counted (λ row. q (entry row)) rows none)
@@ -105,31 +79,24 @@ module _ {Row : Type 0} (entry : Row → Entry) where
         ∙ sym (sum_mapped (λ row. f (entry row)) g rows);
   }
 
-  -- there are as many entries as rows
-  pub index_length : (rows : List Row) (entries : List Entry) → IsIndex entry rows entries → length entries ≡ length rows
-  index_length rows entries index = sym (sum_ones entries) ∙ index.same (λ e. 1) ∙ sum_ones rows
-    where
-      sum_ones : {X : Type 0} (xs : List X) → sum_by (λ x. 1) xs ≡ length xs
-      sum_ones [] = refl
-      sum_ones (x ∷ xs) = let step = sum_by-cons (λ y. 1) x xs in let more = sum_ones xs in omega (arith, step, more)
-
   -- the first of the entries that pass is that of a row
-  pub first_has_row : (P : Row → Type 0) (q : Entry → Bool) (rows : List Row) (entries rest : List Entry) (e : Entry) → IsIndex entry rows entries → AllByRecursion P rows → filter q entries ≡ e ∷ rest
+  pub first_has_row : (P : Row → Type 0) (q : Entry → Bool) (rows : List Row) (entries : List Entry) (e : Entry) → IsIndex entry rows entries → AllByRecursion P rows → find q entries ≡ Some e
       → (row : Row) × (is_entry e (entry row) ≡ true) × P row × (q e ≡ true)
-  first_has_row P q rows entries rest e index all is =
-      let counted : sum_by (one_if (is_entry e)) (filter q entries) ≡ 1 + sum_by (one_if (is_entry e)) rest = ap (sum_by (one_if (is_entry e))) is ∙ sum_by-cons (one_if (is_entry e)) e rest ∙ (rw (is_itself e) refl) in
-      let within = some_within (is_entry e) q entries in
-      let some : 0 < sum_by (one_if (λ row. is_entry e (entry row))) rows = omega (arith, counted, within, index.same (one_if (is_entry e))) in
-      let passed = subst (AllByRecursion (λ x. q x ≡ true)) is (all_passed q entries) in
+  first_has_row P q rows entries e index all is =
+      let first = found_first entries is in
+      let some : 0 < sum_by (one_if (λ row. is_entry e (entry row))) rows = omega (arith, first.0, index.same (one_if (is_entry e))) in
       let found = some_passes P (λ row. is_entry e (entry row)) rows all some in
-      (found.0, found.1, found.2, passed.0)
+      (found.0, found.1, found.2, first.1)
     where
-      some_within : (p q : Entry → Bool) (xs : List Entry) → sum_by (one_if p) (filter q xs) ≤ sum_by (one_if p) xs
-      some_within p q [] = omega arith
-      some_within p q (x ∷ xs) =
-          let more = some_within p q xs in
-          let step = sum_by-cons (one_if p) x xs in
+      found_first : (xs : List Entry) → find q xs ≡ Some e → (0 < sum_by (one_if (is_entry e)) xs) × (q e ≡ true)
+      found_first [] is = absurd (cc)
+      found_first (x ∷ xs) is =
+          let step = sum_by-cons (one_if (is_entry e)) x xs in
           elim (cases_Bool (q x)) [
-            | inl goes ↦ let also = sum_by-cons (one_if p) x (filter q xs) in rw goes (omega (arith, more, step, also))
-            | inr stays ↦ rw stays (omega (arith, more, step))
+            | inl passes ↦
+                let first : Some x ≡ Some e = rw passes at is in
+                let same : x ≡ e = cc in
+                let one : one_if (is_entry e) x ≡ 1 = ap (one_if (is_entry e)) same ∙ (rw (is_itself e) refl) in
+                (omega (arith, step, one), ap q (sym same) ∙ passes)
+            | inr fails ↦ let later = found_first xs (rw fails at is) in (omega (arith, step, later.0), later.1)
           ]

@@ -1,5 +1,4 @@
 pub mod SumLemmas
 pub mod IndexLemmas
 pub mod FoundLemmas
-pub mod OrderingLemmas
 pub mod RowLemmas

@@ -1,5 +1,5 @@
 -- Rows found by their numbers, and an index of them by some part of each and then by its number.
-use Rattle.std.proofs.Common.{◌≡◌, ℕ, ◌+◌, ◌<◌, ◌==◌, Bool, true, false, cond, List, [], ◌∷◌, Some, None, length, slice_get, refl, sym, ap, subst, ◌∙◌, arith, inl, inr}
+use Rattle.std.proofs.Common.{◌≡◌, ℕ, ◌+◌, ◌<◌, ◌==◌, Bool, true, false, cond, List, [], ◌∷◌, Some, None, length, refl, sym, ap, subst, ◌∙◌, arith, inl, inr}
 use Rattle.std.specs.Prelude.{not}
 use Rattle.std.specs.List.{AllByRecursion, filter, find, list_any, sum_by}
 use Rattle.std.proofs.lemmas.Bool.{cases_Bool}
@@ -46,22 +46,6 @@ filter_behind p q (x ∷ xs) all = elim (cases_Bool (q x)) [
   | inr goes ↦ rw (goes, all.0 goes) (filter_behind p q xs all.1)
 ]
 
--- the first of a list that has one
-front_shape : {X : Type 0} (x : X) (xs : List X) → Some x ≡ slice_get xs 0 → (rest : List X) × (xs ≡ x ∷ rest)
-front_shape x [] is = cc
-front_shape x (y ∷ ys) is = let same : x ≡ y = cc in (ys, ap (λ z. z ∷ ys) (sym same))
-
-front_none : {X : Type 0} (xs : List X) → None ≡ slice_get xs 0 → xs ≡ []
-front_none [] is = refl
-front_none (y ∷ ys) is = cc
-
-none_left : {X : Type 0} (q : X → Bool) (xs : List X) → filter q xs ≡ [] → AllByRecursion (λ x. q x ≡ false) xs
-none_left q [] is = tt
-none_left q (x ∷ xs) is = elim (cases_Bool (q x)) [
-  | inl passes ↦ let wrong : x ∷ filter q xs ≡ [] = rw passes at is in cc
-  | inr fails ↦ (fails, none_left q xs (rw fails at is))
-]
-
 module _ {Row : Type 0} (number : Row → ℕ) where
   -- the row that is found has the number
   pub found_number : (n : ℕ) (found : Row) (rows : List Row) → find (λ row. number row == n) rows ≡ Some found → number found ≡ n
@@ -88,9 +72,9 @@ module _ {Row : Type 0} (number : Row → ℕ) where
     abbrev pub entry : Row → Entry
     entry x = record { key = part x; number = number x }
 
-    -- where a run has no first entry, no row's entry passes
-    pub none_first : (q : Entry → Bool) (rows : List Row) (entries run : List Entry) → IsIndex entry rows entries → run ≡ filter q entries → None ≡ slice_get run 0 → AllByRecursion (λ row. q (entry row) ≡ false) rows
-    none_first q rows entries run index is at = rows_fail entry q rows entries index (none_left q entries (sym is ∙ front_none run at))
+    -- where no entry is found, no row's entry passes
+    pub none_first : (q : Entry → Bool) (rows : List Row) (entries : List Entry) → IsIndex entry rows entries → find q entries ≡ None → AllByRecursion (λ row. q (entry row) ≡ false) rows
+    none_first q rows entries index is = rows_fail entry q rows entries index (none_at q entries is)
 
     module _ (key : Row → Key) (is_number : (x : Row) → key x ≡ number_key (number x)) where
       apart_keys : (x y : Row) → (number x == number y) ≡ false → is_key (key x) (key y) ≡ false
@@ -123,14 +107,9 @@ module _ {Row : Type 0} (number : Row → ℕ) where
           ]
 
       -- the first of the entries that pass is that of a row that is found by its number
-      first_row : (q : Entry → Bool) (rows : List Row) (entries rest : List Entry) (e : Entry) → Rises key rows → IsIndex entry rows entries → filter q entries ≡ e ∷ rest
+      pub some_first : (q : Entry → Bool) (rows : List Row) (entries : List Entry) (e : Entry) → Rises key rows → IsIndex entry rows entries → find q entries ≡ Some e
           → (row : Row) × (find (λ other. number other == e.number) rows ≡ Some row) × (part row ≡ e.key) × (q e ≡ true)
-      first_row q rows entries rest e rises index is =
-          let has = first_has_row entry (λ row. find (λ other. number other == number row) rows ≡ Some row) q rows entries rest e index (each_found number key is_number rows rises) is in
+      some_first q rows entries e rises index is =
+          let has = first_has_row entry (λ row. find (λ other. number other == number row) rows ≡ Some row) q rows entries e index (each_found number key is_number rows rises) is in
           let same = entry_same e (entry has.0) has.1 in
           (has.0, subst (λ (n : ℕ). find (λ other. number other == n) rows ≡ Some has.0) same.1 has.2, same.0, has.3)
-
-      -- where a run has a first entry, it is that of a row that is found by its number
-      pub some_first : (q : Entry → Bool) (rows : List Row) (entries run : List Entry) (e : Entry) → Rises key rows → IsIndex entry rows entries → run ≡ filter q entries → Some e ≡ slice_get run 0
-          → (row : Row) × (find (λ other. number other == e.number) rows ≡ Some row) × (part row ≡ e.key) × (q e ≡ true)
-      some_first q rows entries run e rises index is at = let shape = front_shape e run at in first_row q rows entries shape.0 e rises index (sym is ∙ shape.1)

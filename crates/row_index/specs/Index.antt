@@ -1,6 +1,6 @@
 -- What an index of rows is.
-use Rattle.std.specs.Prelude.{ℕ, Bool, ◌≡◌, ◌==◌, ◌&&◌, ◌≤◌, List}
-use Rattle.std.specs.List.{count_by, sum_by}
+use Rattle.std.specs.Prelude.{ℕ, Bool, ◌≡◌, ◌==◌, ◌&&◌, List}
+use Rattle.std.specs.List.{sum_by}
 use Rattle.sorted_rows.specs.Keys.{Key, pair_key, key_before, Rises}
 use Rattle.row_index.specs.declared.entry.Entry.{Entry}
 
@@ -15,10 +15,6 @@ entry_before x y = key_before (entry_key x) (entry_key y)
 -- the two entries are the same
 abbrev pub is_entry : Entry → Entry → Bool
 is_entry x y = (y.key == x.key) && (y.number == x.number)
-
--- no entry is there twice
-abbrev pub AreApart : List Entry → Type 0
-AreApart entries = (entry : Entry) → count_by (is_entry entry) entries ≤ 1
 
 -- The entries rise, and they are those of the rows: whatever is summed up over the ones comes to what it does over the others.
 pub record IsIndex {Row : Type 0} (entry : Row → Entry) (rows : List Row) (entries : List Entry) : Type 0 where

@@ -3,10 +3,6 @@
 
 mod entry;
 mod moving;
-mod ordering;
-mod upto;
 
 pub use entry::Entry;
 pub use moving::move_entry;
-pub use ordering::put_in_order;
-pub use upto::entries_up_to;

@@ -1,19 +1,18 @@
 -- What one row more or less, and rows that go, leave of the tallies.
-use Rattle.std.proofs.Common.{◌≡◌, ℕ, zero, suc, ◌+◌, ◌-◌, ◌*◌, ◌<◌, ◌≤◌, ◌==◌, Bool, true, false, cond, List, [], ◌∷◌, ◌++◌, Option, Some, None, refl, sym, ap, ◌∙◌, arith, inl, inr}
-use Rattle.std.specs.Prelude.{not, nat_lt}
+use Rattle.std.proofs.Common.{◌≡◌, ℕ, zero, suc, ◌+◌, ◌-◌, ◌*◌, ◌<◌, ◌==◌, Bool, true, false, cond, List, [], ◌∷◌, ◌++◌, Option, Some, None, refl, sym, ap, ◌∙◌, arith, inl, inr}
+use Rattle.std.specs.Prelude.{not, nat_lt, ◌||◌}
 use Rattle.std.specs.List.{AllByRecursion, filter, find, list_any, sum_by}
 use Rattle.std.specs.Option.{option_map_or}
 use Rattle.std.proofs.lemmas.Bool.{cases_Bool}
+use Rattle.std.proofs.Math.Bool.{or-true}
 use Rattle.std.proofs.lemmas.Bool.Decides.{nat_tests}
 use Rattle.std.proofs.lemmas.List.Sums.{sum_by-cons}
-use Rattle.slee_state.specs.Orders.{put}
-use Rattle.sorted_rows.specs.Keys.{Key, is_key, key_before, Rises}
+use Rattle.sorted_rows.specs.Keys.{is_key, key_before, Rises}
 use Rattle.sorted_rows.proofs.HalvingLemmas.{PlacesBy}
-use Rattle.sorted_rows.proofs.OrderLemmas.{AllInOrder, IsBefore, all_from_all, in_order, filter_rises, put_rises}
-use Rattle.row_index.proofs.FoundLemmas.{lower_number, none_at}
+use Rattle.sorted_rows.proofs.OrderLemmas.{AllInOrder, IsBefore, all_from_all, in_order, filter_rises}
+use Rattle.row_index.proofs.FoundLemmas.{none_at}
 use Rattle.row_index.proofs.IndexLemmas.{sum_put}
-use Rattle.row_index.proofs.RowLemmas.{all_stay, filter_behind, other_key}
-use Rattle.row_index.proofs.SumLemmas.{if_passes, sum_agree, sum_filter}
+use Rattle.row_index.proofs.RowLemmas.{all_stay, filter_behind}
 use Rattle.row_tally.specs.declared.tally.Tally.{Tally}
 use Rattle.row_tally.specs.Tallies.{tally_key, count_at, with_count, without_key, one_more, one_less, IsTally}
 
@@ -156,6 +155,13 @@ tally_there k count [] some = absurd (omega (arith, some))
 tally_there k count (t ∷ ts) some = elim (cases_Bool (t.key == k)) [
   | inl mine ↦ rw mine refl
   | inr other ↦ let rest : 0 < count_at ts k = rw other at some in rw other (tally_there k count ts rest)
+]
+
+-- a key that is counted has a tally, and another one finds room
+pub there_or_room : (k count : ℕ) (ts : List Tally) (room : ℕ) → (nat_lt 0 (count_at ts k) || nat_lt 0 room) ≡ true → (list_any (λ t. is_key (tally_key t) (tally_key (record { key = k; count = count }))) ts || nat_lt 0 room) ≡ true
+there_or_room k count ts room either = elim (cases_Bool (nat_lt 0 (count_at ts k))) [
+  | inl some ↦ let is : 0 < count_at ts k = grind (arith, nat_tests, some) in ap (λ has. has || nat_lt 0 room) (tally_there k count ts is)
+  | inr none ↦ let left : nat_lt 0 room ≡ true = rw none at either in rw left (or-true (list_any (λ t. is_key (tally_key t) (tally_key (record { key = k; count = count }))) ts))
 ]
 
 -- where a sum is nothing, so is each part of it

@@ -1,5 +1,5 @@
 -- Rows that stand under several keys each: their keys are counted one after the other.
-use Rattle.std.proofs.Common.{◌≡◌, ℕ, ◌+◌, ◌-◌, ◌*◌, ◌<◌, ◌≤◌, ◌==◌, Bool, true, false, cond, List, [], ◌∷◌, ◌++◌, length, refl, sym, ap, ◌∙◌, arith, inl, inr}
+use Rattle.std.proofs.Common.{◌≡◌, ℕ, ◌+◌, ◌-◌, ◌*◌, ◌<◌, ◌≤◌, ◌==◌, true, cond, List, [], ◌∷◌, ◌++◌, length, refl, ◌∙◌, arith, inl, inr}
 use Rattle.std.specs.Prelude.{not, nat_lt}
 use Rattle.std.specs.List.{AllByRecursion, filter, sum_by}
 use Rattle.std.proofs.lemmas.Bool.{cases_Bool}
@@ -8,7 +8,7 @@ use Rattle.std.proofs.lemmas.List.Sums.{sum_by-cons}
 use Rattle.sorted_rows.specs.Keys.{key_before, Rises}
 use Rattle.sorted_rows.proofs.OrderLemmas.{all_filter, filter_rises, put_rises}
 use Rattle.row_tally.specs.declared.tally.Tally.{Tally}
-use Rattle.row_tally.specs.Tallies.{tally_key, count_at, with_count, without_key, one_more, one_less, all_more, all_less, total, AreCounted, AreSome}
+use Rattle.row_tally.specs.Tallies.{tally_key, count_at, with_count, one_more, one_less, all_more, all_less, total, AreCounted, AreSome}
 use Rattle.row_tally.proofs.CountLemmas.{count_is_sum, share, share_apart, share_less, share_more}
 
 all_joined : (P : Tally → Type 0) (xs : List Tally) (x : Tally) (ys : List Tally) → AllByRecursion P xs → P x → AllByRecursion P ys → AllByRecursion P (xs ++ x ∷ ys)

@@ -27,7 +27,7 @@ pub fn count_lower<R: Keyed>(rows: &[R], first: u64) -> usize
 }
 
 /// How many rows have this first number or a lower one. The search begins at the place.
-fn count_up_to<R: Keyed>(rows: &[R], first: u64, place: usize) -> usize
+pub fn count_up_to<R: Keyed>(rows: &[R], first: u64, place: usize) -> usize
     requires { Rises R.key rows.now }
     ensures count { result ≡ prefix_len (λ row. nat_le (R.key row).first first) rows.now }
     ensures within { result ≤ length rows.now }

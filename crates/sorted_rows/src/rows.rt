@@ -70,6 +70,7 @@ fn replace_row<R: Drop>(rows: &mut Vec<R>, place: usize, row: R)
     requires { place < vec_len rows.old }
     ensures items { rows.new.items ≡ set rows.old.items place row }
     ensures room { vec_capacity rows.old - vec_len rows.old ≤ vec_capacity rows.new - vec_len rows.new }
+    ensures memory { vec_capacity rows.old ≤ vec_capacity rows.new }
 {
     rows[place] = row;
 }
@@ -79,6 +80,7 @@ fn insert_row<R: Drop>(rows: &mut Vec<R>, place: usize, row: R)
     requires room { vec_len rows.old < vec_capacity rows.old }
     ensures items { rows.new.items ≡ insert rows.old.items place row }
     ensures room { vec_capacity rows.old - vec_len rows.old ≤ vec_capacity rows.new - vec_len rows.new + 1 }
+    ensures memory { vec_capacity rows.old ≤ vec_capacity rows.new }
 {
     match rows.insert(place, row) {
         Ok(()) => {}
@@ -94,6 +96,7 @@ pub fn put_row<R: Keyed + Drop>(rows: &mut Vec<R>, row: R)
     ensures rises { Rises R.key rows.new.items }
     ensures room { vec_capacity rows.old - vec_len rows.old ≤ vec_capacity rows.new - vec_len rows.new + 1 }
     ensures replaced { IsTrue (list_any (λ other. is_key (R.key other) (R.key row)) rows.old.items) → vec_capacity rows.old - vec_len rows.old ≤ vec_capacity rows.new - vec_len rows.new }
+    ensures memory { vec_capacity rows.old ≤ vec_capacity rows.new }
 {
     match place_of_row(rows, &row) {
         Some(place) => replace_row(rows, place, row),
@@ -110,6 +113,7 @@ pub fn cut_row<R: Keyed + Drop>(rows: &mut Vec<R>, first: u64, second: u64, text
     ensures items { rows.new.items ≡ filter (λ row. not (is_key (R.key row) (record { first = first; second = second; text = text.now }))) rows.old.items }
     ensures rises { Rises R.key rows.new.items }
     ensures room { vec_capacity rows.old - vec_len rows.old ≤ vec_capacity rows.new - vec_len rows.new }
+    ensures memory { vec_capacity rows.old ≤ vec_capacity rows.new }
 {
     match place_of(rows, first, second, text) {
         Some(place) => {

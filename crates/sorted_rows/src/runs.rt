@@ -127,6 +127,7 @@ pub fn cut_first_of<R: Keyed + Drop>(rows: &mut Vec<R>, first: u64) -> Option<R>
     ensures items { rows.new.items ≡ without_first (λ row. (R.key row).first == first) rows.old.items }
     ensures rises { Rises R.key rows.new.items }
     ensures room { vec_capacity rows.old - vec_len rows.old ≤ vec_capacity rows.new - vec_len rows.new }
+    ensures memory { vec_capacity rows.old ≤ vec_capacity rows.new }
 {
     match place_of_first(rows, first) {
         Some(place) => Some(rows.remove(place)),

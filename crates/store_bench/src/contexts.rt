@@ -145,6 +145,59 @@ fn drop_null(contexts: &mut Contexts, rounds: u64) -> Result<u64, NoMemory> {
     Ok(contexts.len())
 }
 
+/// An entity is attached to an activity in the middle, and detached.
+fn attach(contexts: &mut Contexts, rows: u64, rounds: u64) -> Result<u64, NoMemory> {
+    let activity = ActivityId(rows / 2);
+    let mut sum = 0_u64;
+    'rounds: for _ in 0..rounds {
+        contexts.reserve(1)?;
+        contexts.attach(EntityId(rows), activity);
+        if contexts.detach(EntityId(rows), activity) {
+            sum = sum.wrapping_add(1);
+        }
+    }
+    Ok(sum)
+}
+
+/// A name comes to stand for an activity in the middle, and for nothing again.
+fn unbind(alloc: Global, contexts: &mut Contexts, rows: u64, rounds: u64) -> Result<u64, NoMemory> {
+    let name = word(alloc, rows)?;
+    let mut sum = 0_u64;
+    'rounds: for _ in 0..rounds {
+        contexts.reserve(1)?;
+        contexts.restore_name(name.copy(alloc)?, ActivityId(rows / 2));
+        if contexts.unbind(&name).is_ok() {
+            sum = sum.wrapping_add(1);
+        }
+    }
+    Ok(sum)
+}
+
+/// An activity in the middle is gone with all that it has, and comes back.
+fn drop_middle(
+    alloc: Global,
+    contexts: &mut Contexts,
+    rows: u64,
+    rounds: u64,
+) -> Result<u64, NoMemory> {
+    let number = rows / 2;
+    let activity = ActivityId(number.wrapping_add(1));
+    'rounds: for _ in 0..rounds {
+        contexts.drop_context(activity);
+        contexts.reserve(1)?;
+        let kind = AcKind::External(name(alloc, number)?);
+        if activity.0 < contexts.next_number() {
+            contexts.restore(Activity {
+                number: activity,
+                kind,
+                ending: false,
+            });
+        }
+        fill(alloc, contexts, number)?;
+    }
+    Ok(contexts.len())
+}
+
 /// The sum over what the calls answered, or none where there is no such call.
 pub fn measured(
     alloc: Global,
@@ -173,6 +226,9 @@ pub fn measured(
             rounds,
         ),
         "drop_context" => drop_null(&mut contexts, rounds)?,
+        "attach" => attach(&mut contexts, rows, rounds)?,
+        "unbind" => unbind(alloc, &mut contexts, rows, rounds)?,
+        "drop_middle" => drop_middle(alloc, &mut contexts, rows, rounds)?,
         _ => return Ok(None),
     };
     Ok(Some(sum))

@@ -63,7 +63,9 @@ fn of(fields: &Fields, entities: u64, rounds: u64) -> u64
     let mut sum = 0_u64;
     'rounds: for round in 0..rounds {
         let entity = round.wrapping_mul(STRIDE) % entities;
-        sum = sum.wrapping_add(fields.of(EntityId(entity)).len() as u64);
+        'fields: for _ in fields.of(EntityId(entity)) {
+            sum = sum.wrapping_add(1);
+        }
     }
     sum
 }

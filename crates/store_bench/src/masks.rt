@@ -55,6 +55,41 @@ fn forget(alloc: Global, masks: &mut Masks, activity: u64, rounds: u64) -> Resul
     Ok(masks.len())
 }
 
+/// An activity in the middle loses its masks, and gets them again.
+fn forget_middle(
+    alloc: Global,
+    masks: &mut Masks,
+    activities: u64,
+    rounds: u64,
+) -> Result<u64, NoMemory>
+    requires { 0 < activities }
+{
+    'rounds: for round in 0..rounds {
+        let activity = round.wrapping_mul(STRIDE) % activities;
+        masks.forget(ME, ActivityId(activity));
+        put(alloc, masks, activity)?;
+    }
+    Ok(masks.len())
+}
+
+/// In the middle an event isn't masked any more, and then it is again.
+fn set_middle(
+    alloc: Global,
+    masks: &mut Masks,
+    activities: u64,
+    rounds: u64,
+) -> Result<u64, NoMemory>
+    requires { 0 < activities }
+{
+    'rounds: for round in 0..rounds {
+        let activity = ActivityId(round.wrapping_mul(STRIDE) % activities);
+        masks.set(ME, activity, Text::from_str(alloc, "busy")?, false);
+        masks.reserve(1)?;
+        masks.set(ME, activity, Text::from_str(alloc, "busy")?, true);
+    }
+    Ok(masks.len())
+}
+
 /// The sum over what the calls answered, or none where there is no such call.
 pub fn measured(
     alloc: Global,
@@ -67,6 +102,8 @@ pub fn measured(
     let sum = match call {
         "is_masked" => is_masked(&masks, &Text::from_str(alloc, "busy")?, activities, rounds),
         "forget" => forget(alloc, &mut masks, activities, rounds)?,
+        "forget_middle" => forget_middle(alloc, &mut masks, activities, rounds)?,
+        "set_middle" => set_middle(alloc, &mut masks, activities, rounds)?,
         _ => return Ok(None),
     };
     Ok(Some(sum))

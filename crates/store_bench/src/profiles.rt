@@ -1,4 +1,5 @@
 //! Calls of profile tables: one table, whose rows differ in a number.
+ghost use Rattle.std.specs.Prelude.{◌<◌};
 
 use profile_tables::{Profiles, TableSpec};
 use script_types::{CodeList, FieldCode};
@@ -10,6 +11,9 @@ const TABLE: u32 = 0;
 
 // Numbers from this one on have as many digits.
 const WIDE: u64 = 1_000_000_000;
+
+// Neighbours in rounds are far apart in rows.
+const STRIDE: u64 = 7919;
 
 // A row's name: the letter n, and digits. Names rise with their numbers.
 fn word(alloc: Global, number: u64) -> Result<Text, NoMemory> {
@@ -77,6 +81,45 @@ fn test_add(profiles: &Profiles, row: &Text, fields: &Payload, rounds: u64) -> u
     sum
 }
 
+/// A row in the middle goes, and comes again.
+fn remove_middle(
+    alloc: Global,
+    profiles: &mut Profiles,
+    rows: u64,
+    rounds: u64,
+) -> Result<u64, NoMemory>
+    requires { 0 < rows }
+{
+    'rounds: for round in 0..rounds {
+        let number = round.wrapping_mul(STRIDE) % rows;
+        let row = word(alloc, number)?;
+        let _removed = profiles.remove(TABLE, &row);
+        profiles.reserve(1)?;
+        let _added = profiles.add(TABLE, row, values(alloc, number)?);
+    }
+    Ok(profiles.len())
+}
+
+/// A row in the middle has a number that no row had.
+fn update_middle(
+    alloc: Global,
+    profiles: &mut Profiles,
+    rows: u64,
+    rounds: u64,
+) -> Result<u64, NoMemory>
+    requires { 0 < rows }
+{
+    let mut sum = 0_u64;
+    'rounds: for round in 0..rounds {
+        let row = word(alloc, round.wrapping_mul(STRIDE) % rows)?;
+        let fields = values(alloc, rows.wrapping_add(round))?;
+        if profiles.update(TABLE, row, fields).is_ok() {
+            sum = sum.wrapping_add(1);
+        }
+    }
+    Ok(sum)
+}
+
 /// The sum over what the calls answered, or none where there is no such call.
 pub fn measured(
     alloc: Global,
@@ -84,7 +127,8 @@ pub fn measured(
     rows: u64,
     rounds: u64,
 ) -> Result<Option<u64>, NoMemory> {
-    let profiles = filled(alloc, rows)?;
+    let mut profiles = filled(alloc, rows)?;
+    let some = rows.max(1);
     let sum = match call {
         "get" => get(
             &profiles,
@@ -98,6 +142,8 @@ pub fn measured(
             &values(alloc, rows)?,
             rounds,
         ),
+        "remove_middle" => remove_middle(alloc, &mut profiles, some, rounds)?,
+        "update_middle" => update_middle(alloc, &mut profiles, some, rounds)?,
         _ => return Ok(None),
     };
     Ok(Some(sum))

@@ -1,4 +1,4 @@
-//! Calls of the store of entities: each root has one child.
+//! Calls of the store of entities: each root has one child. Those that change it do so in the middle.
 ghost use Rattle.std.specs.Prelude.{◌<◌};
 
 use entity_tree::Tree;
@@ -92,6 +92,36 @@ fn compare(tree: &Tree, roots: u64, rounds: u64) -> u64
     sum
 }
 
+// The entity goes, unless it has a child.
+#[tactic(auto, using(crate::proofs::GoneLemmas::none_there))]
+fn remove(tree: &mut Tree, entity: EntityId) {
+    if !tree.has_child(entity) {
+        tree.remove(entity);
+    }
+}
+
+/// A root gets one child more, which goes again.
+fn create_child(alloc: Global, tree: &mut Tree, roots: u64, rounds: u64) -> Result<u64, NoMemory>
+    requires { 0 < roots }
+{
+    'rounds: for round in 0..rounds {
+        let child = EntityId(tree.next_number());
+        let relation = Name::from_slice(alloc, b"legs")?;
+        add_child(tree, EntityId(root_of(roots, round)), relation)?;
+        remove(tree, child);
+    }
+    Ok(tree.len())
+}
+
+fn set_priority(tree: &mut Tree, roots: u64, rounds: u64) -> u64
+    requires { 0 < roots }
+{
+    'rounds: for round in 0..rounds {
+        tree.set_priority(EntityId(root_of(roots, round)), (round % 100) as i8);
+    }
+    tree.len()
+}
+
 /// The sum over what the calls answered, or none where there is no such call.
 pub fn measured(
     alloc: Global,
@@ -99,12 +129,14 @@ pub fn measured(
     rows: u64,
     rounds: u64,
 ) -> Result<Option<u64>, NoMemory> {
-    let tree = filled(alloc, rows)?;
+    let mut tree = filled(alloc, rows)?;
     let roots = rows / 2 + 1;
     let sum = match call {
         "find" => find(&tree, roots, rounds),
         "children" => children(alloc, &tree, roots, rounds)?,
         "compare" => compare(&tree, roots, rounds),
+        "create_child" => create_child(alloc, &mut tree, roots, rounds)?,
+        "set_priority" => set_priority(&mut tree, roots, rounds),
         _ => return Ok(None),
     };
     Ok(Some(sum))

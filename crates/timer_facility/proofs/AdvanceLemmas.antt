@@ -1,31 +1,32 @@
 -- One timer behind its due occurrences, and what is then left to be done.
-use Rattle.std.proofs.Common.{◌≡◌, ℕ, zero, suc, ◌+◌, ◌-◌, ◌*◌, ◌<◌, ◌≤◌, ◌==◌, Bool, true, false, cond, List, [], ◌∷◌, ◌++◌, Option, Some, None, map, set, slice_get, refl, sym, ap, subst, ◌∙◌, arith, inl, inr}
+use Rattle.std.proofs.Common.{◌≡◌, ℕ, ◌+◌, ◌-◌, ◌*◌, ◌<◌, ◌≤◌, ◌==◌, Bool, true, false, List, [], ◌∷◌, Option, Some, None, map, set, refl, sym, ap, ◌∙◌, arith, inl, inr}
 use Rattle.std.specs.Prelude.{not, nat_lt, nat_le, min, ◌/◌, ◌&&◌, ◌||◌}
-use Rattle.std.specs.List.{AllByRecursion, filter, find, count_by, list_any, sum_by, position_from}
+use Rattle.std.specs.List.{AllByRecursion, filter, find, list_any, sum_by, position_from}
 use Rattle.std.proofs.Math.Nat.{lt-div-mul-add, suc-mul}
 use Rattle.std.proofs.lemmas.Bool.{cases_Bool}
 use Rattle.std.proofs.lemmas.Bool.Decides.{nat_tests}
 use Rattle.std.proofs.lemmas.List.Sums.{sum_by-cons}
 use Rattle.slee_state.specs.Orders.{put}
-use Rattle.slee_state.specs.Timers.{advanced, behind, due_count, goes_on, last_moment, left_behind, repeated, timer_at, without_timer}
+use Rattle.slee_state.specs.Timers.{behind, due_count, goes_on, left_behind, repeated, timer_at, without_timer}
 use Rattle.slee_state.specs.declared.rows.Timer.{Timer}
 use Rattle.sorted_rows.specs.Keys.{is_key, key_before, number_key, pair_key, timer_key, Rises}
 use Rattle.sorted_rows.proofs.ChangeLemmas.{changed_is, number_is}
-use Rattle.sorted_rows.proofs.NumberLemmas.{rises_map}
-use Rattle.sorted_rows.proofs.OrderLemmas.{AllInOrder, IsBefore, all_from_all, filter_rises, in_order}
+use Rattle.sorted_rows.proofs.HalvingLemmas.{absent_from, find_at_place, not_found}
+use Rattle.sorted_rows.proofs.PartLemmas.{parted_by_key}
+use Rattle.sorted_rows.proofs.RowLemmas.{replaced_is}
+use Rattle.sorted_rows.proofs.OrderLemmas.{AllInOrder, IsBefore, all_from_all, in_order}
 use Rattle.row_index.specs.declared.entry.Entry.{Entry}
 use Rattle.row_index.specs.Index.{entry_key, IsIndex}
 use Rattle.row_index.proofs.IndexLemmas.{index_put, rows_fail}
-use Rattle.row_index.proofs.SumLemmas.{one_if, sum_agree, sum_mapped, all_passed}
+use Rattle.row_index.proofs.SumLemmas.{sum_agree, sum_mapped, all_passed}
 use Rattle.slee_value.specs.declared.ids.TimerId.{TimerId}
-use Rattle.timer_facility.specs.Indexed.{activity_entry, is_due, moment_entry, moved_on}
-use Rattle.row_index.proofs.RowLemmas.{all_stay, each_fails, filter_behind, found_number, indexed_cut, other_key, same_key}
-use Rattle.timer_facility.proofs.RowLemmas.{only_timer}
+use Rattle.timer_facility.specs.Indexed.{activity_entry, moment_entry, moved_on}
+use Rattle.row_index.proofs.RowLemmas.{all_stay, each_fails, found_number, indexed_cut, other_key, same_key}
 
-abbrev goes : ℕ → Timer → Bool
+abbrev pub goes : ℕ → Timer → Bool
 goes to t = goes_on t (due_count t to)
 
-abbrev move : ℕ → Timer → Timer
+abbrev pub move : ℕ → Timer → Timer
 move to t = behind t (due_count t to)
 
 second : (a b c : Bool) → a ≡ false → (a || (b && c)) ≡ true → b ≡ true
@@ -81,16 +82,6 @@ still_same t to late =
     ] in
     ap (behind t) (none_used t to late) ∙ (λ i. record t { next = next i; left = left i })
 
--- a change that leaves what the sweep makes of each row
-swept_same : (p : Timer → Bool) (f m : Timer → Timer) (rows : List Timer) → AllByRecursion (λ x. (p (m x) ≡ p x) × (p x ≡ true → f (m x) ≡ f x)) rows → map f (filter p (map m rows)) ≡ map f (filter p rows)
-swept_same p f m [] all = refl
-swept_same p f m (x ∷ xs) all = elim (cases_Bool (p x)) [
-  | inl stays ↦
-      let also : p (m x) ≡ true = all.0.0 ∙ stays in
-      rw (stays, also, all.0.1 stays) (ap (λ rest. f x ∷ rest) (swept_same p f m xs all.1))
-  | inr gone ↦ let also : p (m x) ≡ false = all.0.0 ∙ gone in rw (gone, also) (swept_same p f m xs all.1)
-]
-
 module _ (n to : ℕ) (found : Timer) (rows : List Timer) (rises : Rises timer_key rows) (is : timer_at rows n ≡ Some found) where
   found_mine : (found.number.0 == n) ≡ true
   found_mine = let same = found_number (λ (t : Timer). t.number.0) n found rows is in grind (arith, nat_tests, same)
@@ -100,34 +91,6 @@ module _ (n to : ℕ) (found : Timer) (rows : List Timer) (rises : Rises timer_k
 
   moved_other : (row : Timer) → (row.number.0 == n) ≡ false → moved_on n to row ≡ row
   moved_other row other = rw other refl
-
-  -- what is left to be done is the same
-  pub advanced_moved : goes to found ≡ true → nat_le (move to found).next to ≡ false → advanced (map (moved_on n to) rows) to ≡ advanced rows to
-  advanced_moved on later =
-      swept_same (goes to) (move to) (moved_on n to) rows
-      (all_from_all (λ row. (row.number.0 == n) ≡ true → row ≡ found) (λ row. (goes to (moved_on n to row) ≡ goes to row) × (goes to row ≡ true → move to (moved_on n to row) ≡ move to row)) one rows (only_timer n found rows rises is))
-    where
-      one : (row : Timer) → ((row.number.0 == n) ≡ true → row ≡ found) → (goes to (moved_on n to row) ≡ goes to row) × (goes to row ≡ true → move to (moved_on n to row) ≡ move to row)
-      one row only = elim (cases_Bool (row.number.0 == n)) [
-        | inl mine ↦
-            let same = only mine in
-            let moved = moved_mine row mine in
-            let late : nat_le (move to row).next to ≡ false = ap (λ (t : Timer). nat_le (move to t).next to) same ∙ later in
-            let goes_too : goes to row ≡ true = ap (goes to) same ∙ on in
-            (ap (goes to) moved ∙ still_goes (move to row) to late ∙ sym goes_too, λ _. ap (move to) moved ∙ still_same (move to row) to late)
-        | inr other ↦ (ap (goes to) (moved_other row other), λ _. ap (move to) (moved_other row other))
-      ]
-
-  pub advanced_cut : goes to found ≡ false → advanced (without_timer rows n) to ≡ advanced rows to
-  advanced_cut ends =
-      ap (map (move to)) (filter_behind (goes to) (λ row. not (row.number.0 == n)) rows
-      (all_from_all (λ row. (row.number.0 == n) ≡ true → row ≡ found) (λ row. not (row.number.0 == n) ≡ false → goes to row ≡ false) one rows (only_timer n found rows rises is)))
-    where
-      one : (row : Timer) → ((row.number.0 == n) ≡ true → row ≡ found) → not (row.number.0 == n) ≡ false → goes to row ≡ false
-      one row only gone = elim (cases_Bool (row.number.0 == n)) [
-        | inl mine ↦ ap (goes to) (only mine) ∙ ends
-        | inr other ↦ let wrong : true ≡ false = rw other at gone in cc
-      ]
 
   -- a sum parts into the one of the number and the others
   pub sum_found : (g : Timer → ℕ) → sum_by g rows ≡ g found + sum_by g (without_timer rows n)
@@ -166,20 +129,6 @@ module _ (n to : ℕ) (found : Timer) (rows : List Timer) (rises : Rises timer_k
       sum_mapped g (moved_on n to) rows ∙ sum_found (λ row. g (moved_on n to row)) ∙ ap (λ (t : Timer). g t + sum_by (λ row. g (moved_on n to row)) (without_timer rows n)) (moved_mine found found_mine)
       ∙ ap (λ k. g (move to found) + k) (others_same g)
 
-  pub fewer_moved : nat_le found.next to ≡ true → nat_le (move to found).next to ≡ false → count_by (is_due to) (map (moved_on n to) rows) < count_by (is_due to) rows
-  fewer_moved due later =
-      let before = sum_found (one_if (is_due to)) in
-      let after = sum_moved (one_if (is_due to)) in
-      let one : one_if (is_due to) found ≡ 1 = rw due refl in
-      let none : one_if (is_due to) (move to found) ≡ 0 = rw later refl in
-      omega (arith, before, after, one, none)
-
-  pub fewer_cut : nat_le found.next to ≡ true → count_by (is_due to) (without_timer rows n) < count_by (is_due to) rows
-  fewer_cut due =
-      let before = sum_found (one_if (is_due to)) in
-      let one : one_if (is_due to) found ≡ 1 = rw due refl in
-      omega (arith, before, one)
-
   -- the moved timer's entry takes the place of its old one
   pub indexed_moved : (entries : List Entry) → IsIndex moment_entry rows entries
       → IsIndex moment_entry (map (moved_on n to) rows) (put (λ x y. key_before (entry_key x) (entry_key y)) (moment_entry (move to found)) (filter (λ e. not (is_key (entry_key e) (pair_key found.next n))) entries))
@@ -194,29 +143,32 @@ module _ (n to : ℕ) (found : Timer) (rows : List Timer) (rises : Rises timer_k
           let other : (row.number.0 == found.number.0) ≡ false = grind (arith, nat_tests, stays, number) in
           other_key row.next (move to found).next row.number.0 found.number.0 other
 
--- the timers where one that stands at its place is moved on
-pub moved_at : (to place : ℕ) (timer : Timer) (rows : List Timer) → Rises timer_key rows → position_from (λ row. row.number.0 == timer.number.0) 0 rows ≡ Some place → slice_get rows place ≡ Some timer
-    → set rows place (move to timer) ≡ map (moved_on timer.number.0 to) rows
-moved_at to place timer rows rises position at =
-    let n = timer.number.0 in
-    let mine : (timer.number.0 == timer.number.0) ≡ true = grind (arith, nat_tests) in
-    let itself : moved_on n to timer ≡ move to timer = rw mine refl in
-    let key = (λ i. position_from (λ (row : Timer). number_is row.number.0 n i) 0 rows) ∙ position in
-    ap (set rows place) (sym itself) ∙ changed_is timer_key (number_key n) (moved_on n to) stays timer place rows rises key at
+-- the timers where one that is there is put back moved on
+pub moved_put : (to : ℕ) (timer : Timer) (rows : List Timer) → Rises timer_key rows → timer_at rows timer.number.0 ≡ Some timer
+    → put (λ x y. key_before (timer_key x) (timer_key y)) (move to timer) rows ≡ map (moved_on timer.number.0 to) rows
+moved_put to timer rows rises is = by (position_from (λ row. is_key (timer_key row) (timer_key timer)) 0 rows) refl
   where
-    stays : (x : Timer) → is_key (timer_key x) (number_key timer.number.0) ≡ false → moved_on timer.number.0 to x ≡ x
-    stays x other = let apart : (x.number.0 == timer.number.0) ≡ false = sym (number_is x.number.0 timer.number.0) ∙ other in rw apart refl
+    by_key : find (λ row. is_key (timer_key row) (timer_key timer)) rows ≡ Some timer
+    by_key = (λ i. find (λ (row : Timer). number_is row.number.0 timer.number.0 i) rows) ∙ is
+
+    itself : moved_on timer.number.0 to timer ≡ move to timer
+    itself = let mine : (timer.number.0 == timer.number.0) ≡ true = grind (arith, nat_tests) in rw mine refl
+
+    stays : (x : Timer) → is_key (timer_key x) (timer_key timer) ≡ false → moved_on timer.number.0 to x ≡ x
+    stays x apart = let differ : (x.number.0 == timer.number.0) ≡ false = sym (number_is x.number.0 timer.number.0) ∙ apart in rw differ refl
+
+    by : (place : Option ℕ) → position_from (λ row. is_key (timer_key row) (timer_key timer)) 0 rows ≡ place → put (λ x y. key_before (timer_key x) (timer_key y)) (move to timer) rows ≡ map (moved_on timer.number.0 to) rows
+    by None none = let wrong = sym by_key ∙ not_found (λ row. is_key (timer_key row) (timer_key timer)) rows (absent_from (λ row. is_key (timer_key row) (timer_key timer)) 0 rows none) in absurd (cc)
+    by (Some place) at =
+        let read = sym (find_at_place (λ row. is_key (timer_key row) (timer_key timer)) place rows at) ∙ by_key in
+        sym (replaced_is _ _ _ _ (parted_by_key timer_key (timer_key timer)) (move to timer) place rows (in_order timer_key rows rises) at)
+        ∙ ap (set rows place) (sym itself) ∙ changed_is timer_key (timer_key timer) (moved_on timer.number.0 to) stays timer place rows rises at read
 
 pub moved_number : (n to : ℕ) (x : Timer) → (moved_on n to x).number ≡ x.number
 moved_number n to x = elim (cases_Bool (x.number.0 == n)) [ inl mine ↦ rw mine refl | inr other ↦ rw other refl ]
 
 pub moved_activity : (n to : ℕ) (x : Timer) → (moved_on n to x).activity ≡ x.activity
 moved_activity n to x = elim (cases_Bool (x.number.0 == n)) [ inl mine ↦ rw mine refl | inr other ↦ rw other refl ]
-
--- where none is due, nothing is left to be done
-pub advanced_done : (to : ℕ) (rows : List Timer) → AllByRecursion (λ t. is_due to t ≡ false) rows → advanced rows to ≡ rows
-advanced_done to [] none = refl
-advanced_done to (x ∷ xs) none = rw (still_goes x to none.0, still_same x to none.0) (ap (λ rest. x ∷ rest) (advanced_done to xs none.1))
 
 pub each_keeps : (n to : ℕ) (x : Timer) → timer_key (moved_on n to x) ≡ timer_key x
 each_keeps n to x = ap (λ (id : TimerId). number_key id.0) (moved_number n to x)
@@ -245,6 +197,13 @@ entry_there n found rows entries rises index is = elim (cases_Bool (list_any (λ
       | inr other ↦ found_fails q n found xs none.1 (rw other at is)
     ]
 
--- timers keep their numbers
-pub advanced_rises : (to : ℕ) (rows : List Timer) → Rises timer_key rows → Rises timer_key (advanced rows to)
-advanced_rises to rows rises = rises_map timer_key (move to) (λ x. refl) (filter (goes to) rows) (filter_rises timer_key (goes to) rows rises)
+-- a timer that is there is there by its key
+pub timer_there : (timer : Timer) (rows : List Timer) → timer_at rows timer.number.0 ≡ Some timer → list_any (λ other. is_key (timer_key other) (timer_key timer)) rows ≡ true
+timer_there timer rows is = (λ i. list_any (λ (row : Timer). number_is row.number.0 timer.number.0 i) rows) ∙ by rows is
+  where
+    by : (rows : List Timer) → timer_at rows timer.number.0 ≡ Some timer → list_any (λ (row : Timer). row.number.0 == timer.number.0) rows ≡ true
+    by [] is = absurd (cc)
+    by (x ∷ xs) is = elim (cases_Bool (x.number.0 == timer.number.0)) [
+      | inl mine ↦ rw mine refl
+      | inr other ↦ rw other (by xs (rw other at is))
+    ]

@@ -1,17 +1,17 @@
 -- What is fired of the timers of the entries up to a moment is what is fired of all timers.
-use Rattle.std.proofs.Common.{◌≡◌, ℕ, ◌+◌, ◌-◌, ◌<◌, ◌≤◌, ◌==◌, Bool, true, false, cond, List, [], ◌∷◌, ◌++◌, Option, Some, None, map, reverse, refl, sym, ap, subst, ◌∙◌, arith, inl, inr, zero}
-use Rattle.std.specs.Prelude.{not, nat_lt, nat_le, ◌&&◌}
-use Rattle.std.specs.List.{AllByRecursion, filter, flat_map, find, sum, sum_by, range_with_len}
+use Rattle.std.proofs.Common.{◌≡◌, ℕ, ◌-◌, Bool, true, false, List, [], ◌∷◌, ◌++◌, Option, Some, None, map, refl, sym, ap, ◌∙◌, arith, inl, inr}
+use Rattle.std.specs.Prelude.{nat_lt, nat_le}
+use Rattle.std.specs.List.{AllByRecursion, filter, flat_map, sum, sum_by, range_with_len}
 use Rattle.std.specs.List.Sorted.{ties}
 use Rattle.std.specs.Option.{option_map_or}
 use Rattle.std.specs.Cmp.{IsStrictWeakOrder}
-use Rattle.std.proofs.lemmas.Bool.{cases_Bool, and_parts}
+use Rattle.std.proofs.lemmas.Bool.{cases_Bool}
 use Rattle.std.proofs.lemmas.Bool.Decides.{nat_tests}
 use Rattle.std.proofs.lemmas.List.Sums.{sum-map}
 use Rattle.slee_state.specs.Orders.{sorted}
 use Rattle.slee_state.specs.Timers.{timer_at, due_count}
 use Rattle.slee_state.specs.declared.rows.Timer.{Timer}
-use Rattle.slee_steps.specs.Timing.{Occurrence, occurrence_before, occurrence_of, fired, fired_count, fired_in_all, fired_of, kept_count}
+use Rattle.slee_steps.specs.Timing.{Occurrence, occurrence_before, occurrence_of, fired, fired_count, fired_in_all, fired_of}
 use Rattle.sorted_rows.specs.Keys.{timer_key, Rises}
 use Rattle.sorted_rows.proofs.OrderLemmas.{all_from_all}
 use Rattle.row_index.specs.declared.entry.Entry.{Entry}

@@ -4,4 +4,5 @@ pub mod ListLemmas
 pub mod RowLemmas
 pub mod FiredLemmas
 pub mod AdvanceLemmas
+pub mod WalkLemmas
 pub mod KeptLemmas

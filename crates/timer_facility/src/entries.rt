@@ -1,7 +1,8 @@
-//! A timer's entries in the indices.
-ghost use Rattle.std.specs.Prelude.{◌≡◌};
-ghost use Rattle.timer_facility.specs.Indexed.{moment_entry, activity_entry};
+//! A timer's entries in the indices, and the entries one after the other.
+ghost use Rattle.std.specs.Prelude.{◌≡◌, find, option_copied};
+ghost use Rattle.timer_facility.specs.Indexed.{moment_entry, activity_entry, is_behind};
 
+use leaf_rows::Leaves;
 use row_index::Entry;
 use slee_state::Timer;
 
@@ -22,5 +23,15 @@ pub fn activity_entry(timer: &Timer) -> Entry
     Entry {
         key: timer.activity.0,
         number: timer.number.0,
+    }
+}
+
+/// The first entry behind this one; without one the first of all.
+pub fn first_behind(entries: &Leaves<Entry>, entry: Option<Entry>) -> Option<&Entry>
+    ensures { option_copied result ≡ find (is_behind entry) entries.now.rows }
+{
+    match entry {
+        Some(entry) => entries.row_behind(entry.key, entry.number, &[]),
+        None => entries.iter().next(),
     }
 }

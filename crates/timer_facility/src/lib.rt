@@ -4,7 +4,6 @@
 mod due;
 mod entries;
 mod occurrences;
-mod sweeps;
 mod timer_rows;
 mod timers;
 

@@ -1,18 +1,17 @@
 //! The occurrences that are fired as the clock comes to a moment: their number, and their list.
-ghost use Rattle.std.specs.Prelude.{◌≡◌, ◌++◌, ◌≤◌, ◌^◌, map, sum, OnOk, IfOk};
+ghost use Rattle.std.specs.Prelude.{◌≡◌, ◌++◌, ◌<◌, ◌≤◌, ◌^◌, length, map, sum, OnOk, IfOk};
 ghost use Rattle.std.specs.Ordering.{is_lt};
 ghost use Rattle.std.specs.List.{flat_map};
 ghost use Rattle.slee_state.specs.Orders.{sorted};
 ghost use Rattle.slee_steps.specs.Timing.{fired_of, occurrence_before};
-ghost use Rattle.sorted_rows.specs.Keys.{timer_key, Rises};
 ghost use Rattle.timer_facility.specs.Indexed.{fired_at, fired_count_at};
 ghost use Rattle.timer_facility.specs.Occurrences.{occurrence, due_before};
 
 use crate::due;
+use leaf_rows::{Leaves, Run};
 use row_index::Entry;
 use slee_state::Timer;
 use slee_value::{ActivityId, NoMemory, TimerId};
-use sorted_rows::first_row_of;
 use std::alloc::Global;
 use std::cmp::Ordering;
 
@@ -39,21 +38,20 @@ pub enum DueFault {
     NoMemory,
 }
 
-fn count_at(rows: &[Timer], entry: &Entry, to: u64) -> u128
-    requires { Rises timer_key rows.now }
-    ensures count { result ≡ fired_count_at rows.now to entry.now }
+fn count_at(rows: &Leaves<Timer>, entry: &Entry, to: u64) -> u128
+    ensures count { result ≡ fired_count_at rows.now.rows to entry.now }
     ensures bound { result ≤ 2 ^ 64 }
 {
-    match first_row_of(rows, entry.number) {
+    match rows.first_row_of(entry.number) {
         Some(timer) => due::count_of_fired(timer, to),
         None => 0,
     }
 }
 
 /// How many occurrences of the timers of these entries are fired as the clock comes to the moment.
-pub fn count_of_all(rows: &[Timer], entries: &[Entry], to: u64) -> u128
-    requires { Rises timer_key rows.now }
-    ensures { result ≡ sum (map (fired_count_at rows.now to) entries.now) }
+pub fn count_of_all(rows: &Leaves<Timer>, entries: Run<'_, Entry>, to: u64) -> u128
+    requires { length entries < 2 ^ 64 }
+    ensures { result ≡ sum (map (fired_count_at rows.now.rows to) entries.entry) }
 {
     let mut count = 0;
     for entry in entries {
@@ -87,19 +85,22 @@ fn add_occurrences(list: &mut DueList, timer: &Timer, to: u64) -> Result<(), NoM
 }
 
 /// Adds the occurrences that are fired of the timer of this entry.
-fn add_at(list: &mut DueList, rows: &[Timer], entry: &Entry, to: u64) -> Result<(), NoMemory>
-    requires { Rises timer_key rows.now }
-    ensures { OnOk result (map occurrence list.new.items ≡ map occurrence list.old.items ++ fired_at rows.now to entry.now) }
+fn add_at(list: &mut DueList, rows: &Leaves<Timer>, entry: &Entry, to: u64) -> Result<(), NoMemory>
+    ensures { OnOk result (map occurrence list.new.items ≡ map occurrence list.old.items ++ fired_at rows.now.rows to entry.now) }
 {
-    match first_row_of(rows, entry.number) {
+    match rows.first_row_of(entry.number) {
         Some(timer) => add_occurrences(list, timer, to),
         None => Ok(()),
     }
 }
 
-fn gather(alloc: Global, rows: &[Timer], entries: &[Entry], to: u64) -> Result<DueList, NoMemory>
-    requires { Rises timer_key rows.now }
-    ensures { IfOk result (λ list. map occurrence list.items ≡ flat_map (fired_at rows.now to) entries.now) }
+fn gather(
+    alloc: Global,
+    rows: &Leaves<Timer>,
+    entries: Run<'_, Entry>,
+    to: u64,
+) -> Result<DueList, NoMemory>
+    ensures { IfOk result (λ list. map occurrence list.items ≡ flat_map (fired_at rows.now.rows to) entries.entry) }
 {
     let mut list = Vec::new(alloc);
     for entry in entries {
@@ -120,12 +121,11 @@ fn put_in_order(list: &mut DueList) -> Result<(), NoMemory>
 /// The occurrences of the timers of these entries that are fired as the clock comes to the moment.
 pub fn list_of_all(
     alloc: Global,
-    rows: &[Timer],
-    entries: &[Entry],
+    rows: &Leaves<Timer>,
+    entries: Run<'_, Entry>,
     to: u64,
 ) -> Result<DueList, NoMemory>
-    requires { Rises timer_key rows.now }
-    ensures { IfOk result (λ list. map occurrence list.items ≡ sorted occurrence_before (flat_map (fired_at rows.now to) entries.now)) }
+    ensures { IfOk result (λ list. map occurrence list.items ≡ sorted occurrence_before (flat_map (fired_at rows.now.rows to) entries.entry)) }
 {
     let mut list = gather(alloc, rows, entries, to)?;
     put_in_order(&mut list)?;

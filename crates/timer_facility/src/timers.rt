@@ -161,7 +161,7 @@ impl Timers {
     pub fn len(&self) -> u64
         ensures { result ≡ length self.now.timers }
     {
-        self.rows.timers().len() as u64
+        self.rows.len() as u64
     }
 
     /// The timer at this place; they rise by number.
@@ -169,7 +169,7 @@ impl Timers {
         requires { place < length self.now.timers }
         ensures { slice_get self.now.timers place ≡ Some result.now }
     {
-        &self.rows.timers()[place as usize]
+        self.rows.at(place as usize)
     }
 
     /// The timer of this number.

@@ -1,5 +1,5 @@
 -- by activity, then by key
 use Rattle.activity_context.proofs.attributes.put_attribute.Goals as goal
 
-pub returns-clause-items : goal.returns-clause-items
-returns-clause-items c = c.put_row.ensures.items
+pub returns-clause-rows : goal.returns-clause-rows
+returns-clause-rows c = c.put_row.ensures.rows

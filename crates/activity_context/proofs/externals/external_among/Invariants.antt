@@ -1,5 +1,5 @@
 -- none of the activities of the entries before this one has the name
-use Rattle.std.proofs.Common.{◌≡◌, drop}
+use Rattle.std.proofs.Common.{◌≡◌}
 use Rattle.slee_state.specs.Contexts.{activity_at, has_name}
 use Rattle.slee_state.specs.declared.rows.Activity.{Activity}
 use Rattle.text_index.specs.Found.{first_found}
@@ -8,4 +8,4 @@ use Rattle.activity_context.proofs.externals.external_among.Given as goal
 abbrev pub invariant-loop-entry : goal.invariant-loop-entry
 invariant-loop-entry l =
     let passes = λ (row : Activity). has_name row.kind l.name in
-    first_found (activity_at l.rows) passes (drop l.entry-index l.entries) ≡ first_found (activity_at l.rows) passes l.entries
+    first_found (activity_at l.rows.rows) passes l.entry-iterator ≡ first_found (activity_at l.rows.rows) passes l.fn.entries

@@ -3,5 +3,5 @@ use Rattle.std.proofs.Common.{◌∙◌}
 use Rattle.sorted_rows.proofs.AgreeLemmas.{link_put}
 use Rattle.activity_context.proofs.links.put_link.Goals as goal
 
-pub returns-clause-items : goal.returns-clause-items
-returns-clause-items c = c.put_row.ensures.items ∙ link_put _ c.args.rows.now.items
+pub returns-clause-rows : goal.returns-clause-rows
+returns-clause-rows c = c.put_row.ensures.rows ∙ link_put _ c.args.rows.now.rows

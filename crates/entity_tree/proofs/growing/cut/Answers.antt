@@ -11,13 +11,9 @@ use Rattle.entity_tree.proofs.growing.cut.Goals as goal
 
 pub returns-clause-index : goal.returns-clause-index
 returns-clause-index c =
-    let parent = rw c.deref.ensures.value at c.parent_at-parent.ensures in
-    let branches = rw parent at c.cut_row.ensures.items in
-    let rows = c.cut_row-2.ensures.items ∙ cut_by_number c.args.entity.0 c.args.rows.now.items in
-    record {
-      rises = c.cut_row.ensures.rises;
-      runs = λ p.
-          ap (filter (λ (branch : Branch). branch.parent.0 == p)) branches
-          ∙ index_cut c.args.entity.0 p c.args.rows.now.items c.args.branches.now.items c.requires.rises (c.requires.index.runs p)
-          ∙ ap (λ (entities : List Entity). map branch_of (children entities p)) (sym rows);
-    }
+    let branches = rw c.parent_at-parent.ensures at c.cut_row.ensures.rows in
+    let rows = c.cut_row-2.ensures.rows ∙ cut_by_number c.args.entity.0 c.args.rows.now.rows in
+    λ p.
+    ap (filter (λ (branch : Branch). branch.parent.0 == p)) branches
+    ∙ index_cut c.args.entity.0 p c.args.rows.now.rows c.args.branches.now.rows c.rises.ensures (c.requires p)
+    ∙ ap (λ (entities : List Entity). map branch_of (children entities p)) (sym rows)

@@ -4,8 +4,8 @@ use Rattle.entity_tree.proofs.paths.above.Given as goal
 
 abbrev pub invariant-up : goal.invariant-up
 invariant-up l = record {
-  path : BeginsWith (path_at l.rows l.fn.entity.0) (path_at l.rows l.top.0);
-  length : length (path_at l.rows l.top.0) ≡ length (path_at l.rows l.fn.entity.0) - l.counter;
+  path : BeginsWith (path_at l.rows.rows l.fn.entity.0) (path_at l.rows.rows l.top.0);
+  length : length (path_at l.rows.rows l.top.0) ≡ length (path_at l.rows.rows l.fn.entity.0) - l.counter;
   within : l.counter ≤ l.steps;
   none : l.counter ≡ 0 → l.top ≡ l.fn.entity;
 }

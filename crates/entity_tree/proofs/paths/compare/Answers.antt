@@ -9,8 +9,8 @@ use Rattle.entity_tree.proofs.paths.compare.Goals as goal
 
 pub returns-then-depth_of_one-eq0-clause-less : goal.returns-then-depth_of_one-eq0-clause-less
 returns-then-depth_of_one-eq0-clause-less c =
-    let p = path_at c.args.rows.now c.args.one.0 in
-    let q = path_at c.args.rows.now c.args.other.0 in
+    let p = path_at c.args.rows.now.rows c.args.one.0 in
+    let q = path_at c.args.rows.now.rows c.args.other.0 in
     let compared : c.cmp.result ≡ nat_cmp (length p) (length q) = rw (← c.depth-depth_of_one.ensures, ← c.depth-depth_of_other.ensures) c.cmp.ensures in
     elim c.then-depth_of_one-eq0.branch [
       | then-depth_of_one-eq0-via-then-depth_of_one-eq0 w ↦ let none : length p ≡ 0 = grind (arith, nat_tests, w.if-depth_of_one-eq0.true, c.depth-depth_of_one.ensures) in (bare_first p q c.cmp.result none compared).0
@@ -19,8 +19,8 @@ returns-then-depth_of_one-eq0-clause-less c =
 
 pub returns-then-depth_of_one-eq0-clause-greater : goal.returns-then-depth_of_one-eq0-clause-greater
 returns-then-depth_of_one-eq0-clause-greater c =
-    let p = path_at c.args.rows.now c.args.one.0 in
-    let q = path_at c.args.rows.now c.args.other.0 in
+    let p = path_at c.args.rows.now.rows c.args.one.0 in
+    let q = path_at c.args.rows.now.rows c.args.other.0 in
     let compared : c.cmp.result ≡ nat_cmp (length p) (length q) = rw (← c.depth-depth_of_one.ensures, ← c.depth-depth_of_other.ensures) c.cmp.ensures in
     elim c.then-depth_of_one-eq0.branch [
       | then-depth_of_one-eq0-via-then-depth_of_one-eq0 w ↦ let none : length p ≡ 0 = grind (arith, nat_tests, w.if-depth_of_one-eq0.true, c.depth-depth_of_one.ensures) in (bare_first p q c.cmp.result none compared).1

@@ -16,19 +16,19 @@ pub up-init : goal.up-init
 up-init c = record {
   over_left = c.parent_at-over_left.ensures;
   over_right = c.parent_at-over_right.ensures;
-  one = begins_itself (path_at c.args.rows.now c.args.one.0);
-  other = begins_itself (path_at c.args.rows.now c.args.other.0);
+  one = begins_itself (path_at c.args.rows.now.rows c.args.one.0);
+  other = begins_itself (path_at c.args.rows.now.rows c.args.other.0);
   level = c.requires.level;
   apart = c.requires.apart;
   there = c.requires.there;
 }
 
 pub up-smaller : goal.up-smaller
-up-smaller c = closer c.args.rows.now c.requires.parents c.up.left.0 c.up.over_left.0 c.up.invariant.over_left c.up.invariant.there
+up-smaller c = closer c.args.rows.now.rows c.requires.parents c.up.left.0 c.up.over_left.0 c.up.invariant.over_left c.up.invariant.there
 
 pub up-preserved : goal.up-preserved
 up-preserved c =
-    let rows = c.args.rows.now in
+    let rows = c.args.rows.now.rows in
     record {
       over_left = c.parent_at-over_left-in-up.ensures;
       over_right = c.parent_at-over_right-in-up.ensures;
@@ -41,7 +41,7 @@ up-preserved c =
 
 pub returns-clause-less : goal.returns-clause-less
 returns-clause-less c =
-    let rows = c.args.rows.now in
+    let rows = c.args.rows.now.rows in
     let inv = c.up.invariant in
     let above : path_at rows (parent_at rows c.up.left.0) ≡ path_at rows (parent_at rows c.up.right.0) = elim c.up-test.branch [
       | then-up-test+else-is_entity w ↦ none_above rows c.requires.parents c.up.left.0 c.up.right.0 inv.level (ap (λ (e : ℕ). is_some (entity_at rows e)) (sym inv.over_left) ∙ sym w.is_entity.ensures ∙ w.if-is_entity.false)
@@ -52,7 +52,7 @@ returns-clause-less c =
 
 pub returns-clause-greater : goal.returns-clause-greater
 returns-clause-greater c =
-    let rows = c.args.rows.now in
+    let rows = c.args.rows.now.rows in
     let inv = c.up.invariant in
     let above : path_at rows (parent_at rows c.up.left.0) ≡ path_at rows (parent_at rows c.up.right.0) = elim c.up-test.branch [
       | then-up-test+else-is_entity w ↦ none_above rows c.requires.parents c.up.left.0 c.up.right.0 inv.level (ap (λ (e : ℕ). is_some (entity_at rows e)) (sym inv.over_left) ∙ sym w.is_entity.ensures ∙ w.if-is_entity.false)
@@ -64,7 +64,7 @@ returns-clause-greater c =
 
 pub returns-clause-apart : goal.returns-clause-apart
 returns-clause-apart c =
-    let rows = c.args.rows.now in
+    let rows = c.args.rows.now.rows in
     let inv = c.up.invariant in
     let too = level_there rows c.requires.parents c.up.left.0 c.up.right.0 inv.level inv.there in
     let x = found_there rows c.up.left.0 inv.there in

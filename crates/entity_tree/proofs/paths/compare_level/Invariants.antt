@@ -7,14 +7,14 @@ use Rattle.entity_tree.proofs.paths.compare_level.Given as goal
 
 abbrev pub invariant-up : goal.invariant-up
 invariant-up l = record {
-  over_left : l.over_left.0 ≡ parent_at l.rows l.left.0;
-  over_right : l.over_right.0 ≡ parent_at l.rows l.right.0;
-  one : BeginsWith (path_at l.rows l.fn.one.0) (path_at l.rows l.left.0);
-  other : BeginsWith (path_at l.rows l.fn.other.0) (path_at l.rows l.right.0);
-  level : length (path_at l.rows l.left.0) ≡ length (path_at l.rows l.right.0);
+  over_left : l.over_left.0 ≡ parent_at l.rows.rows l.left.0;
+  over_right : l.over_right.0 ≡ parent_at l.rows.rows l.right.0;
+  one : BeginsWith (path_at l.rows.rows l.fn.one.0) (path_at l.rows.rows l.left.0);
+  other : BeginsWith (path_at l.rows.rows l.fn.other.0) (path_at l.rows.rows l.right.0);
+  level : length (path_at l.rows.rows l.left.0) ≡ length (path_at l.rows.rows l.right.0);
   apart : (l.left.0 == l.right.0) ≡ false;
-  there : is_some (entity_at l.rows l.left.0) ≡ true;
+  there : is_some (entity_at l.rows.rows l.left.0) ≡ true;
 }
 
 abbrev pub decreases-up : goal.decreases-up
-decreases-up l = length (path_at l.rows l.left.0)
+decreases-up l = length (path_at l.rows.rows l.left.0)

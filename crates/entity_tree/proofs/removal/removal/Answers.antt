@@ -10,15 +10,15 @@ use Rattle.entity_tree.proofs.removal.removal.Goals as goal
 
 pub tree-smaller : goal.tree-smaller
 tree-smaller c =
-    (tree_more c.args.rows.now c.requires.rises c.requires.parents c.tree.waiting.items c.push_children.new.into.items c.pop.new.self.items c.tree.all.items c.push-in-Some.new.self.items c.in-Some.entity
-    (filter (λ (branch : Branch). branch.parent.0 == c.in-Some.entity.0) c.args.branches.now) c.args.top.0
-    c.in-Some.ensures.items c.in_ok-push_children.ensures (c.requires.index.runs c.in-Some.entity.0) c.in_ok-push-2.ensures.items c.tree.invariant.order c.tree.invariant.there).2
+    (tree_more c.args.rows.now.rows c.rises.ensures c.requires.parents c.tree.waiting.items c.push_children.new.into.items c.pop.new.self.items c.tree.all.items c.push-in-Some.new.self.items c.in-Some.entity
+    (filter (λ (branch : Branch). branch.parent.0 == c.in-Some.entity.0) c.args.branches.now.rows) c.args.top.0
+    c.in-Some.ensures.items c.in_ok-push_children.ensures (c.requires.index c.in-Some.entity.0) c.in_ok-push-2.ensures.items c.tree.invariant.order c.tree.invariant.there).2
 
 pub tree-preserved : goal.tree-preserved
 tree-preserved c =
-    let more = tree_more c.args.rows.now c.requires.rises c.requires.parents c.tree.waiting.items c.push_children.new.into.items c.pop.new.self.items c.tree.all.items c.push-in-Some.new.self.items c.in-Some.entity
-    (filter (λ (branch : Branch). branch.parent.0 == c.in-Some.entity.0) c.args.branches.now) c.args.top.0
-    c.in-Some.ensures.items c.in_ok-push_children.ensures (c.requires.index.runs c.in-Some.entity.0) c.in_ok-push-2.ensures.items c.tree.invariant.order c.tree.invariant.there in
+    let more = tree_more c.args.rows.now.rows c.rises.ensures c.requires.parents c.tree.waiting.items c.push_children.new.into.items c.pop.new.self.items c.tree.all.items c.push-in-Some.new.self.items c.in-Some.entity
+    (filter (λ (branch : Branch). branch.parent.0 == c.in-Some.entity.0) c.args.branches.now.rows) c.args.top.0
+    c.in-Some.ensures.items c.in_ok-push_children.ensures (c.requires.index c.in-Some.entity.0) c.in_ok-push-2.ensures.items c.tree.invariant.order c.tree.invariant.there in
     record { order = more.0; there = more.1 }
 
 pub returns : goal.returns
@@ -26,5 +26,5 @@ returns c =
     let zero = c.in_default.ensures.cases.0 in
     let rest = rw zero at c.in_default.ensures.rest in
     let none : c.tree.waiting.items ≡ [] = c.in_default.ensures.items ∙ append-nil c.pop.new.self.items ∙ rest in
-    let all = ap (λ (ids : List EntityId). trees c.args.rows.now ids ++ reverse (numbers_of c.tree.all.items)) none in
+    let all = ap (λ (ids : List EntityId). trees c.args.rows.now.rows ids ++ reverse (numbers_of c.tree.all.items)) none in
     ap numbers_of c.reverse.ensures.items ∙ numbers_reversed c.tree.all.items ∙ sym all ∙ c.tree.invariant.order

@@ -8,9 +8,9 @@ use Rattle.entity_tree.proofs.removal.removal.Given as goal
 
 abbrev pub invariant-tree : goal.invariant-tree
 invariant-tree l = record {
-  order : trees l.rows l.waiting.items ++ reverse (numbers_of l.all.items) ≡ tree_of l.rows l.fn.top.0;
-  there : AllByRecursion (λ id. is_some (entity_at l.rows id.0) ≡ true) l.waiting.items;
+  order : trees l.rows.rows l.waiting.items ++ reverse (numbers_of l.all.items) ≡ tree_of l.rows.rows l.fn.top.0;
+  there : AllByRecursion (λ id. is_some (entity_at l.rows.rows id.0) ≡ true) l.waiting.items;
 }
 
 abbrev pub decreases-tree : goal.decreases-tree
-decreases-tree l = length (trees l.rows l.waiting.items)
+decreases-tree l = length (trees l.rows.rows l.waiting.items)

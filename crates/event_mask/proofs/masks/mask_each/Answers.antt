@@ -10,8 +10,7 @@ each-preserved c =
     record {
       can_next = tt;
       is_finite = tt;
-      items = mask_on _ _ _ _ _ _ _ _ cut c.put_row.ensures.items c.each.invariant.items;
-      rises = c.put_row.ensures.rises;
+      rows = mask_on _ _ _ _ _ _ _ _ cut c.put_row.ensures.rows c.each.invariant.rows;
       room = omega (arith, count, c.each.invariant.room, c.put_row.ensures.room);
       spent = omega (arith, count, c.each.invariant.spent, c.put_row.ensures.room);
     }

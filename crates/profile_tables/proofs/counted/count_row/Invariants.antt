@@ -1,6 +1,5 @@
 -- the values that are left are still to be counted, and find room
-use Rattle.std.proofs.Common.{◌≡◌, ◌+◌, ◌≤◌, drop, length, map}
-use Rattle.std.specs.Prelude.{vec_capacity}
+use Rattle.std.proofs.Common.{◌≡◌, ◌+◌, ◌<◌, ◌≤◌, ◌^◌, drop, length, map}
 use Rattle.sorted_rows.specs.Keys.{Rises}
 use Rattle.row_tally.specs.Tallies.{tally_key, all_more, total, AreSome}
 use Rattle.profile_tables.specs.Unique.{value_key}
@@ -8,9 +7,10 @@ use Rattle.profile_tables.proofs.counted.count_row.Given as goal
 
 abbrev pub invariant-loop-name : goal.invariant-loop-name
 invariant-loop-name l = record {
-  items : all_more (map (value_key l.table l.fields) (drop l.name-index l.unique)) l.tallies.items ≡ all_more (map (value_key l.table l.fields) l.unique) l.fn.tallies.items;
-  rises : Rises tally_key l.tallies.items;
-  some : AreSome l.tallies.items;
-  room : total l.tallies.items + length (drop l.name-index l.unique) ≤ vec_capacity l.tallies;
-  capacity : vec_capacity l.fn.tallies ≤ vec_capacity l.tallies;
+  rows : all_more (map (value_key l.table l.fields) (drop l.name-index l.unique)) l.tallies.rows ≡ all_more (map (value_key l.table l.fields) l.unique) l.fn.tallies.rows;
+  rises : Rises tally_key l.tallies.rows;
+  some : AreSome l.tallies.rows;
+  fits : total l.tallies.rows + length (drop l.name-index l.unique) < 2 ^ 64;
+  room : total l.tallies.rows + length (drop l.name-index l.unique) ≤ l.tallies.room + length l.tallies.rows;
+  capacity : l.fn.tallies.room + length l.fn.tallies.rows ≤ l.tallies.room + length l.tallies.rows;
 }

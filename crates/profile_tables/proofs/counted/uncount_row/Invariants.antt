@@ -1,6 +1,5 @@
 -- the values that are left are still counted
-use Rattle.std.proofs.Common.{◌≡◌, ◌≤◌, drop, map}
-use Rattle.std.specs.Prelude.{vec_capacity}
+use Rattle.std.proofs.Common.{◌≡◌, ◌+◌, ◌≤◌, drop, length, map}
 use Rattle.sorted_rows.specs.Keys.{Rises}
 use Rattle.row_tally.specs.Tallies.{tally_key, all_less, AreCounted}
 use Rattle.profile_tables.specs.Unique.{value_key}
@@ -8,8 +7,8 @@ use Rattle.profile_tables.proofs.counted.uncount_row.Given as goal
 
 abbrev pub invariant-loop-name : goal.invariant-loop-name
 invariant-loop-name l = record {
-  items : all_less (map (value_key l.table l.fields) (drop l.name-index l.unique)) l.tallies.items ≡ all_less (map (value_key l.table l.fields) l.unique) l.fn.tallies.items;
-  rises : Rises tally_key l.tallies.items;
-  counted : AreCounted (map (value_key l.table l.fields) (drop l.name-index l.unique)) l.tallies.items;
-  capacity : vec_capacity l.fn.tallies ≤ vec_capacity l.tallies;
+  rows : all_less (map (value_key l.table l.fields) (drop l.name-index l.unique)) l.tallies.rows ≡ all_less (map (value_key l.table l.fields) l.unique) l.fn.tallies.rows;
+  rises : Rises tally_key l.tallies.rows;
+  counted : AreCounted (map (value_key l.table l.fields) (drop l.name-index l.unique)) l.tallies.rows;
+  capacity : l.fn.tallies.room + length l.fn.tallies.rows ≤ l.tallies.room + length l.tallies.rows;
 }

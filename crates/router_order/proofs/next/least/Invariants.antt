@@ -1,4 +1,4 @@
-use Rattle.std.proofs.Common.{◌≡◌, None, drop, filter}
+use Rattle.std.proofs.Common.{◌≡◌, None, filter}
 use Rattle.std.specs.Prelude.{option_copied}
 use Rattle.slee_state.specs.Paths.{least_path}
 use Rattle.router_order.specs.Asked.{entities_of, is_wanted}
@@ -6,5 +6,5 @@ use Rattle.router_order.proofs.next.least.Given as goal
 
 abbrev pub invariant-links : goal.invariant-links
 invariant-links l =
-    least_path l.tree.rows (option_copied l.best) (filter (is_wanted l.tree.rows l.masks.rows l.activity.0 l.wants.event.now l.wants.blocks.now l.wants.target l.wants.delivered.now) (entities_of l.tree.rows (drop l.link-index l.links)))
-    ≡ least_path l.tree.rows None (filter (is_wanted l.tree.rows l.masks.rows l.activity.0 l.wants.event.now l.wants.blocks.now l.wants.target l.wants.delivered.now) (entities_of l.tree.rows l.links))
+    least_path l.tree.rows (option_copied l.best) (filter (is_wanted l.tree.rows l.masks.rows l.activity.0 l.wants.event.now l.wants.blocks.now l.wants.target l.wants.delivered.now) (entities_of l.tree.rows l.link-iterator))
+    ≡ least_path l.tree.rows None (filter (is_wanted l.tree.rows l.masks.rows l.activity.0 l.wants.event.now l.wants.blocks.now l.wants.target l.wants.delivered.now) (entities_of l.tree.rows l.fn.links))

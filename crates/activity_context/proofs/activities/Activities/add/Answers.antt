@@ -12,8 +12,8 @@ invariant_of-self c =
     let absent = rw (← c.self.view_is) at c.requires.absent in
     record {
       rises = c.put_row-2.ensures.rises;
-      names = rw (c.put_row.ensures.items, c.name_entry.ensures) (indexed_put (λ (row : Activity). row.number.0) (λ (row : Activity). name_number row.kind) activity_key (λ x. refl) c.args.activity c.self.inside.rows.items _ c.self.inside.by_name.items c.self.invariant.rises c.self.invariant.names absent c.put_row-2.ensures.items);
+      names = rw (c.put_row.ensures.rows, c.name_entry.ensures) (indexed_put (λ (row : Activity). row.number.0) (λ (row : Activity). name_number row.kind) activity_key (λ x. refl) c.args.activity c.self.inside.rows.rows _ c.self.inside.by_name.rows c.self.invariant.rises c.self.invariant.names absent c.put_row-2.ensures.rows);
     }
 
 pub returns-clause-activities : goal.returns-clause-activities
-returns-clause-activities c = rw (← c.self.view_is) (c.put_row-2.ensures.items ∙ activity_put c.args.activity c.self.inside.rows.items)
+returns-clause-activities c = rw (← c.self.view_is) (c.put_row-2.ensures.rows ∙ activity_put c.args.activity c.self.inside.rows.rows)

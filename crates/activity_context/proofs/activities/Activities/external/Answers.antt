@@ -13,10 +13,10 @@ use Rattle.activity_context.proofs.activities.Activities.external.Goals as goal
 
 pub returns : goal.returns
 returns c =
-    let rows = c.self.inside.rows.items in
+    let rows = c.self.inside.rows.rows in
     let passes = λ (row : Activity). has_name row.kind c.args.name.now in
-    let run = rw (c.deref.ensures.value, c.number_of.ensures.number, c.as_bytes.ensures.bytes) at c.rows_of-run.ensures in
-    let found = rw c.deref-2.ensures.value at c.external_among.ensures in
+    let run = rw (c.number_of.ensures.number, c.as_bytes.ensures.bytes) at c.rows_of-run.ensures in
+    let found = c.external_among.ensures in
     rw (← c.self.view_is)
     (found ∙ ap (λ (entries : List Entry). first_found (activity_at rows) passes entries) run
-    ∙ run_finds (λ (row : Activity). row.number.0) (λ (row : Activity). name_number row.kind) activity_key (λ x. refl) passes (number_of c.args.name.now) (named_there c.args.name.now) rows c.self.inside.by_name.items c.self.invariant.rises c.self.invariant.names)
+    ∙ run_finds (λ (row : Activity). row.number.0) (λ (row : Activity). name_number row.kind) activity_key (λ x. refl) passes (number_of c.args.name.now) (named_there c.args.name.now) rows c.self.inside.by_name.rows c.self.invariant.rises c.self.invariant.names)

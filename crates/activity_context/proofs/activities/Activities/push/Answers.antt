@@ -1,29 +1,38 @@
 -- the new activity has the greatest number, and comes with its entry
-use Rattle.std.proofs.Common.{◌≡◌, ◌==◌, false, refl}
+use Rattle.std.proofs.Common.{◌≡◌, ◌==◌, ◌∙◌, false, refl}
 use Rattle.slee_state.specs.declared.rows.Activity.{Activity}
-use Rattle.sorted_rows.specs.Keys.{activity_key, is_key}
-use Rattle.sorted_rows.proofs.NumberLemmas.{rises_pushed, below_pushed}
+use Rattle.sorted_rows.specs.Keys.{is_key}
+use Rattle.sorted_rows.proofs.NumberLemmas.{below_pushed}
 use Rattle.sorted_rows.proofs.OrderLemmas.{all_from_all}
 use Rattle.row_index.specs.Index.{entry_key}
 use Rattle.row_index.proofs.IndexLemmas.{index_put}
 use Rattle.row_index.proofs.RowLemmas.{other_key}
 use Rattle.text_index.proofs.KeptLemmas.{others_below, sum_pushed}
 use Rattle.activity_context.specs.Indexed.{name_entry, name_number}
+use Rattle.activity_context.proofs.PushLemmas.{put_last}
 use Rattle.activity_context.proofs.activities.Activities.push.Goals as goal
 
 pub invariant_of-self : goal.invariant_of-self
 invariant_of-self c =
     let n = c.args.number in
-    let rows = c.self.inside.rows.items in
+    let rows = c.self.inside.rows.rows in
     let row : Activity = record { number = record { 0 = n }; kind = c.args.kind; ending = false } in
     let below = rw (← c.self.view_is) at c.requires.below in
+    let last = c.put_row-2.ensures.rows ∙ put_last row rows below in
     let apart = all_from_all (λ (other : Activity). (other.number.0 == n) ≡ false) (λ (other : Activity). is_key (entry_key (name_entry other)) (entry_key (name_entry row)) ≡ false) (λ other is. other_key (name_number other.kind) (name_number row.kind) other.number.0 n is) rows (others_below (λ (other : Activity). other.number.0) n rows below) in
     record {
-      rises = rw c.push_reserved.ensures.items (rises_pushed (λ (other : Activity). other.number.0) activity_key (λ x. refl) n row rows refl below c.self.invariant.rises);
-      names = rw (c.push_reserved.ensures.items, c.put_row.ensures.items, c.name_entry.ensures) (index_put name_entry row rows _ c.self.inside.by_name.items c.self.invariant.names apart (λ f. sum_pushed f row rows));
+      rises = c.put_row-2.ensures.rises;
+      names = rw (last, c.put_row.ensures.rows, c.name_entry.ensures) (index_put name_entry row rows _ c.self.inside.by_name.rows c.self.invariant.names apart (λ f. sum_pushed f row rows));
     }
 
 pub returns-clause-below : goal.returns-clause-below
 returns-clause-below c =
     let below = rw (← c.self.view_is) at c.requires.below in
-    rw c.push_reserved.ensures.items (below_pushed (λ (row : Activity). row.number.0) c.args.number _ c.self.inside.rows.items refl below)
+    let row : Activity = record { number = record { 0 = c.args.number }; kind = c.args.kind; ending = false } in
+    rw (c.put_row-2.ensures.rows ∙ put_last row c.self.inside.rows.rows below) (below_pushed (λ (row : Activity). row.number.0) c.args.number _ c.self.inside.rows.rows refl below)
+
+pub returns-clause-activities : goal.returns-clause-activities
+returns-clause-activities c =
+    let below = rw (← c.self.view_is) at c.requires.below in
+    let row : Activity = record { number = record { 0 = c.args.number }; kind = c.args.kind; ending = false } in
+    rw (← c.self.view_is) (c.put_row-2.ensures.rows ∙ put_last row c.self.inside.rows.rows below)

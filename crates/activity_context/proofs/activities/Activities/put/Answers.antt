@@ -1,5 +1,4 @@
 -- the activity stands in its place, and the other one of its number gives way
-use Rattle.std.proofs.Common.{◌∙◌}
 use Rattle.slee_state.specs.declared.rows.Activity.{Activity}
 use Rattle.sorted_rows.proofs.NumberLemmas.{below_put}
 use Rattle.text_index.proofs.KeptLemmas.{cut_is_free, put_over}

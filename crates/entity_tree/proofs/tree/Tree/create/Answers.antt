@@ -9,11 +9,11 @@ add-requires-clause-absent c = next_is_free _ _ c.self.invariant.0
 
 pub invariant_of-self : goal.invariant_of-self
 invariant_of-self c =
-    let parent = stem_is_drawn c.self.inside.next c.args.stem c.self.inside.rows.items c.self.invariant.0 (rw (← c.self.view_is) at c.requires.parent) in
-    (added_keeps c.self.inside.next (c.self.inside.next + 1) _ c.self.inside.rows.items c.add.new.rows.items c.self.invariant.0 (omega arith) (omega arith) parent c.add.ensures.rows c.add.ensures.rises, c.add.ensures.index)
+    let parent = stem_is_drawn c.self.inside.next c.args.stem c.self.inside.rows.rows c.self.invariant.0 (rw (← c.self.view_is) at c.requires.parent) in
+    (added_keeps c.self.inside.next (c.self.inside.next + 1) _ c.self.inside.rows.rows c.add.new.rows.rows c.self.invariant.0 (omega arith) (omega arith) parent c.add.ensures.rows, c.add.ensures.index)
 
 pub returns-clause-rows : goal.returns-clause-rows
 returns-clause-rows c =
-    let stands = c.add.ensures.rows ∙ next_stands_last _ c.self.inside.rows.items c.self.invariant.0 in
+    let stands = c.add.ensures.rows ∙ next_stands_last _ c.self.inside.rows.rows c.self.invariant.0 in
     let same = rw (to_z-of_z w8 c.args.priority c.ranges.priority) at stands in
     rw (← c.self.view_is) same

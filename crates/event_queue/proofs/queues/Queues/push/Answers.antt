@@ -5,5 +5,5 @@ use Rattle.event_queue.proofs.queues.Queues.push.Goals as goal
 
 pub returns-clause-rows : goal.returns-clause-rows
 returns-clause-rows c =
-    let made = c.put_row.ensures.items ∙ queued_put (record { activity = c.args.activity; event = c.args.event }) c.self.inside.events.items in
+    let made = c.put_row.ensures.rows ∙ queued_put (record { activity = c.args.activity; event = c.args.event }) c.self.inside.events.rows in
     rw (← c.self.view_is, made) refl

@@ -5,5 +5,5 @@ use Rattle.event_queue.proofs.queues.Queues.restore.Goals as goal
 
 pub returns-clause-rows : goal.returns-clause-rows
 returns-clause-rows c =
-    let made = c.put_row.ensures.items ∙ queued_put c.args.item c.self.inside.events.items in
+    let made = c.put_row.ensures.rows ∙ queued_put c.args.item c.self.inside.events.rows in
     rw (← c.self.view_is, made) refl

@@ -11,5 +11,5 @@ returns-else-may_have_rival c =
     let inside = c.self.inside in
     let spec = rw (← c.self.view_is) at c.requires in
     let unique = ap (λ (o : Option TableSpec). option_map_or (λ (spec : TableSpec). spec.unique) o []) spec in
-    let free = rw (c.as_slice-unique.ensures, c.as_slice.ensures.fields, c.deref.ensures.value, c.deref-2.ensures.value) at (sym c.may_have_rival.ensures ∙ c.if-may_have_rival.false) in
-    rw (← c.self.view_is) (sym (no_rival inside.tables.items c.args.table c.args.row.now c.args.fields.now inside.rows.items inside.by_value.items c.self.invariant.rises c.self.invariant.counted c.args.spec.now.unique (sym unique) free))
+    let free = rw (c.as_slice-unique.ensures, c.as_slice.ensures.fields) at (sym c.may_have_rival.ensures ∙ c.if-may_have_rival.false) in
+    rw (← c.self.view_is) (sym (no_rival inside.tables.items c.args.table c.args.row.now c.args.fields.now inside.rows.rows inside.by_value.rows c.self.invariant.rises c.self.invariant.counted c.args.spec.now.unique (sym unique) free))

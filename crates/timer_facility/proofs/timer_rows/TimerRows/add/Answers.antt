@@ -11,9 +11,9 @@ invariant_of-self c =
     let absent = rw (← c.self.view_is) at c.requires.absent in
     record {
       rises = c.put_row-3.ensures.rises;
-      moments = rw (c.put_row.ensures.items, c.moment_entry.ensures) (indexed_put (λ (t : Timer). t.number.0) (λ (t : Timer). t.next) timer_key (λ x. refl) c.args.timer c.self.inside.rows.items _ c.self.inside.by_moment.items c.self.invariant.rises c.self.invariant.moments absent c.put_row-3.ensures.items);
-      activities = rw (c.put_row-2.ensures.items, c.activity_entry.ensures) (indexed_put (λ (t : Timer). t.number.0) (λ (t : Timer). t.activity.0) timer_key (λ x. refl) c.args.timer c.self.inside.rows.items _ c.self.inside.by_activity.items c.self.invariant.rises c.self.invariant.activities absent c.put_row-3.ensures.items);
+      moments = rw (c.put_row.ensures.rows, c.moment_entry.ensures) (indexed_put (λ (t : Timer). t.number.0) (λ (t : Timer). t.next) timer_key (λ x. refl) c.args.timer c.self.inside.rows.rows _ c.self.inside.by_moment.rows c.self.invariant.rises c.self.invariant.moments absent c.put_row-3.ensures.rows);
+      activities = rw (c.put_row-2.ensures.rows, c.activity_entry.ensures) (indexed_put (λ (t : Timer). t.number.0) (λ (t : Timer). t.activity.0) timer_key (λ x. refl) c.args.timer c.self.inside.rows.rows _ c.self.inside.by_activity.rows c.self.invariant.rises c.self.invariant.activities absent c.put_row-3.ensures.rows);
     }
 
 pub returns-clause-timers : goal.returns-clause-timers
-returns-clause-timers c = rw (← c.self.view_is) (c.put_row-3.ensures.items ∙ timer_put c.args.timer c.self.inside.rows.items)
+returns-clause-timers c = rw (← c.self.view_is) (c.put_row-3.ensures.rows ∙ timer_put c.args.timer c.self.inside.rows.rows)

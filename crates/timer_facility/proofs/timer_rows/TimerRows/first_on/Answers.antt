@@ -1,10 +1,8 @@
 -- the first entry of the activity is that of a timer on it
-use Rattle.std.proofs.Common.{◌==◌, false, sym, ap, ◌∙◌, arith, refl}
+use Rattle.std.proofs.Common.{◌==◌, false, sym, ap, ◌∙◌, refl}
 use Rattle.std.specs.Option.{option_map_or}
-use Rattle.std.proofs.lemmas.Bool.Decides.{nat_tests}
 use Rattle.slee_state.specs.declared.rows.Timer.{Timer}
 use Rattle.row_index.specs.declared.entry.Entry.{Entry}
-use Rattle.sorted_rows.proofs.AgreeLemmas.{timer_order}
 use Rattle.sorted_rows.specs.Keys.{timer_key}
 use Rattle.row_index.proofs.RowLemmas.{any_fails, none_first, some_first}
 use Rattle.timer_facility.proofs.timer_rows.TimerRows.first_on.Goals as goal
@@ -12,17 +10,11 @@ use Rattle.timer_facility.proofs.timer_rows.TimerRows.first_on.Goals as goal
 pub returns-in-None-clause-first : goal.returns-in-None-clause-first
 returns-in-None-clause-first c =
     rw (← c.self.view_is)
-    (any_fails (λ (t : Timer). t.activity.0 == c.args.activity.0) c.self.inside.rows.items
-    (none_first (λ (t : Timer). t.number.0) (λ (t : Timer). t.activity.0) (λ (e : Entry). e.key == c.args.activity.0) c.self.inside.rows.items c.self.inside.by_activity.items _ c.self.invariant.activities (rw c.deref.ensures.value at c.rows_of-run.ensures) c.in-None.ensures.value))
+    (any_fails (λ (t : Timer). t.activity.0 == c.args.activity.0) c.self.inside.rows.rows
+    (none_first (λ (t : Timer). t.number.0) (λ (t : Timer). t.activity.0) (λ (e : Entry). e.key == c.args.activity.0) c.self.inside.rows.rows c.self.inside.by_activity.rows c.self.invariant.activities (sym c.in-None.ensures)))
 
 pub returns-in-Some-clause-first : goal.returns-in-Some-clause-first
 returns-in-Some-clause-first c =
     let a = c.args.activity.0 in
-    let first = some_first (λ (t : Timer). t.number.0) (λ (t : Timer). t.activity.0) timer_key (λ x. refl) (λ (e : Entry). e.key == a) c.self.inside.rows.items c.self.inside.by_activity.items _ _ c.self.invariant.rises c.self.invariant.activities (rw c.deref.ensures.value at c.rows_of-run.ensures) c.in-Some.ensures.value in
+    let first = some_first (λ (t : Timer). t.number.0) (λ (t : Timer). t.activity.0) timer_key (λ x. refl) (λ (e : Entry). e.key == a) c.self.inside.rows.rows c.self.inside.by_activity.rows _ c.self.invariant.rises c.self.invariant.activities (sym c.in-Some.ensures) in
     rw (← c.self.view_is) (ap (λ found. option_map_or (λ (t : Timer). t.activity.0 == a) found false) first.1 ∙ ap (λ n. n == a) first.2 ∙ first.3)
-
-pub returns-in-None-clause-rises : goal.returns-in-None-clause-rises
-returns-in-None-clause-rises c = rw (← c.self.view_is) (sym (timer_order c.self.inside.rows.items) ∙ c.self.invariant.rises)
-
-pub returns-in-Some-clause-rises : goal.returns-in-Some-clause-rises
-returns-in-Some-clause-rises c = rw (← c.self.view_is) (sym (timer_order c.self.inside.rows.items) ∙ c.self.invariant.rises)

@@ -19,9 +19,9 @@ ranks = record {
 
 pub returns : goal.returns
 returns c =
-    let rows = c.self.inside.rows.items in
-    let run = rw c.deref.ensures.value at c.entries_up_to-run.ensures in
-    let list = rw c.deref-2.ensures.value at c.list_of_all.ensures in
+    let rows = c.self.inside.rows.rows in
+    let run = c.rows_up_to-run.ensures in
+    let list = c.list_of_all.ensures in
     rw (← c.self.view_is)
     (IfOk-weaker c.list_of_all.result _ _ (λ all h. h ∙ ap (λ (run : List Entry). sorted occurrence_before (flat_map (fired_at rows c.args.to) run)) run
-    ∙ list_is c.args.to rows c.self.inside.by_moment.items c.self.invariant.rises c.self.invariant.moments ranks) list)
+    ∙ list_is c.args.to rows c.self.inside.by_moment.rows c.self.invariant.rises c.self.invariant.moments ranks) list)

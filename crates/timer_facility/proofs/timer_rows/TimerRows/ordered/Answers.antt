@@ -4,4 +4,4 @@ use Rattle.sorted_rows.proofs.AgreeLemmas.{timer_order}
 use Rattle.timer_facility.proofs.timer_rows.TimerRows.ordered.Goals as goal
 
 pub returns : goal.returns
-returns c = rw (← c.self.view_is) (sym (timer_order c.self.inside.rows.items) ∙ c.self.invariant.rises)
+returns c = rw (← c.self.view_is) (sym (timer_order c.self.inside.rows.rows) ∙ c.self.invariant.rises)

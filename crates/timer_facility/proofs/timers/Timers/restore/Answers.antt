@@ -1,7 +1,4 @@
 -- the timer stands in its place, and the other one of its number gives way
-use Rattle.std.proofs.Common.{ap, ◌∙◌}
-use Rattle.slee_state.specs.Orders.{put}
-use Rattle.slee_state.specs.Timers.{timer_at}
 use Rattle.slee_state.specs.declared.rows.Timer.{Timer}
 use Rattle.sorted_rows.proofs.NumberLemmas.{below_put}
 use Rattle.timer_facility.specs.Views.{timer_before}

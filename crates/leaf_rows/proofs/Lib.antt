@@ -1,0 +1,12 @@
+pub mod LastLemmas
+pub mod LeafLemmas
+pub mod NumberLemmas
+pub mod PartLemmas
+pub mod JoinLemmas
+pub mod BehindLemmas
+pub mod SplitLemmas
+pub mod FirstLemmas
+pub mod ShareLemmas
+pub mod RunLemmas
+pub mod CountLemmas
+pub mod ChangeLemmas

@@ -1,0 +1,14 @@
+-- the row stands among the rows that are left, behind so many of them
+use Rattle.std.proofs.Common.{◌≡◌, ◌<◌, length, slice_get}
+use Rattle.std.specs.List.{flat_map}
+use Rattle.leaf_rows.specs.Invariant.{leaf_rows}
+use Rattle.leaf_rows.proofs.reading.row_at.Given as goal
+
+abbrev pub invariant-leaves : goal.invariant-leaves
+invariant-leaves g l = record {
+  within : l.rest < length (flat_map (leaf_rows {Row = g.row.R.Denot}) l.left);
+  same : slice_get (flat_map (leaf_rows {Row = g.row.R.Denot}) l.left) l.rest ≡ slice_get (flat_map (leaf_rows {Row = g.row.R.Denot}) l.leaves) l.place;
+}
+
+abbrev pub decreases-leaves : goal.decreases-leaves
+decreases-leaves g l = length l.left

@@ -1,0 +1,93 @@
+//! Rows found in the leaf in which their key belongs.
+ghost use Rattle.std.specs.Prelude.{◌≡◌, ◌<◌, find, length, option_copied, slice_get, Some};
+ghost use Rattle.std.specs.List.{AllByRecursion, flat_map, list_any};
+ghost use Rattle.sorted_rows.specs.Keys.{Rises, is_key};
+ghost use Rattle.leaf_rows.specs.Invariant.{leaf_rows, HasRows, IsNumbered};
+ghost use Rattle.leaf_rows.specs.Shares.{is_in};
+
+use crate::leaf::Leaf;
+use crate::search::{leaf_of, start_in};
+use crate::share::{Share, first_in};
+use sorted_rows::Keyed;
+
+/// The row of this key.
+pub fn row_of<'a, R: Keyed>(
+    leaves: &'a [Leaf<R>],
+    first: u64,
+    second: u64,
+    text: &[u8],
+) -> Option<&'a R>
+    requires rises { Rises R.key (flat_map leaf_rows leaves.now) }
+    requires filled { AllByRecursion HasRows leaves.now }
+    requires numbered { AllByRecursion (IsNumbered R.key) leaves.now }
+    ensures { option_copied result ≡ find (λ row. is_key (R.key row) (record { first = first; second = second; text = text.now })) (flat_map leaf_rows leaves.now) }
+{
+    match leaf_of(leaves, first, second, text) {
+        Some(place) => {
+            let leaf = &leaves[place];
+            sorted_rows::row_of(leaf.rows.as_slice(), first, second, text)
+        }
+        None => None,
+    }
+}
+
+/// Whether there is a row of this key.
+pub fn has_row<R: Keyed>(leaves: &[Leaf<R>], first: u64, second: u64, text: &[u8]) -> bool
+    requires rises { Rises R.key (flat_map leaf_rows leaves.now) }
+    requires filled { AllByRecursion HasRows leaves.now }
+    requires numbered { AllByRecursion (IsNumbered R.key) leaves.now }
+    ensures { result ≡ list_any (λ row. is_key (R.key row) (record { first = first; second = second; text = text.now })) (flat_map leaf_rows leaves.now) }
+{
+    match leaf_of(leaves, first, second, text) {
+        Some(place) => {
+            let leaf = &leaves[place];
+            sorted_rows::has_row(leaf.rows.as_slice(), first, second, text)
+        }
+        None => false,
+    }
+}
+
+/// The first row of the share.
+pub fn first_row_of<R: Keyed>(leaves: &[Leaf<R>], share: Share) -> Option<&R>
+    requires rises { Rises R.key (flat_map leaf_rows leaves.now) }
+    requires filled { AllByRecursion HasRows leaves.now }
+    requires numbered { AllByRecursion (IsNumbered R.key) leaves.now }
+    ensures { option_copied result ≡ find (λ row. is_in share (R.key row)) (flat_map leaf_rows leaves.now) }
+{
+    let place = start_in(leaves, share);
+    if place < leaves.len() {
+        let leaf = &leaves[place];
+        first_in(leaf.rows.as_slice(), share)
+    } else {
+        None
+    }
+}
+
+/// Whether there is a row of the share.
+pub fn has_row_of<R: Keyed>(leaves: &[Leaf<R>], share: Share) -> bool
+    requires rises { Rises R.key (flat_map leaf_rows leaves.now) }
+    requires filled { AllByRecursion HasRows leaves.now }
+    requires numbered { AllByRecursion (IsNumbered R.key) leaves.now }
+    ensures { result ≡ list_any (λ row. is_in share (R.key row)) (flat_map leaf_rows leaves.now) }
+{
+    first_row_of(leaves, share).is_some()
+}
+
+/// The row at the place among all rows.
+pub fn row_at<R>(leaves: &[Leaf<R>], place: usize) -> &R
+    requires { place < length (flat_map leaf_rows leaves.now) }
+    ensures { slice_get (flat_map leaf_rows leaves.now) place ≡ Some result.now }
+{
+    let mut left = leaves;
+    let mut rest = place;
+    'leaves: while let Some((leaf, others)) = left.split_first() {
+        match leaf.rows.get(rest) {
+            Some(row) => return row,
+            None => {
+                rest -= leaf.rows.len();
+                left = others;
+            }
+        }
+    }
+    unreachable!()
+}
