@@ -10,3 +10,4 @@ pub mod ShareLemmas
 pub mod RunLemmas
 pub mod CountLemmas
 pub mod ChangeLemmas
+pub mod PlaceLemmas

@@ -1,6 +1,6 @@
 //! Leaves of rows, seen as one list.
 ghost use Rattle.std.specs.Prelude.{◌≡◌, ◌==◌, ◌+◌, ◌<◌, ◌≤◌, ◌||◌, if◌then◌else◌, [], IsTrue, OnOk, Some, filter, find, length, map, nat_eq, nat_le, nat_lt, not, option_copied, slice_get};
-ghost use Rattle.std.specs.List.{list_any};
+ghost use Rattle.std.specs.List.{list_any, position_from};
 ghost use Rattle.std.specs.Fn.{FnOnceReturnsAtMut};
 ghost use Rattle.slee_state.specs.Orders.{put};
 ghost use Rattle.sorted_rows.specs.Keys.{Rises, is_key, is_pair, key_before};
@@ -111,6 +111,13 @@ impl<R: Keyed + Drop> Leaves<R> {
         ensures { option_copied result ≡ find (λ row. is_key (R.key row) (record { first = first; second = second; text = text.now })) self.now.rows }
     {
         reading::row_of(self.leaves.as_slice(), first, second, text)
+    }
+
+    /// The place of the row of this key among all rows.
+    pub fn place_of(&self, first: u64, second: u64, text: &[u8]) -> Option<usize>
+        ensures { result ≡ position_from (λ row. is_key (R.key row) (record { first = first; second = second; text = text.now })) 0 self.now.rows }
+    {
+        reading::place_of(self.leaves.as_slice(), first, second, text)
     }
 
     /// Whether there is a row of this key.

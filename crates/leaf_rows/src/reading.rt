@@ -1,11 +1,12 @@
 //! Rows found in the leaf in which their key belongs.
-ghost use Rattle.std.specs.Prelude.{◌≡◌, ◌<◌, find, length, option_copied, slice_get, Some};
-ghost use Rattle.std.specs.List.{AllByRecursion, flat_map, list_any};
+ghost use Rattle.std.specs.Prelude.{◌≡◌, ◌^◌, ◌<◌, find, length, option_copied, slice_get, Some};
+ghost use Rattle.std.specs.List.{AllByRecursion, flat_map, list_any, position_from};
 ghost use Rattle.sorted_rows.specs.Keys.{Rises, is_key};
 ghost use Rattle.leaf_rows.specs.Invariant.{leaf_rows, HasRows, IsNumbered};
 ghost use Rattle.leaf_rows.specs.Shares.{is_in};
 
 use crate::leaf::Leaf;
+use crate::runs::rows_and_more;
 use crate::search::{leaf_of, start_in};
 use crate::share::{Share, first_in};
 use sorted_rows::Keyed;
@@ -44,6 +45,26 @@ pub fn has_row<R: Keyed>(leaves: &[Leaf<R>], first: u64, second: u64, text: &[u8
             sorted_rows::has_row(leaf.rows.as_slice(), first, second, text)
         }
         None => false,
+    }
+}
+
+/// The place of the row of this key among all rows.
+pub fn place_of<R: Keyed>(leaves: &[Leaf<R>], first: u64, second: u64, text: &[u8]) -> Option<usize>
+    requires rises { Rises R.key (flat_map leaf_rows leaves.now) }
+    requires filled { AllByRecursion HasRows leaves.now }
+    requires numbered { AllByRecursion (IsNumbered R.key) leaves.now }
+    requires bounded { length (flat_map leaf_rows leaves.now) < 2 ^ 64 }
+    ensures { result ≡ position_from (λ row. is_key (R.key row) (record { first = first; second = second; text = text.now })) 0 (flat_map leaf_rows leaves.now) }
+{
+    match leaf_of(leaves, first, second, text) {
+        Some(place) => {
+            let leaf = &leaves[place];
+            match sorted_rows::place_of(leaf.rows.as_slice(), first, second, text) {
+                Some(inner) => Some(rows_and_more(&leaves[..place], inner)),
+                None => None,
+            }
+        }
+        None => None,
     }
 }
 
