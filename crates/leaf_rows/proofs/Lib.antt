@@ -11,3 +11,4 @@ pub mod RunLemmas
 pub mod CountLemmas
 pub mod ChangeLemmas
 pub mod PlaceLemmas
+pub mod LengthLemmas

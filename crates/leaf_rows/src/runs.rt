@@ -83,8 +83,8 @@ impl<'a, R> Run<'a, R> {
     }
 }
 
-/// How many rows the leaves have, with so many more. It counts no further than `usize::MAX`.
-pub fn rows_and_more<R>(leaves: &[Leaf<R>], more: usize) -> usize
+/// How many rows the leaves have, with so many more.
+fn rows_and_more<R>(leaves: &[Leaf<R>], more: usize) -> usize
     ensures { result ≡ min (length (flat_map leaf_rows leaves.now) + more) (2 ^ 64 - 1) }
 {
     let mut left = leaves;

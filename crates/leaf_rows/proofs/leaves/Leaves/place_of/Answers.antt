@@ -2,5 +2,5 @@
 use Rattle.std.proofs.Common.{arith}
 use Rattle.leaf_rows.proofs.leaves.Leaves.place_of.Goals as goal
 
-pub place_of-requires-clause-bounded : goal.place_of-requires-clause-bounded
-place_of-requires-clause-bounded g c = rw c.as_slice.ensures.value (omega (arith, c.self.invariant.counted, c.self.invariant.bounded))
+pub place_of-requires-clause-fits : goal.place_of-requires-clause-fits
+place_of-requires-clause-fits g c = rw c.as_slice.ensures.value (omega (arith, c.self.invariant.counted, c.self.invariant.bounded))
