@@ -93,6 +93,16 @@ module _ {Heap : Type 0} where
   level_added numbers [] level right are = (are, tt)
   level_added numbers (first ∷ above) level right are = (right.0, level_added first.items above level right.1 are)
 
+module _ {Heap : Type 0} where
+  -- the level at the top has the sums of the one below it
+  pub level_gone : (numbers : List ℕ) (levels : List (Vec ℕ Heap)) (level : Vec ℕ Heap) → AreLevels numbers (levels ++ level ∷ []) → AreLevels numbers levels × AreSums (top_of numbers levels) level.items
+  level_gone numbers [] level right = (tt, right.0)
+  level_gone numbers (first ∷ above) level right = let rest = level_gone first.items above level right.1 in ((right.0, rest.0), rest.1)
+
+  pub top_added : (numbers : List ℕ) (levels : List (Vec ℕ Heap)) (level : Vec ℕ Heap) → top_of numbers (levels ++ level ∷ []) ≡ level.items
+  top_added numbers [] level = refl
+  top_added numbers (first ∷ above) level = top_added first.items above level
+
 -- levels lent out as a whole come back as they are then
 pub lent_back : {X : Type 0} (n : ℕ) (new old lent : List X) → lent ≡ old → length new ≡ length lent → n ≡ length old → take n (new ++ drop (length new) old) ≡ new
 lent_back n new old lent is same all = take_at new (drop (length new) old) n (same ∙ ap length is ∙ sym all)

@@ -71,6 +71,9 @@ impl Counts {
         ensures places { self.new.places ≡ self.old.places }
     {
         let before = self.numbers[place];
+        if before == number {
+            return;
+        }
         self.numbers[place] = number;
         levels::replace_above(
             self.numbers.as_slice(),

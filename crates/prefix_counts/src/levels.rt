@@ -30,13 +30,16 @@ pub fn place_in(numbers: &[usize], levels: &[Vec<usize>], rank: usize) -> (usize
     ensures within { result.0 < length numbers.now }
     ensures inner { result.1 < slice_index numbers.now result.0 }
 {
-    match levels.split_first() {
-        Some((level, above)) => {
-            let (block, rest) = place_in(level.as_slice(), above, rank);
-            place_from(numbers, block * BLOCK, rest)
-        }
-        None => place_from(numbers, 0, rank),
+    let mut left = levels;
+    let mut start = 0;
+    let mut rest = rank;
+    'levels: while let Some((level, below)) = left.split_last() {
+        let (block, inner) = place_from(level.as_slice(), start, rest);
+        start = block * BLOCK;
+        rest = inner;
+        left = below;
     }
+    place_from(numbers, start, rest)
 }
 
 /// One number gives way to another one in the sum at the place, which is handed out as it was.
