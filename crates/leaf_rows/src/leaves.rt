@@ -5,6 +5,7 @@ ghost use Rattle.std.specs.Fn.{FnOnceReturnsAtMut};
 ghost use Rattle.slee_state.specs.Orders.{put};
 ghost use Rattle.sorted_rows.specs.Keys.{Rises, is_key, is_pair, key_before};
 ghost use Rattle.sorted_rows.specs.Runs.{without_first};
+ghost use Rattle.leaf_rows.specs.Shares.{is_in};
 
 use crate::behind::row_behind;
 use crate::changing::change_in;
@@ -282,9 +283,9 @@ impl<R: Keyed + Drop> Leaves<R> {
         Some(row)
     }
 
-    /// The rows of this first number are gone.
-    pub fn cut_rows_of(&mut self, first: u64)
-        ensures rows { self.new.rows ≡ filter (λ row. not ((R.key row).first == first)) self.old.rows }
+    /// The rows of the share are gone.
+    fn cut_rows_in(&mut self, share: Share)
+        ensures rows { self.new.rows ≡ filter (λ row. not (is_in share (R.key row))) self.old.rows }
         ensures rises { Rises R.key self.new.rows }
         ensures room { self.old.room ≤ self.new.room }
         ensures whole { self.new.room + length self.new.rows ≡ self.old.room + length self.old.rows }
@@ -294,10 +295,20 @@ impl<R: Keyed + Drop> Leaves<R> {
             &mut self.leaves,
             &mut self.spares,
             &mut self.counts,
-            Share::First(first),
+            share,
             before,
         );
         self.room += before - self.count;
+    }
+
+    /// The rows of this first number are gone.
+    pub fn cut_rows_of(&mut self, first: u64)
+        ensures rows { self.new.rows ≡ filter (λ row. not ((R.key row).first == first)) self.old.rows }
+        ensures rises { Rises R.key self.new.rows }
+        ensures room { self.old.room ≤ self.new.room }
+        ensures whole { self.new.room + length self.new.rows ≡ self.old.room + length self.old.rows }
+    {
+        self.cut_rows_in(Share::First(first));
     }
 
     /// The rows of this pair of numbers are gone.
@@ -307,14 +318,6 @@ impl<R: Keyed + Drop> Leaves<R> {
         ensures room { self.old.room ≤ self.new.room }
         ensures whole { self.new.room + length self.new.rows ≡ self.old.room + length self.old.rows }
     {
-        let before = self.count;
-        self.count = cut_share(
-            &mut self.leaves,
-            &mut self.spares,
-            &mut self.counts,
-            Share::Pair(first, second),
-            before,
-        );
-        self.room += before - self.count;
+        self.cut_rows_in(Share::Pair(first, second));
     }
 }
