@@ -1,4 +1,4 @@
-//! The order of entities by their paths, without the paths: both are followed up until they meet.
+//! The order of entities by their paths, without the paths: both are followed up from one depth until they meet.
 ghost use Rattle.std.specs.Prelude.{◌≡◌, ◌+◌, ◌-◌, ◌≤◌, ◌==◌, false, Some, length, IsTrue};
 ghost use Rattle.std.specs.Ordering.{is_lt, is_gt, is_eq};
 ghost use Rattle.slee_state.specs.Paths.{step_before, path_before};
@@ -6,7 +6,9 @@ ghost use Rattle.slee_state.specs.Trees.{entity_at};
 ghost use Rattle.slee_state.specs.declared.rows.Entity.{Entity};
 ghost use Rattle.entity_tree.specs.Kept.{AreParents, is_entity, parent_at};
 ghost use Rattle.entity_tree.specs.Climbing.{BeginsWith, path_at, step_of};
+ghost use Rattle.entity_tree.specs.Depths.{AreDepths};
 
+use crate::depths::{Depth, depth_of};
 use crate::reading::{entity_in, parent_at};
 use leaf_rows::Leaves;
 use slee_state::Entity;
@@ -17,21 +19,6 @@ fn is_entity(rows: &Leaves<Entity>, entity: EntityId) -> bool
     ensures { result ≡ is_entity rows.now.rows entity.0 }
 {
     entity_in(rows, entity).is_some()
-}
-
-/// How many entities stand on the path of this one, with itself.
-#[tactic(auto, using(crate::proofs::PathLemmas::up_length, crate::proofs::PathLemmas::there_length, crate::proofs::PathLemmas::path_low, crate::proofs::ClimbLemmas::gone_length))]
-fn depth(rows: &Leaves<Entity>, entity: EntityId) -> usize
-    requires parents { AreParents rows.now.rows }
-    ensures { result ≡ length (path_at rows.now.rows entity.0) }
-{
-    let mut top = entity;
-    let mut steps = 0;
-    'up: while is_entity(rows, top) {
-        top = parent_at(rows, top);
-        steps += 1;
-    }
-    steps
 }
 
 /// The entity that stands so many steps above.
@@ -121,13 +108,19 @@ fn compare_deeper(rows: &Leaves<Entity>, one: EntityId, other: EntityId, steps: 
 }
 
 /// Two entities by their paths. One that isn't there has no steps on its path, and comes first.
-pub fn compare(rows: &Leaves<Entity>, one: EntityId, other: EntityId) -> Ordering
+pub fn compare(
+    rows: &Leaves<Entity>,
+    depths: &Leaves<Depth>,
+    one: EntityId,
+    other: EntityId,
+) -> Ordering
     requires parents { AreParents rows.now.rows }
+    requires depths { AreDepths rows.now.rows depths.now.rows }
     ensures less { is_lt result ≡ path_before (path_at rows.now.rows one.0) (path_at rows.now.rows other.0) }
     ensures greater { is_gt result ≡ path_before (path_at rows.now.rows other.0) (path_at rows.now.rows one.0) }
 {
-    let depth_of_one = depth(rows, one);
-    let depth_of_other = depth(rows, other);
+    let depth_of_one = depth_of(depths, one);
+    let depth_of_other = depth_of(depths, other);
     if depth_of_one == 0 || depth_of_other == 0 {
         return depth_of_one.cmp(&depth_of_other);
     }
