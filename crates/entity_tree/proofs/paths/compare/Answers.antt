@@ -1,10 +1,9 @@
 -- where one of the two isn't there, they come as their depths do
-use Rattle.std.proofs.Common.{◌≡◌, ◌<◌, length, ◌∙◌, arith}
+use Rattle.std.proofs.Common.{◌≡◌, length, ◌∙◌, arith}
 use Rattle.std.specs.Ordering.{nat_cmp}
 use Rattle.std.proofs.lemmas.Bool.Decides.{nat_tests}
 use Rattle.entity_tree.specs.Climbing.{path_at}
 use Rattle.entity_tree.proofs.ClimbLemmas.{bare_first, bare_second}
-use Rattle.entity_tree.proofs.PathLemmas.{length_there}
 use Rattle.entity_tree.proofs.paths.compare.Goals.{then-depth_of_one-eq0-via-then-depth_of_one-eq0, then-depth_of_one-eq0-via-else-depth_of_one-eq0+then-depth_of_other-eq0}
 use Rattle.entity_tree.proofs.paths.compare.Goals as goal
 
@@ -31,13 +30,3 @@ returns-then-depth_of_one-eq0-clause-greater c =
       | then-depth_of_one-eq0-via-then-depth_of_one-eq0 w ↦ let none : length p ≡ 0 = grind (arith, nat_tests, w.if-depth_of_one-eq0.true, long) in (bare_first p q c.cmp.result none compared).1
       | then-depth_of_one-eq0-via-else-depth_of_one-eq0+then-depth_of_other-eq0 w ↦ let none : length q ≡ 0 = grind (arith, nat_tests, w.if-depth_of_other-eq0.true, wide) in (bare_second p q c.cmp.result none compared).1
     ]
-
-pub compare_deeper-requires-clause-there : goal.compare_deeper-requires-clause-there
-compare_deeper-requires-clause-there c =
-    let long : 0 < length (path_at c.args.rows.now.rows c.args.one.0) = grind (arith, nat_tests, c.if-depth_of_one-eq0.false, c.depth_of-depth_of_one.ensures, c.requires.depths c.args.one.0) in
-    length_there c.args.rows.now.rows c.requires.parents c.args.one.0 long
-
-pub compare_deeper-requires-else-depth_of_one-depth_of_other-clause-there : goal.compare_deeper-requires-else-depth_of_one-depth_of_other-clause-there
-compare_deeper-requires-else-depth_of_one-depth_of_other-clause-there c =
-    let long : 0 < length (path_at c.args.rows.now.rows c.args.other.0) = grind (arith, nat_tests, c.if-depth_of_other-eq0.false, c.depth_of-depth_of_other.ensures, c.requires.depths c.args.other.0) in
-    length_there c.args.rows.now.rows c.requires.parents c.args.other.0 long
