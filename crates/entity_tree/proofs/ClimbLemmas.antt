@@ -1,7 +1,7 @@
 -- Two entities that are followed up as far as each other part where one path stands above both.
 use Rattle.std.proofs.Common.{Less, Equal, Greater, ◌≡◌, ℕ, ℤ, ◌-◌, ◌<◌, ◌≤◌, ◌==◌, Bool, true, false, ◌||◌, List, [], ◌∷◌, ◌++◌, Some, length, refl, sym, ap, subst, ◌∙◌, arith}
 use Rattle.std.specs.Prelude.{is_some, nat_lt}
-use Rattle.std.specs.Ordering.{is_lt, is_eq, is_gt, nat_cmp, ordering_reverse}
+use Rattle.std.specs.Ordering.{is_lt, is_eq, is_gt, nat_cmp}
 use Rattle.std.specs.declared.cmp.Ordering.{Ordering}
 use Rattle.std.proofs.lemmas.Bool.Decides.{nat_tests}
 use Rattle.slee_state.specs.declared.rows.Entity.{Entity}
@@ -49,16 +49,6 @@ module _ (rows : List Entity) (parents : AreParents rows) where
       let from_x = subst (BeginsWith (path_at rows one)) (path_step rows parents x.number.0 x there) begins in
       let from_y = subst (BeginsWith (path_at rows other)) step_y also in
       says ∙ sym (parted (path_at rows (parent_of x)) (step_of x) (step_of y) (path_at rows one) (path_at rows other) from_x from_y apart)
-
-pub reversed_less : (o : Ordering) → is_lt (ordering_reverse o) ≡ is_gt o
-reversed_less Less = refl
-reversed_less Equal = refl
-reversed_less Greater = refl
-
-pub reversed_greater : (o : Ordering) → is_gt (ordering_reverse o) ≡ is_lt o
-reversed_greater Less = refl
-reversed_greater Equal = refl
-reversed_greater Greater = refl
 
 -- what isn't equal is less or greater
 pub decided : (o : Ordering) → is_eq o ≡ false → (is_lt o || is_gt o) ≡ true

@@ -1,5 +1,5 @@
 -- The path of an entity is that of its parent and one step more.
-use Rattle.std.proofs.Common.{◌≡◌, ℕ, zero, suc, ℤ, ◌+◌, ◌-◌, ◌<◌, ◌≤◌, ◌==◌, true, false, List, [], ◌∷◌, ◌++◌, Option, Some, None, length, refl, ap, subst, arith, inl, inr, length-append}
+use Rattle.std.proofs.Common.{◌≡◌, ℕ, zero, suc, ℤ, ◌+◌, ◌-◌, ◌<◌, ◌≤◌, ◌==◌, true, List, [], ◌∷◌, ◌++◌, Option, Some, None, length, refl, ap, subst, arith, inl, inr, length-append}
 use Rattle.std.specs.Prelude.{nat_le, is_some, if◌then◌else◌}
 use Rattle.std.specs.Option.{option_map_or}
 use Rattle.std.proofs.lemmas.Bool.{cases_Bool}
@@ -109,14 +109,7 @@ module _ (rows : List Entity) (parents : AreParents rows) where
   pub up_length : (e : ℕ) (row : Entity) → entity_at rows e ≡ Some row → length (path_at rows (parent_of row)) ≡ length (path_at rows e) - 1
   up_length e row is = let long = ap length (path_step e row is) in omega (arith, long, length-append (path_at rows (parent_of row)) (step_of row ∷ []))
 
-  -- an entity that is there has a path, and no other number has one
-  pub there_length : (e : ℕ) → is_some (entity_at rows e) ≡ true → 0 < length (path_at rows e)
-  there_length e there = by (entity_at rows e) refl
-    where
-      by : (found : Option Entity) → entity_at rows e ≡ found → 0 < length (path_at rows e)
-      by None is = let wrong : false ≡ true = rw is at there in absurd (cc)
-      by (Some row) is = rw (path_step e row is) (omega (arith, length-append (path_at rows (parent_of row)) (step_of row ∷ [])))
-
+  -- what has a path is there
   pub length_there : (e : ℕ) → 0 < length (path_at rows e) → is_some (entity_at rows e) ≡ true
   length_there e long = by (entity_at rows e) refl
     where

@@ -1,5 +1,5 @@
 -- Depths are counted anew from parent to child: those of the entities gone through are right.
-use Rattle.std.proofs.Common.{◌≡◌, ℕ, ◌+◌, ◌==◌, true, false, List, [], ◌∷◌, Some, None, length, refl, sym, ap, subst, ◌∙◌, arith, inl, inr}
+use Rattle.std.proofs.Common.{◌≡◌, ℕ, ◌+◌, ◌==◌, true, false, List, ◌∷◌, Some, None, length, sym, ap, subst, ◌∙◌, arith, inl, inr}
 use Rattle.std.specs.Prelude.{is_some, nat_lt}
 use Rattle.std.specs.List.{AllByRecursion}
 use Rattle.std.proofs.lemmas.Bool.{cases_Bool}
@@ -11,7 +11,7 @@ use Rattle.sorted_rows.proofs.OrderLemmas.{AllInOrder, IsBefore, all_from_all, i
 use Rattle.entity_tree.specs.declared.depths.Depth.{Depth}
 use Rattle.entity_tree.specs.Kept.{AreParents, is_entity}
 use Rattle.entity_tree.specs.Climbing.{path_at}
-use Rattle.entity_tree.specs.Depths.{AreDepths, HasDepths, depth_at, with_steps}
+use Rattle.entity_tree.specs.Depths.{HasDepths, depth_at, with_steps}
 use Rattle.entity_tree.proofs.RowLemmas.{each_found, none_there}
 use Rattle.entity_tree.proofs.PathLemmas.{no_path}
 use Rattle.entity_tree.proofs.DepthLemmas.{next_right, set_other, set_own}
@@ -71,6 +71,3 @@ goes_on rows rest row depths more parents settled is = record {
 
     others : (e : ℕ) → (row.number.0 == e) ≡ false → depth_at more e ≡ depth_at depths e
     others e apart = ap (λ all. depth_at all e) is ∙ set_other row.number.0 e (depth_at depths (parent_of row) + 1) depths apart
-
-pub settled_depths : (rows : List Entity) (depths : List Depth) → IsSettled rows [] depths → AreDepths rows depths
-settled_depths rows depths settled e = settled.right e refl
