@@ -125,7 +125,7 @@ impl Tree {
         self.create(block, Stem::Child(parent, relation), priority)
     }
 
-    /// Puts an entity of a snapshot back under its number.
+    /// Puts an entity of a snapshot back under its number. One that comes behind its children costs a way over all entities, since their depths are counted anew.
     pub fn restore(&mut self, item: Entity)
         requires room { 0 < self.old.room }
         requires absent { entity_at self.old.rows item.number.0 ≡ None }
