@@ -1,5 +1,5 @@
 -- Two entities that are followed up as far as each other part where one path stands above both.
-use Rattle.std.proofs.Common.{Less, Equal, Greater, ◌≡◌, ℕ, ℤ, ◌-◌, ◌<◌, ◌≤◌, ◌==◌, Bool, true, false, ◌||◌, List, [], ◌∷◌, ◌++◌, Some, length, refl, sym, ap, subst, ◌∙◌, arith}
+use Rattle.std.proofs.Common.{Less, Equal, Greater, ◌≡◌, ℕ, ℤ, ◌-◌, ◌<◌, ◌≤◌, ◌==◌, Bool, true, false, ◌||◌, List, [], ◌∷◌, ◌++◌, Some, length, refl, sym, ap, subst, ◌∙◌, arith, Option, None}
 use Rattle.std.specs.Prelude.{is_some, nat_lt}
 use Rattle.std.specs.Ordering.{is_lt, is_eq, is_gt, nat_cmp}
 use Rattle.std.specs.declared.cmp.Ordering.{Ordering}
@@ -12,6 +12,13 @@ use Rattle.entity_tree.specs.Climbing.{BeginsWith, path_at, step_of}
 use Rattle.entity_tree.proofs.RowLemmas.{found_number}
 use Rattle.entity_tree.proofs.PathLemmas.{begins_itself, length_there, path_step, up_begins, up_length}
 use Rattle.entity_tree.proofs.OrderLemmas.{longer, parted, upper_not_after}
+
+pub found_there : (rows : List Entity) (e : ℕ) → is_some (entity_at rows e) ≡ true → (x : Entity) × (entity_at rows e ≡ Some x)
+found_there rows e there = by (entity_at rows e) refl
+  where
+    by : (found : Option Entity) → entity_at rows e ≡ found → (x : Entity) × (entity_at rows e ≡ Some x)
+    by None is = absurd (let wrong : false ≡ true = rw is at there in cc)
+    by (Some x) is = (x, is)
 
 none_long : (p : List (ℤ × ℕ)) → length p ≡ 0 → p ≡ []
 none_long [] none = refl
