@@ -7,7 +7,6 @@ use entity_tree::Tree;
 use slee_state::{Entity, Stem};
 use slee_value::{EntityId, Name, NoMemory};
 use std::alloc::Global;
-use std::cmp::Ordering;
 use std::test::Fail;
 
 // How many entities the tests make at the most.
@@ -25,32 +24,6 @@ fn add_child(tree: &mut Tree, alloc: Global, parent: u64, relation: &str) -> Res
         tree.create_child(EntityId(parent), relation, 4, 0);
     }
     Ok(())
-}
-
-// Room is made for a root, and then it is there.
-fn add_root(tree: &mut Tree) -> Result<(), NoMemory> {
-    tree.reserve(1)?;
-    if tree.next_number() < MANY {
-        tree.create_root(3, 8, 0);
-    }
-    Ok(())
-}
-
-// The root 1 has 2 below it, 2 has 3, 3 has 4, and 4 has 5; the root 6 stands alone.
-fn deep(alloc: Global) -> Result<Tree, NoMemory> {
-    let mut tree = Tree::new(alloc);
-    add_root(&mut tree)?;
-    for parent in 1..5 {
-        add_child(&mut tree, alloc, parent, "legs")?;
-    }
-    add_root(&mut tree)?;
-    Ok(tree)
-}
-
-// So the two entities are ordered, and the other way round the other way.
-fn are_ordered(tree: &Tree, one: u64, other: u64, order: Ordering) -> bool {
-    tree.compare(EntityId(one), EntityId(other)) == order
-        && tree.compare(EntityId(other), EntityId(one)) == order.reverse()
 }
 
 // The root 1 has 2 and 3 under legs, and 5 under notes; 2 has 4 under legs.
@@ -172,79 +145,5 @@ fn a_snapshot_puts_entities_back(rt: HostRuntime) -> Result<(), Fail> {
     assert_eq!(rt; tree.next_number(), 20);
     assert_eq!(rt; tree.len(), 4);
     assert_eq!(rt; tree.at(0).number, EntityId(5));
-    Ok(())
-}
-
-#[test]
-fn entities_of_different_depths_are_ordered_by_their_paths(rt: HostRuntime) -> Result<(), Fail> {
-    let alloc = rt.alloc();
-    let mut tree = deep(alloc)?;
-    for (one, other, order) in [
-        (1, 5, Ordering::Less),
-        (3, 5, Ordering::Less),
-        (5, 5, Ordering::Equal),
-        (5, 6, Ordering::Less),
-        (1, 6, Ordering::Less),
-        (9, 1, Ordering::Less),
-        (9, 5, Ordering::Less),
-        (9, 10, Ordering::Equal),
-    ] {
-        assert!(rt; are_ordered(&tree, one, other, order));
-    }
-    tree.set_priority(EntityId(6), 1);
-    tree.set_priority(EntityId(5), 2);
-    for (one, other, order) in [
-        (6, 1, Ordering::Less),
-        (6, 5, Ordering::Less),
-        (4, 5, Ordering::Less),
-    ] {
-        assert!(rt; are_ordered(&tree, one, other, order));
-    }
-    Ok(())
-}
-
-#[test]
-fn a_tree_made_anew_is_ordered_by_its_own_paths(rt: HostRuntime) -> Result<(), Fail> {
-    let alloc = rt.alloc();
-    let mut tree = deep(alloc)?;
-    for entity in order(&tree, alloc, 1)? {
-        remove(&mut tree, entity);
-    }
-    add_child(&mut tree, alloc, 6, "legs")?;
-    add_root(&mut tree)?;
-    add_child(&mut tree, alloc, 8, "legs")?;
-    for (one, other, order) in [
-        (5, 6, Ordering::Less),
-        (5, 1, Ordering::Equal),
-        (6, 7, Ordering::Less),
-        (7, 8, Ordering::Less),
-        (7, 9, Ordering::Less),
-        (8, 9, Ordering::Less),
-    ] {
-        assert!(rt; are_ordered(&tree, one, other, order));
-    }
-    Ok(())
-}
-
-#[test]
-fn a_child_put_back_before_its_parent_gets_its_depth(rt: HostRuntime) -> Result<(), Fail> {
-    let alloc = rt.alloc();
-    let mut tree = Tree::new(alloc);
-    tree.set_next(20);
-    for (number, parent) in [(12, 7), (9, 5), (15, 12), (5, 0)] {
-        restore(&mut tree, number, stem(parent, name(alloc, "legs")?))?;
-    }
-    assert!(rt; are_ordered(&tree, 5, 9, Ordering::Less));
-    assert!(rt; are_ordered(&tree, 9, 12, Ordering::Less));
-    restore(&mut tree, 7, stem(5, name(alloc, "legs")?))?;
-    for (one, other, order) in [
-        (7, 12, Ordering::Less),
-        (12, 9, Ordering::Less),
-        (15, 9, Ordering::Less),
-        (12, 15, Ordering::Less),
-        (5, 15, Ordering::Less),
-    ] {
-        assert!(rt; are_ordered(&tree, one, other, order));
-    }
     Ok(())
 }
