@@ -1,16 +1,16 @@
 -- Two entities that are followed up as far as each other part where one path stands above both.
-use Rattle.std.proofs.Common.{Less, Equal, Greater, ◌≡◌, ℕ, ℤ, ◌-◌, ◌<◌, ◌==◌, Bool, true, false, ◌||◌, List, [], ◌∷◌, ◌++◌, Option, Some, None, length, refl, sym, ap, subst, ◌∙◌, arith}
+use Rattle.std.proofs.Common.{Less, Equal, Greater, ◌≡◌, ℕ, ℤ, ◌-◌, ◌<◌, ◌≤◌, ◌==◌, Bool, true, false, ◌||◌, List, [], ◌∷◌, ◌++◌, Some, length, refl, sym, ap, subst, ◌∙◌, arith, Option, None}
 use Rattle.std.specs.Prelude.{is_some, nat_lt}
-use Rattle.std.specs.Ordering.{is_lt, is_eq, is_gt, nat_cmp, ordering_reverse}
+use Rattle.std.specs.Ordering.{is_lt, is_eq, is_gt, nat_cmp}
 use Rattle.std.specs.declared.cmp.Ordering.{Ordering}
 use Rattle.std.proofs.lemmas.Bool.Decides.{nat_tests}
 use Rattle.slee_state.specs.declared.rows.Entity.{Entity}
 use Rattle.slee_state.specs.Trees.{entity_at, parent_of}
 use Rattle.slee_state.specs.Paths.{step_before, path_before}
-use Rattle.entity_tree.specs.Kept.{AreParents, parent_at}
+use Rattle.entity_tree.specs.Kept.{AreParents}
 use Rattle.entity_tree.specs.Climbing.{BeginsWith, path_at, step_of}
 use Rattle.entity_tree.proofs.RowLemmas.{found_number}
-use Rattle.entity_tree.proofs.PathLemmas.{begins_itself, length_there, no_path, path_step, there_length, up_begins, up_length}
+use Rattle.entity_tree.proofs.PathLemmas.{begins_itself, length_there, path_step, up_begins, up_length}
 use Rattle.entity_tree.proofs.OrderLemmas.{longer, parted, upper_not_after}
 
 pub found_there : (rows : List Entity) (e : ℕ) → is_some (entity_at rows e) ≡ true → (x : Entity) × (entity_at rows e ≡ Some x)
@@ -20,83 +20,42 @@ found_there rows e there = by (entity_at rows e) refl
     by None is = absurd (let wrong : false ≡ true = rw is at there in cc)
     by (Some x) is = (x, is)
 
-not_there : (rows : List Entity) (e : ℕ) → is_some (entity_at rows e) ≡ false → entity_at rows e ≡ None
-not_there rows e none = by (entity_at rows e) refl
-  where
-    by : (found : Option Entity) → entity_at rows e ≡ found → entity_at rows e ≡ None
-    by None is = is
-    by (Some x) is = absurd (let wrong : true ≡ false = rw is at none in cc)
-
 none_long : (p : List (ℤ × ℕ)) → length p ≡ 0 → p ≡ []
 none_long [] none = refl
 none_long (x ∷ p) none = absurd (omega (arith, none))
 
 module _ (rows : List Entity) (parents : AreParents rows) where
-  pub gone_length : (e : ℕ) → is_some (entity_at rows e) ≡ false → length (path_at rows e) ≡ 0
-  gone_length e none = ap length (no_path rows parents e (not_there rows e none))
+  pub found_itself : (e : ℕ) (row : Entity) → entity_at rows e ≡ Some row → entity_at rows row.number.0 ≡ Some row
+  found_itself e row is = subst (λ n. entity_at rows n ≡ Some row) (sym (found_number e row rows is)) is
 
-  -- where the one has no parent, neither has the other
-  pub none_above : (left right : ℕ) → length (path_at rows left) ≡ length (path_at rows right) → is_some (entity_at rows (parent_at rows left)) ≡ false
-      → path_at rows (parent_at rows left) ≡ path_at rows (parent_at rows right)
-  none_above left right level none =
-      let bare = no_path rows parents (parent_at rows left) (not_there rows (parent_at rows left) none) in
-      let one = up_length rows parents left in
-      let other = up_length rows parents right in
-      let short : length (path_at rows (parent_at rows left)) ≡ 0 = ap length bare in
-      let also : length (path_at rows (parent_at rows right)) ≡ 0 = omega (arith, one, other, level, short) in
-      bare ∙ sym (none_long (path_at rows (parent_at rows right)) also)
-
-  pub level_there : (left right : ℕ) → length (path_at rows left) ≡ length (path_at rows right) → is_some (entity_at rows left) ≡ true → is_some (entity_at rows right) ≡ true
-  level_there left right level there =
-      let long = there_length rows parents left there in
-      length_there rows parents right (omega (arith, long, level))
+  -- an entity with more than one step on its path has a parent
+  pub parent_there : (x : Entity) → entity_at rows x.number.0 ≡ Some x → 1 < length (path_at rows x.number.0) → is_some (entity_at rows (parent_of x)) ≡ true
+  parent_there x there long = let less = up_length rows parents x.number.0 x there in length_there rows parents (parent_of x) (omega (arith, less, long))
 
   -- one step up
-  pub closer : (e over : ℕ) → over ≡ parent_at rows e → is_some (entity_at rows e) ≡ true → length (path_at rows over) < length (path_at rows e)
-  closer e over is there =
-      let less = up_length rows parents e in
-      let long = there_length rows parents e there in
-      let same : length (path_at rows over) ≡ length (path_at rows (parent_at rows e)) = ap (λ n. length (path_at rows n)) is in
-      omega (arith, less, long, same)
+  pub over_length : (x over : Entity) → entity_at rows x.number.0 ≡ Some x → entity_at rows (parent_of x) ≡ Some over → length (path_at rows over.number.0) ≡ length (path_at rows x.number.0) - 1
+  over_length x over there is = ap (λ n. length (path_at rows n)) (found_number (parent_of x) over rows is) ∙ up_length rows parents x.number.0 x there
 
-  pub begins_over : (e over : ℕ) (whole : List (ℤ × ℕ)) → over ≡ parent_at rows e → BeginsWith whole (path_at rows e) → BeginsWith whole (path_at rows over)
-  begins_over e over whole is begins = subst (λ n. BeginsWith whole (path_at rows n)) (sym is) (up_begins rows parents e whole begins)
+  pub over_begins : (x over : Entity) (whole : List (ℤ × ℕ)) → entity_at rows x.number.0 ≡ Some x → entity_at rows (parent_of x) ≡ Some over → BeginsWith whole (path_at rows x.number.0) → BeginsWith whole (path_at rows over.number.0)
+  over_begins x over whole there is begins = subst (λ n. BeginsWith whole (path_at rows n)) (sym (found_number (parent_of x) over rows is)) (up_begins rows parents x.number.0 x whole there begins)
 
-  pub level_over : (e f over also : ℕ) → over ≡ parent_at rows e → also ≡ parent_at rows f → length (path_at rows e) ≡ length (path_at rows f) → length (path_at rows over) ≡ length (path_at rows also)
-  level_over e f over also one other level =
-      let first = up_length rows parents e in
-      let second = up_length rows parents f in
-      ap (λ n. length (path_at rows n)) one ∙ first ∙ ap (λ n. n - 1) level ∙ sym second ∙ sym (ap (λ n. length (path_at rows n)) other)
+  -- nothing stands above the first step of two paths
+  pub none_above : (x y : Entity) (steps : ℕ) → entity_at rows x.number.0 ≡ Some x → entity_at rows y.number.0 ≡ Some y → length (path_at rows x.number.0) ≡ steps → length (path_at rows y.number.0) ≡ steps → steps ≤ 1
+      → path_at rows (parent_of x) ≡ path_at rows (parent_of y)
+  none_above x y steps there too one other few =
+      let less = up_length rows parents x.number.0 x there in
+      let also = up_length rows parents y.number.0 y too in
+      none_long (path_at rows (parent_of x)) (omega (arith, less, one, few)) ∙ sym (none_long (path_at rows (parent_of y)) (omega (arith, also, other, few)))
 
   -- the two paths come as their steps below the one path do
-  pub parts : (one other left right : ℕ) (b : Bool) → BeginsWith (path_at rows one) (path_at rows left) → BeginsWith (path_at rows other) (path_at rows right) → (left == right) ≡ false
-      → is_some (entity_at rows left) ≡ true → is_some (entity_at rows right) ≡ true → path_at rows (parent_at rows left) ≡ path_at rows (parent_at rows right)
-      → ((x y : Entity) → entity_at rows left ≡ Some x → entity_at rows right ≡ Some y → b ≡ step_before (step_of x) (step_of y))
+  pub parts : (one other : ℕ) (x y : Entity) (b : Bool) → BeginsWith (path_at rows one) (path_at rows x.number.0) → BeginsWith (path_at rows other) (path_at rows y.number.0) → (x.number.0 == y.number.0) ≡ false
+      → entity_at rows x.number.0 ≡ Some x → entity_at rows y.number.0 ≡ Some y → path_at rows (parent_of x) ≡ path_at rows (parent_of y) → b ≡ step_before (step_of x) (step_of y)
       → b ≡ path_before (path_at rows one) (path_at rows other)
-  parts one other left right b begins also apart there too above says =
-      let x = found_there rows left there in
-      let y = found_there rows right too in
-      let over_x : parent_at rows left ≡ parent_of x.0 = rw x.1 refl in
-      let over_y : parent_at rows right ≡ parent_of y.0 = rw y.1 refl in
-      let shared : path_at rows (parent_of x.0) ≡ path_at rows (parent_of y.0) = ap (path_at rows) (sym over_x) ∙ above ∙ ap (path_at rows) over_y in
-      let step_x = path_step rows parents left x.0 x.1 in
-      let step_y = path_step rows parents right y.0 y.1 ∙ ap (λ p. p ++ step_of y.0 ∷ []) (sym shared) in
-      let from_x = subst (λ p. BeginsWith (path_at rows one) p) step_x begins in
-      let from_y = subst (λ p. BeginsWith (path_at rows other) p) step_y also in
-      let number_x = found_number left x.0 rows x.1 in
-      let number_y = found_number right y.0 rows y.1 in
-      let numbers : (x.0.number.0 == y.0.number.0) ≡ false = rw (number_x, number_y) apart in
-      says x.0 y.0 x.1 y.1 ∙ sym (parted (path_at rows (parent_of x.0)) (step_of x.0) (step_of y.0) (path_at rows one) (path_at rows other) from_x from_y numbers)
-
-pub reversed_less : (o : Ordering) → is_lt (ordering_reverse o) ≡ is_gt o
-reversed_less Less = refl
-reversed_less Equal = refl
-reversed_less Greater = refl
-
-pub reversed_greater : (o : Ordering) → is_gt (ordering_reverse o) ≡ is_lt o
-reversed_greater Less = refl
-reversed_greater Equal = refl
-reversed_greater Greater = refl
+  parts one other x y b begins also apart there too shared says =
+      let step_y = path_step rows parents y.number.0 y too ∙ ap (λ p. p ++ step_of y ∷ []) (sym shared) in
+      let from_x = subst (BeginsWith (path_at rows one)) (path_step rows parents x.number.0 x there) begins in
+      let from_y = subst (BeginsWith (path_at rows other)) step_y also in
+      says ∙ sym (parted (path_at rows (parent_of x)) (step_of x) (step_of y) (path_at rows one) (path_at rows other) from_x from_y apart)
 
 -- what isn't equal is less or greater
 pub decided : (o : Ordering) → is_eq o ≡ false → (is_lt o || is_gt o) ≡ true

@@ -1,18 +1,18 @@
 -- What each change leaves of what the store keeps.
-use Rattle.std.proofs.Common.{◌≡◌, ℕ, ℤ, ◌<◌, ◌≤◌, ◌==◌, true, false, List, [], ◌∷◌, ◌++◌, Option, Some, None, refl, sym, subst, ◌∙◌, arith}
+use Rattle.std.proofs.Common.{◌≡◌, ℕ, ℤ, ◌+◌, ◌<◌, ◌≤◌, ◌==◌, true, false, List, [], ◌∷◌, ◌++◌, Option, Some, None, map, length, refl, sym, ap, subst, ◌∙◌, arith}
 use Rattle.std.specs.Prelude.{◌||◌, nat_lt, is_some, IsTrue}
-use Rattle.std.specs.List.{AllByRecursion}
+use Rattle.std.specs.List.{AllByRecursion, filter}
 use Rattle.std.proofs.lemmas.Bool.Decides.{nat_tests}
 use Rattle.slee_state.specs.declared.rows.Entity.{Entity}
 use Rattle.slee_state.specs.declared.rows.Stem.{Stem}
 use Rattle.slee_state.specs.declared.rows.Stem.TheVariants as stems
 use Rattle.slee_state.specs.Orders.{put}
 use Rattle.slee_state.specs.Ordered.{are_below}
-use Rattle.slee_state.specs.Trees.{entity_at, number_of, is_root, parent_in, parent_of, with_priority, without_entity}
+use Rattle.slee_state.specs.Trees.{children, entity_at, number_of, is_root, parent_in, parent_of, with_priority, without_entity}
 use Rattle.sorted_rows.proofs.OrderLemmas.{all_filter, all_from_all}
 use Rattle.entity_tree.specs.declared.branch.Branch.{Branch}
-use Rattle.entity_tree.specs.Kept.{AreEntities, IsIndex, entity_before}
-use Rattle.entity_tree.proofs.ListLemmas.{all_tested}
+use Rattle.entity_tree.specs.Kept.{AreEntities, IsIndex, branch_of, entity_before}
+use Rattle.entity_tree.proofs.ListLemmas.{all_tested, all_two, filter_none}
 use Rattle.entity_tree.proofs.RowLemmas.{all_put, found_holds, found_number, none_there, put_last}
 use Rattle.entity_tree.proofs.IndexLemmas.{index_set}
 
@@ -68,3 +68,16 @@ next_keeps next later rows kept one above = record {
 pub stem_is_drawn : (next : ℕ) (stem : Stem) (rows : List Entity) → AreEntities next rows → (is_root stem || is_some (entity_at rows (parent_in stem))) ≡ true → parent_in stem < next
 stem_is_drawn next (stems.Root service) rows kept there = kept.from_one
 stem_is_drawn next (stems.Child parent relation) rows kept there = there_is_drawn next parent.0 rows kept there
+
+-- no entity has the next number for its parent
+pub next_is_childless : (next : ℕ) (rows : List Entity) → AreEntities next rows → children rows next ≡ []
+next_is_childless next rows kept =
+    filter_none (λ (row : Entity). parent_of row == next) rows (all_two (λ (row : Entity). row.number.0 < next) (λ row. parent_of row < row.number.0) (λ row. (parent_of row == next) ≡ false) (λ row less lower. grind (arith, nat_tests, less, lower)) rows kept.below kept.parents)
+
+no_kids : (kids : List Entity) → nat_lt 0 (length (map branch_of kids)) ≡ false → kids ≡ []
+no_kids [] none = refl
+no_kids (x ∷ xs) none = absurd (let some : nat_lt 0 (length (map branch_of xs) + 1) ≡ true = grind (arith, nat_tests) in grind (arith, nat_tests, none))
+
+-- an entity of which the index has no children has none
+pub childless : (n : ℕ) (rows : List Entity) (branches : List Branch) → IsIndex rows branches → nat_lt 0 (length (filter (λ branch. branch.parent.0 == n) branches)) ≡ false → children rows n ≡ []
+childless n rows branches index none = no_kids (children rows n) (sym (ap (λ (run : List Branch). nat_lt 0 (length run)) (index n)) ∙ none)

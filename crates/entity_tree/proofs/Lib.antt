@@ -1,4 +1,5 @@
 pub mod ListLemmas
+pub mod NumberLemmas
 pub mod RowLemmas
 pub mod SetLemmas
 pub mod IndexLemmas
@@ -7,3 +8,5 @@ pub mod TreeLemmas
 pub mod PathLemmas
 pub mod OrderLemmas
 pub mod ClimbLemmas
+pub mod DepthLemmas
+pub mod SettleLemmas

@@ -57,6 +57,13 @@ pub filter_none : {X : Type 0} (p : X → Bool) (xs : List X) → AllByRecursion
 filter_none p [] all = refl
 filter_none p (x ∷ xs) all = rw all.0 (filter_none p xs all.1)
 
+pub none_left : {X : Type 0} (p : X → Bool) (xs : List X) → filter p xs ≡ [] → AllByRecursion (λ x. p x ≡ false) xs
+none_left p [] none = tt
+none_left p (x ∷ xs) none = elim (cases_Bool (p x)) [
+  | inl goes ↦ let wrong : x ∷ filter p xs ≡ [] = rw goes at none in absurd (cc)
+  | inr stays ↦ (stays, none_left p xs (rw stays at none))
+]
+
 pub filter_agree : {X : Type 0} (p q : X → Bool) (xs : List X) → AllByRecursion (λ x. p x ≡ q x) xs → filter p xs ≡ filter q xs
 filter_agree p q [] all = refl
 filter_agree p q (x ∷ xs) all = rw all.0 (ap (λ rest. cond (q x) (x ∷ rest) rest) (filter_agree p q xs all.1))

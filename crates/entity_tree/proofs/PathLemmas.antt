@@ -1,5 +1,5 @@
 -- The path of an entity is that of its parent and one step more.
-use Rattle.std.proofs.Common.{◌≡◌, ℕ, zero, suc, ℤ, ◌+◌, ◌-◌, ◌<◌, ◌≤◌, ◌==◌, true, false, List, [], ◌∷◌, ◌++◌, Option, Some, None, length, refl, ap, arith, inl, inr, length-append}
+use Rattle.std.proofs.Common.{◌≡◌, ℕ, zero, suc, ℤ, ◌+◌, ◌-◌, ◌<◌, ◌≤◌, ◌==◌, true, List, [], ◌∷◌, ◌++◌, Option, Some, None, length, refl, ap, subst, arith, inl, inr, length-append}
 use Rattle.std.specs.Prelude.{nat_le, is_some, if◌then◌else◌}
 use Rattle.std.specs.Option.{option_map_or}
 use Rattle.std.proofs.lemmas.Bool.{cases_Bool}
@@ -7,7 +7,7 @@ use Rattle.std.proofs.lemmas.Bool.Decides.{nat_tests}
 use Rattle.slee_state.specs.declared.rows.Entity.{Entity}
 use Rattle.slee_state.specs.Trees.{entity_at, parent_of}
 use Rattle.slee_state.specs.Paths.{path}
-use Rattle.entity_tree.specs.Kept.{AreParents, parent_at}
+use Rattle.entity_tree.specs.Kept.{AreParents}
 use Rattle.entity_tree.specs.Climbing.{BeginsWith, path_at, step_of}
 use Rattle.entity_tree.proofs.RowLemmas.{found_number, found_holds}
 
@@ -102,37 +102,14 @@ module _ (rows : List Entity) (parents : AreParents rows) where
   pub no_path : (e : ℕ) → entity_at rows e ≡ None → path_at rows e ≡ []
   no_path e is = no_path_from (length rows) e is
 
-  -- no entity has the number 0
-  none_of_zero : entity_at rows 0 ≡ None
-  none_of_zero = by (entity_at rows 0) refl
-    where
-      by : (found : Option Entity) → entity_at rows 0 ≡ found → entity_at rows 0 ≡ None
-      by None is = is
-      by (Some row) is = absurd (omega (arith, parent_lower 0 row is))
-
   -- the path of what stands above
-  pub up_begins : (e : ℕ) (whole : List (ℤ × ℕ)) → BeginsWith whole (path_at rows e) → BeginsWith whole (path_at rows (parent_at rows e))
-  up_begins e whole begins = by (entity_at rows e) refl
-    where
-      by : (found : Option Entity) → entity_at rows e ≡ found → BeginsWith whole (path_at rows (parent_at rows e))
-      by None is = rw (is, no_path 0 none_of_zero) (nothing whole)
-      by (Some row) is = let here = rw (path_step e row is) at begins in rw is (begins_less (path_at rows (parent_of row)) (step_of row) whole here)
+  pub up_begins : (e : ℕ) (row : Entity) (whole : List (ℤ × ℕ)) → entity_at rows e ≡ Some row → BeginsWith whole (path_at rows e) → BeginsWith whole (path_at rows (parent_of row))
+  up_begins e row whole is begins = begins_less (path_at rows (parent_of row)) (step_of row) whole (subst (BeginsWith whole) (path_step e row is) begins)
 
-  pub up_length : (e : ℕ) → length (path_at rows (parent_at rows e)) ≡ length (path_at rows e) - 1
-  up_length e = by (entity_at rows e) refl
-    where
-      by : (found : Option Entity) → entity_at rows e ≡ found → length (path_at rows (parent_at rows e)) ≡ length (path_at rows e) - 1
-      by None is = rw (is, no_path 0 none_of_zero, no_path e is) refl
-      by (Some row) is = rw (is, path_step e row is) (omega (arith, length-append (path_at rows (parent_of row)) (step_of row ∷ [])))
+  pub up_length : (e : ℕ) (row : Entity) → entity_at rows e ≡ Some row → length (path_at rows (parent_of row)) ≡ length (path_at rows e) - 1
+  up_length e row is = let long = ap length (path_step e row is) in omega (arith, long, length-append (path_at rows (parent_of row)) (step_of row ∷ []))
 
-  -- an entity that is there has a path, and no other number has one
-  pub there_length : (e : ℕ) → is_some (entity_at rows e) ≡ true → 0 < length (path_at rows e)
-  there_length e there = by (entity_at rows e) refl
-    where
-      by : (found : Option Entity) → entity_at rows e ≡ found → 0 < length (path_at rows e)
-      by None is = let wrong : false ≡ true = rw is at there in absurd (cc)
-      by (Some row) is = rw (path_step e row is) (omega (arith, length-append (path_at rows (parent_of row)) (step_of row ∷ [])))
-
+  -- what has a path is there
   pub length_there : (e : ℕ) → 0 < length (path_at rows e) → is_some (entity_at rows e) ≡ true
   length_there e long = by (entity_at rows e) refl
     where

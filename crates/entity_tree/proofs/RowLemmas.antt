@@ -11,26 +11,21 @@ use Rattle.slee_state.specs.Orders.{put}
 use Rattle.slee_state.specs.declared.rows.Stem.{Stem}
 use Rattle.slee_state.specs.declared.rows.Stem.TheVariants as stems
 use Rattle.slee_state.specs.Trees.{entity_at, number_of, parent_in, parent_of, children, children_under, is_child_of, has_priority, without_entity}
-use Rattle.sorted_rows.specs.Keys.{key_before, is_key, entity_key, number_key, Rises}
+use Rattle.sorted_rows.specs.Keys.{key_before, is_key, entity_key, Rises}
 use Rattle.sorted_rows.proofs.OrderLemmas.{AllInOrder, IsBefore, in_order, all_filter, all_from_all}
 use Rattle.entity_tree.specs.declared.branch.Branch.{Branch}
 use Rattle.entity_tree.specs.Kept.{entity_before, branch_of}
-use Rattle.entity_tree.proofs.ListLemmas.{and_true, all_two, all_joined, filter_all, filter_none, filter_agree, filter_of_map}
-
-pub key_is_number : (e : ℕ) (row : Entity) → is_key (entity_key row) (number_key e) ≡ (row.number.0 == e)
-key_is_number e row = and_true (row.number.0 == e)
+use Rattle.entity_tree.proofs.NumberLemmas.{cut_by_key, found_by_key, put_by_key}
+use Rattle.entity_tree.proofs.ListLemmas.{all_two, all_joined, filter_all, filter_none, filter_agree, filter_of_map}
 
 pub found_by_number : (e : ℕ) (rows : List Entity) → find (λ row. is_key (entity_key row) (record { first = e; second = 0; text = [] })) rows ≡ entity_at rows e
-found_by_number e rows = λ i. find (λ row. key_is_number e row i) rows
+found_by_number e rows = found_by_key number_of e rows
 
 pub cut_by_number : (e : ℕ) (rows : List Entity) → filter (λ row. not (is_key (entity_key row) (record { first = e; second = 0; text = [] }))) rows ≡ without_entity rows e
-cut_by_number e rows = λ i. filter (λ row. not (key_is_number e row i)) rows
-
-key_is_before : (x y : Entity) → key_before (entity_key x) (entity_key y) ≡ entity_before x y
-key_is_before x y = grind (arith, nat_tests)
+cut_by_number e rows = cut_by_key number_of e rows
 
 pub put_by_number : (row : Entity) (rows : List Entity) → put (λ x y. key_before (entity_key x) (entity_key y)) row rows ≡ put entity_before row rows
-put_by_number row rows = λ i. put (λ x y. key_is_before x y i) row rows
+put_by_number row rows = put_by_key number_of row rows
 
 -- the entity that is found has the number, and what holds of all holds of it
 pub found_number : (e : ℕ) (row : Entity) (rows : List Entity) → entity_at rows e ≡ Some row → row.number.0 ≡ e

@@ -2,17 +2,18 @@
 use Rattle.std.proofs.Common.{◌≡◌, ℕ, ℤ, ◌<◌, List, [], map}
 use Rattle.std.specs.Prelude.{if◌then◌else◌}
 use Rattle.slee_state.specs.declared.rows.Entity.{Entity}
-use Rattle.slee_state.specs.Trees.{parent_of, has_priority, with_priority}
+use Rattle.slee_state.specs.Trees.{number_of, parent_of, has_priority, with_priority}
 use Rattle.sorted_rows.specs.Keys.{is_key, entity_key}
 use Rattle.sorted_rows.proofs.OrderLemmas.{all_from_all}
 use Rattle.entity_tree.specs.Kept.{AreEntities}
 use Rattle.entity_tree.proofs.ListLemmas.{all_mapped}
-use Rattle.entity_tree.proofs.RowLemmas.{key_is_number, same_number, same_stem}
+use Rattle.entity_tree.proofs.NumberLemmas.{set_by_key}
+use Rattle.entity_tree.proofs.RowLemmas.{same_number, same_stem}
 
 -- the row of the key is the entity of the number
 pub set_by_number : (e : ℕ) (priority : ℤ) (rows : List Entity)
     → map (λ row. if is_key (entity_key row) (record { first = e; second = 0; text = [] }) then record row { priority = priority } else row) rows ≡ with_priority rows e priority
-set_by_number e priority rows = λ i. map (λ row. if key_is_number e row i then record row { priority = priority } else row) rows
+set_by_number e priority rows = set_by_key number_of e (λ row. record row { priority = priority }) rows
 
 pub priority_keeps : (e next : ℕ) (priority : ℤ) (rows : List Entity) → AreEntities next rows → AreEntities next (with_priority rows e priority)
 priority_keeps e next priority rows kept = record {

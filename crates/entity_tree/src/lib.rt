@@ -2,6 +2,7 @@
 #![tactic(auto)]
 
 mod branch;
+mod depths;
 mod growing;
 mod paths;
 mod reading;

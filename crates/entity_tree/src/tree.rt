@@ -11,6 +11,7 @@ ghost use Rattle.entity_tree.specs.Climbing.{path_at};
 ghost use Rattle.entity_tree.specs.Kept.{AreParents, entity_before, is_entity, numbers_of};
 
 use crate::branch::Branch;
+use crate::depths::Depth;
 use crate::{growing, paths, reading, removal};
 use leaf_rows::Leaves;
 use slee_state::{Entity, Stem};
@@ -24,6 +25,7 @@ use std::marker::Model;
 pub struct Tree {
     rows: Leaves<Entity>,
     branches: Leaves<Branch>,
+    depths: Leaves<Depth>,
     next: u64,
 }
 
@@ -31,12 +33,13 @@ impl Model for Tree {
     ghost use Rattle.std.specs.Prelude.{min};
     ghost use Rattle.entity_tree.specs.Views.{TreeView};
     ghost use Rattle.entity_tree.specs.Kept.{AreEntities, IsIndex};
+    ghost use Rattle.entity_tree.specs.Depths.{AreDepths};
 
     ghost Value = { TreeView };
 
-    ghost view = { λ t. record { rows = t.rows.rows; next = t.next; room = min t.rows.room t.branches.room } };
+    ghost view = { λ t. record { rows = t.rows.rows; next = t.next; room = min t.rows.room (min t.branches.room t.depths.room) } };
 
-    ghost invariant = { λ t. AreEntities t.next t.rows.rows × IsIndex t.rows.rows t.branches.rows };
+    ghost invariant = { λ t. AreEntities t.next t.rows.rows × IsIndex t.rows.rows t.branches.rows × AreDepths t.rows.rows t.depths.rows };
 }
 
 impl Tree {
@@ -48,6 +51,7 @@ impl Tree {
         Tree {
             rows: Leaves::new(alloc),
             branches: Leaves::new(alloc),
+            depths: Leaves::new(alloc),
             next: 1,
         }
     }
@@ -61,6 +65,7 @@ impl Tree {
     {
         self.rows.reserve(entities as usize)?;
         self.branches.reserve(entities as usize)?;
+        self.depths.reserve(entities as usize)?;
         Ok(())
     }
 
@@ -77,6 +82,7 @@ impl Tree {
         growing::add(
             &mut self.rows,
             &mut self.branches,
+            &mut self.depths,
             Entity {
                 number,
                 block,
@@ -119,7 +125,7 @@ impl Tree {
         self.create(block, Stem::Child(parent, relation), priority)
     }
 
-    /// Puts an entity of a snapshot back under its number.
+    /// Puts an entity of a snapshot back under its number. One that comes behind its children costs a way over all entities, since their depths are counted anew.
     pub fn restore(&mut self, item: Entity)
         requires room { 0 < self.old.room }
         requires absent { entity_at self.old.rows item.number.0 ≡ None }
@@ -129,7 +135,7 @@ impl Tree {
         ensures next { self.new.next ≡ self.old.next }
         ensures room { self.old.room ≤ self.new.room + 1 }
     {
-        growing::add(&mut self.rows, &mut self.branches, item);
+        growing::restore(&mut self.rows, &mut self.branches, &mut self.depths, item);
     }
 
     /// The next entity will have this number.
@@ -165,7 +171,7 @@ impl Tree {
         ensures next { self.new.next ≡ self.old.next }
         ensures room { self.old.room ≤ self.new.room }
     {
-        growing::cut(&mut self.rows, &mut self.branches, entity);
+        growing::cut(&mut self.rows, &mut self.branches, &mut self.depths, entity);
     }
 
     /// Whether the entity has a child.
@@ -192,7 +198,7 @@ impl Tree {
         ensures less { is_lt result ≡ path_before (path_at self.now.rows one.0) (path_at self.now.rows other.0) }
         ensures greater { is_gt result ≡ path_before (path_at self.now.rows other.0) (path_at self.now.rows one.0) }
     {
-        paths::compare(&self.rows, one, other)
+        paths::compare(&self.rows, &self.depths, one, other)
     }
 
     /// Passes on that entities rise by number, and that a parent's number is below its child's.

@@ -1,73 +1,85 @@
 -- both are followed up until one path stands above them
-use Rattle.std.proofs.Common.{◌≡◌, ℕ, ◌==◌, false, sym, ap, ◌∙◌, arith}
-use Rattle.std.specs.Prelude.{is_some}
+use Rattle.std.proofs.Common.{◌≡◌, ◌<◌, ◌==◌, Some, false, length, sym, ap, subst, arith}
+use Rattle.std.specs.Prelude.{IsTrue}
 use Rattle.std.specs.Ordering.{is_lt, is_gt}
-use Rattle.slee_state.specs.Trees.{entity_at}
 use Rattle.std.proofs.lemmas.Bool.Decides.{nat_tests}
-use Rattle.entity_tree.specs.Kept.{parent_at}
+use Rattle.slee_state.specs.Trees.{entity_at, parent_of}
+use Rattle.entity_tree.specs.Kept.{is_entity}
 use Rattle.entity_tree.specs.Climbing.{path_at}
 use Rattle.entity_tree.proofs.RowLemmas.{found_number}
 use Rattle.entity_tree.proofs.PathLemmas.{begins_itself}
-use Rattle.entity_tree.proofs.ClimbLemmas.{begins_over, closer, found_there, level_over, level_there, none_above, parts}
-use Rattle.entity_tree.proofs.paths.compare_level.Goals.{then-up-test+else-is_entity, else-up-test}
+use Rattle.entity_tree.proofs.ClimbLemmas.{found_itself, none_above, over_begins, over_length, parent_there, parts}
+use Rattle.entity_tree.proofs.paths.compare_level.Goals.{then-up-test+else-parent_in, else-up-test}
 use Rattle.entity_tree.proofs.paths.compare_level.Goals as goal
 
 pub up-init : goal.up-init
 up-init c = record {
-  over_left = c.parent_at-over_left.ensures;
-  over_right = c.parent_at-over_right.ensures;
-  one = begins_itself (path_at c.args.rows.now.rows c.args.one.0);
-  other = begins_itself (path_at c.args.rows.now.rows c.args.other.0);
-  level = c.requires.level;
+  left_there = c.requires.one_there;
+  right_there = c.requires.other_there;
+  one = begins_itself (path_at c.args.rows.now.rows c.args.one.now.number.0);
+  other = begins_itself (path_at c.args.rows.now.rows c.args.other.now.number.0);
+  depth_of_left = c.requires.depth_of_one;
+  depth_of_right = c.requires.depth_of_other;
   apart = c.requires.apart;
-  there = c.requires.there;
 }
 
-pub up-smaller : goal.up-smaller
-up-smaller c = closer c.args.rows.now.rows c.requires.parents c.up.left.0 c.up.over_left.0 c.up.invariant.over_left c.up.invariant.there
+pub entity_there-left-requires : goal.entity_there-left-requires
+entity_there-left-requires c =
+    let rows = c.args.rows.now.rows in
+    let long : 1 < length (path_at rows c.up.left.now.number.0) = grind (arith, nat_tests, c.up-test.true, c.up.invariant.depth_of_left) in
+    subst (λ n. IsTrue (is_entity rows n)) (sym c.parent_in-in-up-2.ensures) (parent_there rows c.requires.parents c.up.left.now c.up.invariant.left_there long)
+
+pub entity_there-right-requires : goal.entity_there-right-requires
+entity_there-right-requires c =
+    let rows = c.args.rows.now.rows in
+    let long : 1 < length (path_at rows c.up.right.now.number.0) = grind (arith, nat_tests, c.up-test.true, c.up.invariant.depth_of_right) in
+    subst (λ n. IsTrue (is_entity rows n)) (sym c.parent_in-in-up-3.ensures) (parent_there rows c.requires.parents c.up.right.now c.up.invariant.right_there long)
 
 pub up-preserved : goal.up-preserved
 up-preserved c =
     let rows = c.args.rows.now.rows in
+    let inv = c.up.invariant in
+    let left = c.up.left.now in
+    let right = c.up.right.now in
+    let over_left = c.entity_there-left.result.now in
+    let over_right = c.entity_there-right.result.now in
+    let left_is = subst (λ n. entity_at rows n ≡ Some over_left) c.parent_in-in-up-2.ensures c.entity_there-left.ensures in
+    let right_is = subst (λ n. entity_at rows n ≡ Some over_right) c.parent_in-in-up-3.ensures c.entity_there-right.ensures in
+    let number_left = found_number (parent_of left) over_left rows left_is in
+    let number_right = found_number (parent_of right) over_right rows right_is in
+    let less_left = over_length rows c.requires.parents left over_left inv.left_there left_is in
+    let less_right = over_length rows c.requires.parents right over_right inv.right_there right_is in
     record {
-      over_left = c.parent_at-over_left-in-up.ensures;
-      over_right = c.parent_at-over_right-in-up.ensures;
-      one = begins_over rows c.requires.parents c.up.left.0 c.up.over_left.0 (path_at rows c.args.one.0) c.up.invariant.over_left c.up.invariant.one;
-      other = begins_over rows c.requires.parents c.up.right.0 c.up.over_right.0 (path_at rows c.args.other.0) c.up.invariant.over_right c.up.invariant.other;
-      level = level_over rows c.requires.parents c.up.left.0 c.up.right.0 c.up.over_left.0 c.up.over_right.0 c.up.invariant.over_left c.up.invariant.over_right c.up.invariant.level;
-      apart = grind (arith, nat_tests, c.up-test.true);
-      there = sym c.is_entity.ensures ∙ c.if-is_entity.true;
+      left_there = found_itself rows c.requires.parents (parent_of left) over_left left_is;
+      right_there = found_itself rows c.requires.parents (parent_of right) over_right right_is;
+      one = over_begins rows c.requires.parents left over_left (path_at rows c.args.one.now.number.0) inv.left_there left_is inv.one;
+      other = over_begins rows c.requires.parents right over_right (path_at rows c.args.other.now.number.0) inv.right_there right_is inv.other;
+      depth_of_left = omega (arith, less_left, inv.depth_of_left);
+      depth_of_right = omega (arith, less_right, inv.depth_of_right);
+      apart = grind (arith, nat_tests, c.if-parent_in.true, c.parent_in.ensures, c.parent_in-in-up.ensures, number_left, number_right);
     }
 
 pub returns-clause-less : goal.returns-clause-less
 returns-clause-less c =
     let rows = c.args.rows.now.rows in
     let inv = c.up.invariant in
-    let above : path_at rows (parent_at rows c.up.left.0) ≡ path_at rows (parent_at rows c.up.right.0) = elim c.up-test.branch [
-      | then-up-test+else-is_entity w ↦ none_above rows c.requires.parents c.up.left.0 c.up.right.0 inv.level (ap (λ (e : ℕ). is_some (entity_at rows e)) (sym inv.over_left) ∙ sym w.is_entity.ensures ∙ w.if-is_entity.false)
-      | else-up-test w ↦ let numbers : c.up.over_left.0 ≡ c.up.over_right.0 = grind (arith, nat_tests, w.up-test.false) in ap (path_at rows) (sym inv.over_left ∙ numbers ∙ inv.over_right)
+    let left = c.up.left.now in
+    let right = c.up.right.now in
+    let above : path_at rows (parent_of left) ≡ path_at rows (parent_of right) = elim c.up-test.branch [
+      | then-up-test+else-parent_in w ↦ let same : parent_of left ≡ parent_of right = grind (arith, nat_tests, w.if-parent_in.false, w.parent_in.ensures, w.parent_in-in-up.ensures) in ap (path_at rows) same
+      | else-up-test w ↦ none_above rows c.requires.parents left right c.up.steps inv.left_there inv.right_there inv.depth_of_left inv.depth_of_right (grind (arith, nat_tests, w.up-test.false))
     ] in
-    let too = level_there rows c.requires.parents c.up.left.0 c.up.right.0 inv.level inv.there in
-    parts rows c.requires.parents c.args.one.0 c.args.other.0 c.up.left.0 c.up.right.0 (is_lt c.compare_steps.result) inv.one inv.other inv.apart inv.there too above c.compare_steps.ensures.less
+    parts rows c.requires.parents c.args.one.now.number.0 c.args.other.now.number.0 left right (is_lt c.compare_rows.result) inv.one inv.other inv.apart inv.left_there inv.right_there above c.compare_rows.ensures.less
 
 pub returns-clause-greater : goal.returns-clause-greater
 returns-clause-greater c =
     let rows = c.args.rows.now.rows in
     let inv = c.up.invariant in
-    let above : path_at rows (parent_at rows c.up.left.0) ≡ path_at rows (parent_at rows c.up.right.0) = elim c.up-test.branch [
-      | then-up-test+else-is_entity w ↦ none_above rows c.requires.parents c.up.left.0 c.up.right.0 inv.level (ap (λ (e : ℕ). is_some (entity_at rows e)) (sym inv.over_left) ∙ sym w.is_entity.ensures ∙ w.if-is_entity.false)
-      | else-up-test w ↦ let numbers : c.up.over_left.0 ≡ c.up.over_right.0 = grind (arith, nat_tests, w.up-test.false) in ap (path_at rows) (sym inv.over_left ∙ numbers ∙ inv.over_right)
+    let left = c.up.left.now in
+    let right = c.up.right.now in
+    let above : path_at rows (parent_of right) ≡ path_at rows (parent_of left) = elim c.up-test.branch [
+      | then-up-test+else-parent_in w ↦ let same : parent_of right ≡ parent_of left = grind (arith, nat_tests, w.if-parent_in.false, w.parent_in.ensures, w.parent_in-in-up.ensures) in ap (path_at rows) same
+      | else-up-test w ↦ none_above rows c.requires.parents right left c.up.steps inv.right_there inv.left_there inv.depth_of_right inv.depth_of_left (grind (arith, nat_tests, w.up-test.false))
     ] in
-    let too = level_there rows c.requires.parents c.up.left.0 c.up.right.0 inv.level inv.there in
-    let back : (c.up.right.0 == c.up.left.0) ≡ false = grind (arith, nat_tests, inv.apart) in
-    parts rows c.requires.parents c.args.other.0 c.args.one.0 c.up.right.0 c.up.left.0 (is_gt c.compare_steps.result) inv.other inv.one back too inv.there (sym above) (λ y x at_y at_x. c.compare_steps.ensures.greater x y at_x at_y)
-
-pub returns-clause-apart : goal.returns-clause-apart
-returns-clause-apart c =
-    let rows = c.args.rows.now.rows in
-    let inv = c.up.invariant in
-    let too = level_there rows c.requires.parents c.up.left.0 c.up.right.0 inv.level inv.there in
-    let x = found_there rows c.up.left.0 inv.there in
-    let y = found_there rows c.up.right.0 too in
-    let numbers : (x.0.number.0 == y.0.number.0) ≡ false = rw (found_number c.up.left.0 x.0 rows x.1, found_number c.up.right.0 y.0 rows y.1) inv.apart in
-    c.compare_steps.ensures.apart x.0 y.0 x.1 y.1 numbers
+    let back : (right.number.0 == left.number.0) ≡ false = grind (arith, nat_tests, inv.apart) in
+    parts rows c.requires.parents c.args.other.now.number.0 c.args.one.now.number.0 right left (is_gt c.compare_rows.result) inv.other inv.one back inv.right_there inv.left_there above c.compare_rows.ensures.greater

@@ -1,20 +1,18 @@
-use Rattle.std.proofs.Common.{◌≡◌, ◌==◌, length, true, false}
-use Rattle.std.specs.Prelude.{is_some}
+use Rattle.std.proofs.Common.{◌≡◌, ◌==◌, Some, length, false}
 use Rattle.slee_state.specs.Trees.{entity_at}
-use Rattle.entity_tree.specs.Kept.{parent_at}
 use Rattle.entity_tree.specs.Climbing.{BeginsWith, path_at}
 use Rattle.entity_tree.proofs.paths.compare_level.Given as goal
 
 abbrev pub invariant-up : goal.invariant-up
 invariant-up l = record {
-  over_left : l.over_left.0 ≡ parent_at l.rows.rows l.left.0;
-  over_right : l.over_right.0 ≡ parent_at l.rows.rows l.right.0;
-  one : BeginsWith (path_at l.rows.rows l.fn.one.0) (path_at l.rows.rows l.left.0);
-  other : BeginsWith (path_at l.rows.rows l.fn.other.0) (path_at l.rows.rows l.right.0);
-  level : length (path_at l.rows.rows l.left.0) ≡ length (path_at l.rows.rows l.right.0);
-  apart : (l.left.0 == l.right.0) ≡ false;
-  there : is_some (entity_at l.rows.rows l.left.0) ≡ true;
+  left_there : entity_at l.rows.rows l.left.number.0 ≡ Some l.left;
+  right_there : entity_at l.rows.rows l.right.number.0 ≡ Some l.right;
+  one : BeginsWith (path_at l.rows.rows l.fn.one.number.0) (path_at l.rows.rows l.left.number.0);
+  other : BeginsWith (path_at l.rows.rows l.fn.other.number.0) (path_at l.rows.rows l.right.number.0);
+  depth_of_left : length (path_at l.rows.rows l.left.number.0) ≡ l.steps;
+  depth_of_right : length (path_at l.rows.rows l.right.number.0) ≡ l.steps;
+  apart : (l.left.number.0 == l.right.number.0) ≡ false;
 }
 
 abbrev pub decreases-up : goal.decreases-up
-decreases-up l = length (path_at l.rows.rows l.left.0)
+decreases-up l = l.steps
