@@ -31,7 +31,7 @@ one_more_listed es rows into l parents there agrees = record {
   members = λ e a. put_linked es parents l into e a there agrees.listing.there ∙ ap (λ b. is_link e a l || b) (agrees.members e a) ∙ sym (linked_more rows l e a);
 }
 
-all_at : (P : Link → Type 0) (links : List Link) (i : ℕ) (d : Link) → AllByRecursion P links → i < length links → P (get_or links i d)
+pub all_at : (P : Link → Type 0) (links : List Link) (i : ℕ) (d : Link) → AllByRecursion P links → i < length links → P (get_or links i d)
 all_at P [] i d all within = absurd (omega (arith, within))
 all_at P (x ∷ xs) zero d all within = all.0
 all_at P (x ∷ xs) (suc i) d all within = all_at P xs i d all.1 (omega (arith, within))

@@ -5,3 +5,10 @@ pub mod ListingLemmas
 pub mod FirstLemmas
 pub mod IndexLemmas
 pub mod AnewLemmas
+pub mod RunLemmas
+pub mod LayLemmas
+pub mod RelistLemmas
+pub mod PriorityLemmas
+pub mod IndexedLemmas
+pub mod DetachLemmas
+pub mod RankLemmas

@@ -20,7 +20,7 @@ use Rattle.router_order.specs.Listed.{Agrees, IsByActivity, IsListing, listed_be
 use Rattle.router_order.proofs.LinkLemmas.{put_any, same_numbers, with_link_linked, without_link_linked, without_links_on_linked}
 use Rattle.router_order.proofs.PathOrder.{joins, listed_is, listed_order, listed_total, one_link, parted}
 
-true_both : (a b : Bool) → a ≡ true → b ≡ true → (a && b) ≡ true
+pub true_both : (a b : Bool) → a ≡ true → b ≡ true → (a && b) ≡ true
 true_both true true passes also = refl
 true_both true false passes also = cc
 true_both false b passes also = cc
@@ -119,7 +119,7 @@ module _ (es : List Entity) where
 
   module _ (parents : AreParents es) where
     -- two attachments of entities that are there and of which neither is listed before the other are the same
-    same_place : (f b : ℕ) (x y : Link) → is_entity es x.entity.0 ≡ true → is_entity es y.entity.0 ≡ true → listed_before es x y ≡ false → listed_before es y x ≡ false → is_link f b x ≡ is_link f b y
+    pub same_place : (f b : ℕ) (x y : Link) → is_entity es x.entity.0 ≡ true → is_entity es y.entity.0 ≡ true → listed_before es x y ≡ false → listed_before es y x ≡ false → is_link f b x ≡ is_link f b y
     same_place f b x y there also one two =
         let laws = parted_at y in
         let tied : is_eq (listed_order es x y) ≡ true = elim (cases_Bool (is_eq (listed_order es x y))) [
@@ -178,7 +178,7 @@ pub filtered_activities : (p : Link → Bool) (rows fewer : List Link) → fewer
 filtered_activities p rows fewer is rises = subst (λ (all : List Link). IsByActivity all) (sym is) (filter_activities p rows rises)
 
 -- two attachments of the same numbers are one
-same_link : (x y : Link) → x.entity.0 ≡ y.entity.0 → x.activity.0 ≡ y.activity.0 → x ≡ y
+pub same_link : (x y : Link) → x.entity.0 ≡ y.entity.0 → x.activity.0 ≡ y.activity.0 → x ≡ y
 same_link x y entities activities = λ i. record { entity = record { 0 = entities i }; activity = record { 0 = activities i } }
 
 agree_from : (p q : Link → Bool) (i : ℕ) (rows : List Link) → AllByRecursion (λ x. p x ≡ q x) rows → position_from p i rows ≡ position_from q i rows

@@ -2,11 +2,14 @@
 #![tactic(auto)]
 
 mod anew;
+mod cutting;
+mod inserting;
+mod laying;
 mod listing;
 mod next;
 mod order;
+mod placed;
 mod ready;
-mod runs;
 mod wants;
 
 pub use next::next_entity;

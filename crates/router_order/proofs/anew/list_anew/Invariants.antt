@@ -1,11 +1,12 @@
-use Rattle.std.proofs.Common.{◌≤◌, take}
-use Rattle.std.specs.Prelude.{vec_capacity, vec_len}
-use Rattle.router_order.specs.Listed.{Agrees}
+-- so many were listed
+use Rattle.std.proofs.Common.{◌+◌, length}
+use Rattle.std.specs.Prelude.{◌≤◌, vec_capacity, vec_len}
+use Rattle.router_order.proofs.RelistLemmas.{AreListed}
 use Rattle.router_order.proofs.anew.list_anew.Given as goal
 
-abbrev pub invariant-links : goal.invariant-links
-invariant-links l = record {
-  agrees : Agrees l.tree.rows (take l.link-index l.links) l.into.items;
-  length : vec_len l.into ≤ l.link-index;
+abbrev pub invariant-rows : goal.invariant-rows
+invariant-rows l = record {
+  seen : AreListed l.tree.rows l.fn.run l.row-iterator l.into.items;
+  length : vec_len l.into + length l.row-iterator ≤ length l.fn.run;
   capacity : vec_capacity l.fn.into ≤ vec_capacity l.into;
 }

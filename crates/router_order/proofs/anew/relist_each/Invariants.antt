@@ -1,0 +1,19 @@
+-- the activities of so many entries are listed
+use Rattle.std.proofs.Common.{◌≡◌, ℕ, ◌+◌, [], length}
+use Rattle.std.specs.Prelude.{◌≤◌, vec_capacity}
+use Rattle.slee_state.specs.Contexts.{is_linked, links_on}
+use Rattle.router_order.specs.Listed.{IsListing}
+use Rattle.router_order.specs.Placed.{attachments}
+use Rattle.router_order.proofs.RelistLemmas.{AreRuns}
+use Rattle.router_order.proofs.anew.relist_each.Given as goal
+
+abbrev pub invariant-entries : goal.invariant-entries
+invariant-entries l = record {
+  seen : AreRuns l.tree.rows l.fn.entries l.entry-iterator (attachments l.rows.rows);
+  kept : (b : ℕ) → IsListing l.tree.rows (links_on (attachments l.fn.rows.rows) b) → IsListing l.tree.rows (links_on (attachments l.rows.rows) b);
+  members : (e b : ℕ) → is_linked (attachments l.rows.rows) e b ≡ is_linked (attachments l.fn.rows.rows) e b;
+  empty : l.spare.items ≡ [];
+  capacity : vec_capacity l.fn.spare ≤ vec_capacity l.spare;
+  room : l.fn.rows.room ≤ l.rows.room;
+  whole : l.rows.room + length l.rows.rows ≡ l.fn.rows.room + length l.fn.rows.rows;
+}
