@@ -1,9 +1,8 @@
 -- One attachment more is listed anew, and entities that are there with another priority.
-use Rattle.std.proofs.Common.{◌≡◌, ℕ, ℤ, zero, suc, ◌+◌, ◌<◌, ◌==◌, Bool, true, false, List, [], ◌∷◌, ◌++◌, take, length, get_or, refl, sym, ap, subst, ◌∙◌, arith, inl, inr}
+use Rattle.std.proofs.Common.{◌≡◌, ℕ, ℤ, zero, suc, ◌<◌, ◌==◌, Bool, true, false, List, [], ◌∷◌, ◌++◌, length, get_or, refl, sym, ap, subst, ◌∙◌, arith, inl, inr}
 use Rattle.std.specs.Prelude.{◌||◌}
 use Rattle.std.specs.List.{AllByRecursion}
 use Rattle.std.proofs.lemmas.Bool.{cases_Bool}
-use Rattle.std.proofs.lemmas.List.{take_more}
 use Rattle.slee_state.specs.declared.rows.Entity.{Entity}
 use Rattle.slee_state.specs.declared.rows.Link.{Link}
 use Rattle.slee_state.specs.Orders.{put}
@@ -36,15 +35,6 @@ all_at P [] i d all within = absurd (omega (arith, within))
 all_at P (x ∷ xs) zero d all within = all.0
 all_at P (x ∷ xs) (suc i) d all within = all_at P xs i d all.1 (omega (arith, within))
 
--- one attachment more was listed anew
-pub listed_more : (es : List Entity) (links into more : List Link) (i : ℕ) (d : Link) → AreParents es → AllByRecursion (λ row. is_entity es row.entity.0 ≡ true) links → i < length links
-    → more ≡ put (listed_before es) (get_or links i d) into → Agrees es (take i links) into → Agrees es (take (i + 1) links) more
-listed_more es links into more i d parents all within is agrees =
-    let there = all_at (λ (row : Link). is_entity es row.entity.0 ≡ true) links i d all within in
-    let one = one_more_listed es (take i links) into (get_or links i d) parents there agrees in
-    let taken = subst (λ (rows : List Link). Agrees es rows (put (listed_before es) (get_or links i d) into)) (sym (take_more links i d within)) one in
-    subst (λ (rows : List Link). Agrees es (take (i + 1) links) rows) (sym is) taken
-
 still_number : (e : ℕ) (priority : ℤ) (x : Entity) → (has_priority e priority x).number ≡ x.number
 still_number e priority x = elim (cases_Bool (x.number.0 == e)) [ inl mine ↦ rw mine refl | inr other ↦ rw other refl ]
 
@@ -59,13 +49,6 @@ still_there (x ∷ xs) e priority f = elim (cases_Bool (x.number.0 == f)) [
 pub all_still_there : (es : List Entity) (e : ℕ) (priority : ℤ) (links : List Link) → AllByRecursion (λ row. is_entity es row.entity.0 ≡ true) links → AllByRecursion (λ row. is_entity (with_priority es e priority) row.entity.0 ≡ true) links
 all_still_there es e priority links all =
     all_from_all (λ (row : Link). is_entity es row.entity.0 ≡ true) (λ row. is_entity (with_priority es e priority) row.entity.0 ≡ true) (λ row there. still_there es e priority row.entity.0 ∙ there) links all
-
--- a list that agrees with one that agrees with the attachments agrees with them
-pub agrees_too : (es fs : List Entity) (links old new : List Link) → Agrees fs links old → Agrees es old new → Agrees es links new
-agrees_too es fs links old new agrees anew = record {
-  listing = anew.listing;
-  members = λ e a. anew.members e a ∙ agrees.members e a;
-}
 
 pub still_all : (es fs : List Entity) (e : ℕ) (priority : ℤ) (links : List Link) → fs ≡ with_priority es e priority → AllByRecursion (λ row. is_entity es row.entity.0 ≡ true) links → AllByRecursion (λ row. is_entity fs row.entity.0 ≡ true) links
 still_all es fs e priority links is all = subst (λ (rows : List Entity). AllByRecursion (λ (row : Link). is_entity rows row.entity.0 ≡ true) links) (sym is) (all_still_there es e priority links all)

@@ -94,14 +94,6 @@ replaced_members a old new links is others members e b = elim (cases_Bool (b == 
         ∙ has_own a e (links_on old a) (own_on a old)
         ∙ sym (linked_is old e a)
 
--- activities that are listed stay listed
-pub still_listed : (es : List Entity) (a : ℕ) (old new : List Link) → IsListing es (links_on new a) → ((b : ℕ) → (b == a) ≡ false → links_on new b ≡ links_on old b)
-    → (b : ℕ) → IsListing es (links_on old b) → IsListing es (links_on new b)
-still_listed es a old new listing others b was = elim (cases_Bool (b == a)) [
-  | inl same ↦ let at : a ≡ b = grind (arith, nat_tests, same) in subst (λ c. IsListing es (links_on new c)) at listing
-  | inr apart ↦ subst (IsListing es) (sym (others b apart)) was
-]
-
 pub run_listed : (es : List Entity) (rows : List Link) (b : ℕ) → IsListing es rows → IsListing es (links_on rows b)
 run_listed es rows b listing = filter_listing es (λ l. l.activity.0 == b) rows listing
 
