@@ -1,16 +1,16 @@
 -- An attachment that is found by its entity is cut by its rank.
 use Rattle.std.proofs.Common.{◌≡◌, ℕ, ◌==◌, Bool, true, false, List, [], ◌∷◌, Option, Some, None, refl, sym, ap, subst, ◌∙◌, arith, inl, inr}
-use Rattle.std.specs.Prelude.{◌&&◌, not, option_map}
-use Rattle.std.specs.List.{AllByRecursion, filter, find}
+use Rattle.std.specs.Prelude.{◌&&◌, is_some, not, option_map}
+use Rattle.std.specs.List.{AllByRecursion, filter, find, list_any}
 use Rattle.std.proofs.lemmas.Bool.{cases_Bool}
 use Rattle.std.proofs.lemmas.Bool.Decides.{nat_tests}
 use Rattle.slee_state.specs.declared.rows.Entity.{Entity}
 use Rattle.slee_state.specs.declared.rows.Link.{Link}
-use Rattle.slee_state.specs.Contexts.{is_link, without_link}
+use Rattle.slee_state.specs.Contexts.{is_link, is_linked, without_link}
 use Rattle.sorted_rows.specs.Keys.{Rises, is_key, pair_key}
 use Rattle.sorted_rows.proofs.AgreeLemmas.{pair_agrees}
 use Rattle.sorted_rows.proofs.OrderLemmas.{AllInOrder, IsBefore, all_from_all, in_order}
-use Rattle.entity_tree.proofs.ListLemmas.{and_true}
+use Rattle.entity_tree.proofs.ListLemmas.{and_true, or_right}
 use Rattle.row_index.proofs.FoundLemmas.{none_at}
 use Rattle.row_index.proofs.RowLemmas.{all_stay}
 use Rattle.router_order.specs.declared.placed.Placed.{Placed}
@@ -130,4 +130,43 @@ none_cut e a rows found = by (find (is_row e a) rows) refl
   where
     by : (some : Option Placed) → find (is_row e a) rows ≡ some → attachments rows ≡ without_link (attachments rows) e a
     by None at = sym (stay_mapped e a rows (none_at (is_row e a) rows at))
+    by (Some row) at = absurd (let wrong : None ≡ Some row.rank = found ∙ ap (option_map (λ (row : Placed). row.rank)) (find_in_run e a rows ∙ at) in cc)
+
+linked_found : (e a : ℕ) (rows : List Placed) → is_linked (attachments rows) e a ≡ is_some (find (is_row e a) rows)
+linked_found e a [] = refl
+linked_found e a (x ∷ xs) = elim (cases_Bool (is_row e a x)) [ inl mine ↦ rw mine refl | inr other ↦ rw other (linked_found e a xs) ]
+
+any_found : (e a : ℕ) (row : Placed) (rows : List Placed) → find (is_row e a) rows ≡ Some row → list_any (has_rank a row.rank) rows ≡ true
+any_found e a row [] is = absurd (cc)
+any_found e a row (x ∷ xs) is = elim (cases_Bool (is_row e a x)) [
+  | inl mine ↦
+      let first : Some x ≡ Some row = rw mine at is in
+      let same : x ≡ row = cc in
+      let numbers = same_numbers (attachment x) e a mine in
+      let activity = numbers.1 in
+      let one : (x.activity.0 == a) ≡ true = grind (arith, nat_tests, activity) in
+      let two : (x.rank == x.rank) ≡ true = grind (arith, nat_tests) in
+      let own : has_rank a x.rank x ≡ true = rank_is a x.rank x ∙ (rw (one, two) refl) in
+      let here : has_rank a row.rank x ≡ true = subst (λ (r : Placed). has_rank a r.rank x ≡ true) same own in
+      rw here refl
+  | inr other ↦ or_right (has_rank a row.rank x) (list_any (has_rank a row.rank) xs) (any_found e a row xs (rw other at is))
+]
+
+-- an attachment that was found is there, and so is its rank
+pub found_linked : (e a rank : ℕ) (rows : List Placed) → Some rank ≡ option_map (λ (row : Placed). row.rank) (find (λ row. row.entity.0 == e) (run rows a)) → (is_linked (attachments rows) e a ≡ true) × (list_any (has_rank a rank) rows ≡ true)
+found_linked e a rank rows found = by (find (is_row e a) rows) refl
+  where
+    by : (some : Option Placed) → find (is_row e a) rows ≡ some → (is_linked (attachments rows) e a ≡ true) × (list_any (has_rank a rank) rows ≡ true)
+    by None at = absurd (let wrong : Some rank ≡ None = found ∙ ap (option_map (λ (row : Placed). row.rank)) (find_in_run e a rows ∙ at) in cc)
+    by (Some row) at =
+        let ranks : Some rank ≡ Some row.rank = found ∙ ap (option_map (λ (row : Placed). row.rank)) (find_in_run e a rows ∙ at) in
+        let same : rank ≡ row.rank = cc in
+        (linked_found e a rows ∙ ap is_some at, subst (λ n. list_any (has_rank a n) rows ≡ true) (sym same) (any_found e a row rows at))
+
+-- one that wasn't found isn't there
+pub none_linked : (e a : ℕ) (rows : List Placed) → None ≡ option_map (λ (row : Placed). row.rank) (find (λ row. row.entity.0 == e) (run rows a)) → is_linked (attachments rows) e a ≡ false
+none_linked e a rows found = by (find (is_row e a) rows) refl
+  where
+    by : (some : Option Placed) → find (is_row e a) rows ≡ some → is_linked (attachments rows) e a ≡ false
+    by None at = linked_found e a rows ∙ ap is_some at
     by (Some row) at = absurd (let wrong : None ≡ Some row.rank = found ∙ ap (option_map (λ (row : Placed). row.rank)) (find_in_run e a rows ∙ at) in cc)

@@ -9,8 +9,7 @@ use Rattle.slee_value.specs.declared.ids.EntityId.{EntityId}
 use Rattle.slee_state.specs.declared.rows.Entity.{Entity}
 use Rattle.slee_state.specs.declared.rows.Link.{Link}
 use Rattle.slee_state.specs.Orders.{put, same_pair}
-use Rattle.slee_state.specs.Contexts.{is_link, is_linked, links_on, without_link, without_links_on}
-use Rattle.slee_state.specs.Trees.{tree_of}
+use Rattle.slee_state.specs.Contexts.{is_linked, without_link, without_links_on}
 use Rattle.sorted_rows.specs.Keys.{is_key, key_before, pair_key}
 use Rattle.sorted_rows.proofs.AgreeLemmas.{pair_agrees}
 use Rattle.sorted_rows.proofs.OrderLemmas.{all_from_all}
@@ -35,27 +34,32 @@ abbrev pub has_under : List Entry → ℕ → ℕ → Bool
 has_under entries e a = list_any (is_under e a) entries
 
 -- what holds for all entries under an entity
-pub under_holds : (Q : ℕ → Type 0) (e b : ℕ) (entries : List Entry) → AllByRecursion (λ (entry : Entry). Q entry.number) (filter (λ entry. entry.key == e) entries) → has_under entries e b ≡ true → Q b
+pub under_holds : (Q : ℕ → ℕ → Type 0) (e b : ℕ) (entries : List Entry) → AllByRecursion (λ (entry : Entry). Q entry.key entry.number) (filter (λ entry. entry.key == e) entries) → has_under entries e b ≡ true → Q e b
 under_holds Q e b [] all there = absurd (cc)
 under_holds Q e b (x ∷ xs) all there = elim (cases_Bool (x.key == e)) [
   | inl mine ↦
       let both = rw mine at all in
       elim (cases_Bool (x.number == b)) [
-        | inl same ↦ let at : x.number ≡ b = grind (arith, nat_tests, same) in subst Q at both.0
+        | inl same ↦
+            let under : x.key ≡ e = grind (arith, nat_tests, mine) in
+            let at : x.number ≡ b = grind (arith, nat_tests, same) in
+            subst (λ n. Q e n) at (subst (λ n. Q n x.number) under both.0)
         | inr apart ↦ under_holds Q e b xs both.1 (rw (mine, apart) at there)
       ]
   | inr other ↦ under_holds Q e b xs (rw other at all) (rw other at there)
 ]
 
 -- what holds for all entries
-pub entry_holds : (Q : ℕ → Type 0) (e b : ℕ) (entries : List Entry) → AllByRecursion (λ (entry : Entry). Q entry.number) entries → has_under entries e b ≡ true → Q b
+pub entry_holds : (Q : ℕ → ℕ → Type 0) (e b : ℕ) (entries : List Entry) → AllByRecursion (λ (entry : Entry). Q entry.key entry.number) entries → has_under entries e b ≡ true → Q e b
 entry_holds Q e b [] all there = absurd (cc)
 entry_holds Q e b (x ∷ xs) all there = elim (cases_Bool (is_under e b x)) [
   | inl mine ↦
       let parts = and_parts (x.key == e) (x.number == b) mine in
+      let first = parts.0 in
       let second = parts.1 in
+      let under : x.key ≡ e = grind (arith, nat_tests, first) in
       let at : x.number ≡ b = grind (arith, nat_tests, second) in
-      subst Q at all.0
+      subst (λ n. Q e n) at (subst (λ n. Q n x.number) under all.0)
   | inr other ↦ entry_holds Q e b xs all.1 (rw other at there)
 ]
 
@@ -65,39 +69,6 @@ entity_holds Q f [] all there = absurd (cc)
 entity_holds Q f (x ∷ xs) all there = elim (cases_Bool (x.0 == f)) [
   | inl mine ↦ let at : x.0 ≡ f = grind (arith, nat_tests, mine) in subst Q at all.0
   | inr other ↦ entity_holds Q f xs all.1 (rw other at there)
-]
-
--- one of the attachments to an activity that passes
-found_on : (t : Link → Bool) (b : ℕ) (links : List Link) → list_any t (links_on links b) ≡ true → (l : Link) × (t l ≡ true) × (is_linked links l.entity.0 b ≡ true)
-found_on t b [] some = absurd (cc)
-found_on t b (x ∷ xs) some = elim (cases_Bool (x.activity.0 == b)) [
-  | inl mine ↦
-      let here = rw mine at some in
-      elim (cases_Bool (t x)) [
-        | inl passes ↦
-            let own : is_link x.entity.0 b x ≡ true = grind (arith, nat_tests, mine) in
-            (x, passes, rw own refl)
-        | inr fails ↦ let rest = found_on t b xs (rw fails at here) in (rest.0, rest.1, later rest.0 rest.2)
-      ]
-  | inr other ↦ let rest = found_on t b xs (rw other at some) in (rest.0, rest.1, later rest.0 rest.2)
-]
-  where
-    or_true : (c : Bool) → (c || true) ≡ true
-    or_true true = refl
-    or_true false = refl
-
-    later : (l : Link) → is_linked xs l.entity.0 b ≡ true → is_linked (x ∷ xs) l.entity.0 b ≡ true
-    later l there = rw there (or_true (is_link l.entity.0 b x))
-
--- Where the activities of all entities of a tree are listed, each one is to which none of these entities is attached and that was listed.
-pub listed_below : (fs : List Entity) (e : ℕ) (old new : List Link) (entries : List Entry) → IsIndexed old entries → ((b : ℕ) → IsListing fs (links_on old b) → IsListing fs (links_on new b))
-    → ((f : ℕ) → among f (tree_of fs e) ≡ true → (b : ℕ) → has_under entries f b ≡ true → IsListing fs (links_on new b))
-    → (b : ℕ) → (list_any (λ (l : Link). among l.entity.0 (tree_of fs e)) (links_on old b) ≡ false → IsListing fs (links_on old b)) → IsListing fs (links_on new b)
-listed_below fs e old new entries indexed kept below b was = elim (cases_Bool (list_any (λ (l : Link). among l.entity.0 (tree_of fs e)) (links_on old b))) [
-  | inl some ↦
-      let one = found_on (λ (l : Link). among l.entity.0 (tree_of fs e)) b old some in
-      below one.0.entity.0 one.1 b (indexed one.0.entity.0 b ∙ one.2)
-  | inr none ↦ kept b (was none)
 ]
 
 -- the key of an entry is that of the activity under the entity
@@ -218,19 +189,26 @@ pub none_gone : (goes : Placed → Entry → Bool) (entries : List Entry) → fi
 none_gone goes [] = refl
 none_gone goes (x ∷ xs) = ap (λ more. x ∷ more) (none_gone goes xs)
 
--- what is listed of the activities of so many entities
-abbrev pub IsListedOf : List Entity → List Entry → List Link → EntityId → Type 0
-IsListedOf es entries rows entity = (b : ℕ) → has_under entries entity.0 b ≡ true → IsListing es (links_on rows b)
+-- the attachments of an entity are gone
+abbrev pub IsGoneOf : List Entry → List Link → EntityId → Type 0
+IsGoneOf entries rows entity = (a : ℕ) → has_under entries entity.0 a ≡ true → is_linked rows entity.0 a ≡ false
 
--- the activities of one entity more are listed
-pub next_entity_listed : (es : List Entity) (entries : List Entry) (rows more : List Link) (entities : List EntityId) (i : ℕ) (d : EntityId) → i < length entities → ((b : ℕ) → IsListing es (links_on rows b) → IsListing es (links_on more b))
-    → AllByRecursion (λ (entry : Entry). IsListing es (links_on more entry.number)) (filter (λ entry. entry.key == (get_or entities i d).0) entries)
-    → AllByRecursion (IsListedOf es entries rows) (take i entities) → AllByRecursion (IsListedOf es entries more) (take (i + 1) entities)
-next_entity_listed es entries rows more entities i d within kept own seen =
-    subst (AllByRecursion (IsListedOf es entries more)) (sym (take_more entities i d within))
-    (all_joined (IsListedOf es entries more) (take i entities) (get_or entities i d ∷ [])
-    (all_from_all (IsListedOf es entries rows) (IsListedOf es entries more) (λ entity was b under. kept b (was b under)) (take i entities) seen)
-    ((λ b under. under_holds (λ c. IsListing es (links_on more c)) (get_or entities i d).0 b entries own under), tt))
+-- the attachments of one entity more are gone
+pub next_gone_of : (entries : List Entry) (rows more : List Link) (entities : List EntityId) (i : ℕ) (d : EntityId) → i < length entities → ((e a : ℕ) → is_linked rows e a ≡ false → is_linked more e a ≡ false)
+    → AllByRecursion (λ (entry : Entry). is_linked more entry.key entry.number ≡ false) (filter (λ entry. entry.key == (get_or entities i d).0) entries)
+    → AllByRecursion (IsGoneOf entries rows) (take i entities) → AllByRecursion (IsGoneOf entries more) (take (i + 1) entities)
+next_gone_of entries rows more entities i d within fewer own gone =
+    subst (AllByRecursion (IsGoneOf entries more)) (sym (take_more entities i d within))
+    (all_joined (IsGoneOf entries more) (take i entities) (get_or entities i d ∷ [])
+    (all_from_all (IsGoneOf entries rows) (IsGoneOf entries more) (λ entity was a under. fewer entity.0 a (was a under)) (take i entities) gone)
+    ((λ a under. under_holds (λ e b. is_linked more e b ≡ false) (get_or entities i d).0 a entries own under), tt))
+
+-- the attachments of entities are gone where those with entries are
+pub gone_below : (e a : ℕ) (old new : List Link) (entries : List Entry) → IsIndexed old entries → ((f b : ℕ) → is_linked old f b ≡ false → is_linked new f b ≡ false) → (has_under entries e a ≡ true → is_linked new e a ≡ false) → is_linked new e a ≡ false
+gone_below e a old new entries indexed fewer gone = elim (cases_Bool (has_under entries e a)) [
+  | inl under ↦ gone under
+  | inr none ↦ fewer e a (sym (indexed e a) ∙ none)
+]
 
 -- whether an attachment is there, by the key of its entry
 pub linked_by_key : (links : List Link) (entries : List Entry) → IsIndexed links entries → (e a : ℕ) → list_any (λ entry. is_key (entry_key entry) (pair_key e a)) entries ≡ is_linked links e a

@@ -7,7 +7,7 @@ pub mod IndexLemmas
 pub mod AnewLemmas
 pub mod RunLemmas
 pub mod LayLemmas
-pub mod RelistLemmas
+pub mod MoveLemmas
 pub mod PriorityLemmas
 pub mod IndexedLemmas
 pub mod DetachLemmas

@@ -7,21 +7,23 @@ use Rattle.std.proofs.lemmas.Bool.Decides.{nat_tests}
 use Rattle.slee_state.specs.declared.rows.Entity.{Entity}
 use Rattle.slee_state.specs.declared.rows.Link.{Link}
 use Rattle.slee_state.specs.Orders.{rises_by}
-use Rattle.slee_state.specs.Contexts.{links_on}
+use Rattle.slee_state.specs.Contexts.{is_linked}
 use Rattle.slee_state.specs.Trees.{children, entity_at, has_priority, parent_of, tree_of, with_priority}
 use Rattle.slee_state.specs.Paths.{path}
 use Rattle.sorted_rows.specs.Keys.{Rises, entity_key}
+use Rattle.sorted_rows.proofs.OrderLemmas.{all_from_all}
 use Rattle.entity_tree.specs.declared.branch.Branch.{Branch}
 use Rattle.entity_tree.specs.Kept.{AreParents, branch_of, is_entity}
 use Rattle.entity_tree.specs.Climbing.{path_at, step_of}
 use Rattle.entity_tree.proofs.PathLemmas.{no_path, parent_lower, path_step}
 use Rattle.entity_tree.proofs.RowLemmas.{found_number, same_number}
 use Rattle.entity_tree.proofs.TreeLemmas.{tree_step, trees}
-use Rattle.router_order.specs.Listed.{IsByActivity, IsListing, listed_before}
+use Rattle.row_index.proofs.RowLemmas.{any_fails}
+use Rattle.router_order.specs.Listed.{IsListing, listed_before}
 use Rattle.router_order.proofs.AnewLemmas.{all_still_there}
 use Rattle.router_order.proofs.LinkLemmas.{any_joined}
 use Rattle.router_order.proofs.ListingLemmas.{true_both}
-use Rattle.router_order.proofs.RelistLemmas.{listed_each, run_listed}
+use Rattle.router_order.proofs.MoveLemmas.{each_linked}
 
 -- the path goes through the entity of this number
 abbrev through : ℕ → List (ℤ × ℕ) → Bool
@@ -196,9 +198,14 @@ none_changed es fs e priority is none = is ∙ same_without es e priority (by (e
     by None at = at
     by (Some row) at = absurd (let wrong : None ≡ Some (has_priority e priority row) = none ∙ ap (λ (rows : List Entity). entity_at rows e) is ∙ entity_still es e priority e ∙ ap (option_map (has_priority e priority)) at in cc)
 
--- attachments that were listed are listed once each activity is, of which those stay to which no entity of the tree is attached
-pub relisted : (es fs : List Entity) (e : ℕ) (priority : ℤ) (old new : List Link) → fs ≡ with_priority es e priority → Rises entity_key fs → AreParents fs → IsListing es old → IsByActivity new
-    → ((b : ℕ) → (list_any (λ (l : Link). among l.entity.0 (tree_of fs e)) (links_on old b) ≡ false → IsListing fs (links_on old b)) → IsListing fs (links_on new b))
-    → IsListing fs new
-relisted es fs e priority old new is rises parents listing side runs =
-    listed_each fs new side (λ b. runs b (λ none. listed_still es fs e priority (links_on old b) is rises parents none (run_listed es old b listing)))
+-- attachments that were listed stay so where none is left of an entity of the tree
+pub left_listed : (es fs : List Entity) (e : ℕ) (priority : ℤ) (left : List Link) → fs ≡ with_priority es e priority → Rises entity_key fs → AreParents fs → IsListing es left
+    → ((f a : ℕ) → among f (tree_of fs e) ≡ true → is_linked left f a ≡ false) → IsListing fs left
+left_listed es fs e priority left is rises parents listing gone =
+    listed_still es fs e priority left is rises parents (any_fails (λ (l : Link). among l.entity.0 (tree_of fs e)) left (all_from_all (λ (l : Link). is_linked left l.entity.0 l.activity.0 ≡ true) (λ (l : Link). among l.entity.0 (tree_of fs e) ≡ false) one left (each_linked left))) listing
+  where
+    one : (l : Link) → is_linked left l.entity.0 l.activity.0 ≡ true → among l.entity.0 (tree_of fs e) ≡ false
+    one l there = elim (cases_Bool (among l.entity.0 (tree_of fs e))) [
+      | inl below ↦ absurd (let wrong = sym there ∙ gone l.entity.0 l.activity.0 below in cc)
+      | inr apart ↦ apart
+    ]

@@ -22,7 +22,7 @@ use Rattle.router_order.specs.Placed.{attachment, attachments, placed_key}
 use Rattle.router_order.proofs.ListingLemmas.{listing_order, put_listing, put_there, same_place, steps}
 use Rattle.router_order.proofs.PathOrder.{listed_is, listed_order, listed_total, not_back}
 use Rattle.router_order.proofs.LayLemmas.{inserted}
-use Rattle.router_order.proofs.RelistLemmas.{run_listed}
+use Rattle.router_order.proofs.MoveLemmas.{run_listed}
 use Rattle.router_order.proofs.RunLemmas.{placed_before, placed_by_activity, put_other, put_own, run, run_is}
 
 at_holds : {X : Type 0} (P : X → Type 0) (i : ℕ) (y : X) (xs : List X) → AllByRecursion P xs → slice_get xs i ≡ Some y → P y

@@ -1,8 +1,8 @@
 //! Attachments cut from the rows, and their activities from under their entities.
-ghost use Rattle.std.specs.Prelude.{◌≡◌, ◌==◌, ◌+◌, ◌≤◌, List, find, not, filter, length, option_map};
+ghost use Rattle.std.specs.Prelude.{◌≡◌, ◌==◌, ◌+◌, ◌≤◌, List, IsTrue, find, not, filter, length, option_map};
 ghost use Rattle.std.specs.List.{list_any};
 ghost use Rattle.slee_state.specs.declared.rows.Entity.{Entity};
-ghost use Rattle.slee_state.specs.Contexts.{without_link, without_links_on};
+ghost use Rattle.slee_state.specs.Contexts.{is_linked, without_link, without_links_on};
 ghost use Rattle.sorted_rows.specs.Keys.{is_key, pair_key};
 ghost use Rattle.row_index.specs.Index.{entry_key};
 ghost use Rattle.router_order.specs.Listed.{IsListing};
@@ -14,7 +14,7 @@ use row_index::Entry;
 use slee_value::{ActivityId, EntityId};
 
 /// The rank of the first one of these attachments that is the entity's.
-fn rank_of(run: Run<'_, Placed>, entity: EntityId) -> Option<u64>
+pub fn rank_of(run: Run<'_, Placed>, entity: EntityId) -> Option<u64>
     ensures { result ≡ option_map (λ row. row.rank) (find (λ row. row.entity.0 == entity.0) run.entry) }
 {
     'rows: for row in run {
@@ -35,16 +35,21 @@ pub fn cut_entries(entries: &mut Leaves<Entry>, run: Run<'_, Placed>, activity: 
     }
 }
 
-/// The attachment of the entity to the activity is gone.
-pub fn cut_link(rows: &mut Leaves<Placed>, activity: ActivityId, entity: EntityId)
+/// The attachment of the entity to the activity is gone. The answer says whether there was one.
+pub fn cut_link(rows: &mut Leaves<Placed>, activity: ActivityId, entity: EntityId) -> bool
+    ensures found { result ≡ is_linked (attachments rows.old.rows) entity.0 activity.0 }
     ensures rows { (entities : List Entity) → IsListing entities (attachments rows.old.rows) → attachments rows.new.rows ≡ without_link (attachments rows.old.rows) entity.0 activity.0 }
     ensures room { rows.old.room ≤ rows.new.room }
+    ensures gives { IsTrue result → rows.old.room + 1 ≤ rows.new.room }
     ensures whole { rows.new.room + length rows.new.rows ≡ rows.old.room + length rows.old.rows }
 {
     rows.rises();
     match rank_of(rows.rows_of(activity.0), entity) {
-        Some(rank) => rows.cut_row(activity.0, rank, &[]),
-        None => {}
+        Some(rank) => {
+            rows.cut_row(activity.0, rank, &[]);
+            true
+        }
+        None => false,
     }
 }
 

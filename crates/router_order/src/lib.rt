@@ -1,11 +1,11 @@
 //! Which of the entities that are attached to an activity receives its head event next (JSR 240, 8.4).
 #![tactic(auto)]
 
-mod anew;
 mod cutting;
 mod inserting;
 mod laying;
 mod listing;
+mod moving;
 mod next;
 mod order;
 mod placed;

@@ -12,9 +12,9 @@ ghost use Rattle.entity_tree.specs.Kept.{is_entity};
 ghost use Rattle.router_order.specs.Asked.{IsAbout};
 ghost use Rattle.router_order.specs.Listed.{Agrees, IsListing, listed_before};
 
-use crate::anew::relist_below;
 use crate::cutting::{cut_entries, cut_link, cut_links_on};
 use crate::inserting::insert_link;
+use crate::moving::{put_each, take_below};
 use crate::placed::Placed;
 use crate::ready::first_ready;
 use crate::wants::Wants;
@@ -27,12 +27,13 @@ use slee_value::{ActivityId, EntityId, NoMemory};
 use std::alloc::Global;
 use std::marker::Model;
 
-/// All attachments, by activity, then by rank, which rises as the paths of the entities do, and each entity's activities. The spare list is empty but while attachments are listed anew.
+/// All attachments, by activity, then by rank, which rises as the paths of the entities do, and each entity's activities. The spare list is empty but while the attachments to one activity have ranks anew, and the other one but while paths change.
 #[derive(Drop)]
 pub struct Order {
     rows: Leaves<Placed>,
     entries: Leaves<Entry>,
     spare: Vec<Link>,
+    taken: Vec<Link>,
     alloc: Global,
 }
 
@@ -43,9 +44,9 @@ impl Model for Order {
 
     ghost Value = { OrderView };
 
-    ghost view = { λ o. record { rows = attachments o.rows.rows; room = min (min o.rows.room o.entries.room) (vec_capacity o.spare - length o.rows.rows) } };
+    ghost view = { λ o. record { rows = attachments o.rows.rows; room = min (min o.rows.room o.entries.room) (min (vec_capacity o.spare) (vec_capacity o.taken) - length o.rows.rows) } };
 
-    ghost invariant = { λ o. IsIndexed (attachments o.rows.rows) o.entries.rows × (o.spare.items ≡ []) × (length o.rows.rows ≤ vec_capacity o.spare) };
+    ghost invariant = { λ o. IsIndexed (attachments o.rows.rows) o.entries.rows × (o.spare.items ≡ []) × (length o.rows.rows ≤ vec_capacity o.spare) × (o.taken.items ≡ []) × (length o.rows.rows ≤ vec_capacity o.taken) };
 }
 
 impl Order {
@@ -58,6 +59,7 @@ impl Order {
             rows: Leaves::new(alloc),
             entries: Leaves::new(alloc),
             spare: Vec::new(alloc),
+            taken: Vec::new(alloc),
             alloc,
         }
     }
@@ -71,7 +73,10 @@ impl Order {
         self.rows.reserve(rows as usize)?;
         self.entries.reserve(rows as usize)?;
         match self.rows.len().checked_add(rows as usize) {
-            Some(all) => self.spare.reserve(all)?,
+            Some(all) => {
+                self.spare.reserve(all)?;
+                self.taken.reserve(all)?;
+            }
             None => return Err(NoMemory),
         }
         Ok(())
@@ -126,7 +131,7 @@ impl Order {
         cut_links_on(&mut self.rows, activity);
     }
 
-    /// The entity has this priority, in the tree too. The attachments to activities of the entity and of those below it are listed anew, and where there is no memory to find these, all attachments are.
+    /// The entity has this priority, in the tree too. The attachments of the entity and of those below it are taken out and put in again; where there is no memory to find these, all attachments are.
     pub fn set_priority(&mut self, tree: &mut Tree, entity: EntityId, priority: i8)
         requires { IsListing tree.old.rows self.old.rows }
         ensures entities { tree.new.rows ≡ with_priority tree.old.rows entity.0 priority }
@@ -140,15 +145,16 @@ impl Order {
         tree.ordered();
         match tree.find(entity) {
             Some(_) => {
-                relist_below(
+                take_below(
                     tree,
                     &mut self.rows,
-                    &mut self.spare,
+                    &mut self.taken,
                     &self.entries,
                     entity,
                     self.alloc,
                 );
-                self.rows.rises();
+                put_each(tree, &mut self.rows, &mut self.spare, &self.taken);
+                self.taken.clear();
             }
             None => {}
         }

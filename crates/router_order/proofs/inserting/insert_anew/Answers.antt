@@ -6,7 +6,7 @@ use Rattle.router_order.specs.Listed.{listed_before}
 use Rattle.router_order.specs.Placed.{attachments}
 use Rattle.router_order.proofs.LayLemmas.{inserted}
 use Rattle.router_order.proofs.ListingLemmas.{put_listing}
-use Rattle.router_order.proofs.RelistLemmas.{own_on, own_put, run_listed}
+use Rattle.router_order.proofs.MoveLemmas.{own_on, own_put, run_listed}
 use Rattle.router_order.proofs.RunLemmas.{placed_by_activity, run_is, run_length, run_short}
 use Rattle.router_order.proofs.inserting.insert_anew.Goals as goal
 

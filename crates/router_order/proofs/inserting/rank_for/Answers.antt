@@ -7,7 +7,7 @@ use Rattle.router_order.specs.declared.placed.Placed.{Placed}
 use Rattle.router_order.specs.Listed.{IsListing}
 use Rattle.router_order.specs.Placed.{attachments}
 use Rattle.router_order.proofs.RankLemmas.{above_front, below_back, earlier_down, is_earlier, run_ranks, some_follows}
-use Rattle.router_order.proofs.RelistLemmas.{run_listed}
+use Rattle.router_order.proofs.MoveLemmas.{run_listed}
 use Rattle.router_order.proofs.RunLemmas.{run, run_is, run_length, run_short}
 use Rattle.router_order.proofs.inserting.rank_for.Goals as goal
 

@@ -32,6 +32,8 @@ invariant_of-self c =
           refl refl c.requires.there listing c.insert_link.ensures.rows c.put_row.ensures.rows c.self.invariant.0,
       c.insert_link.ensures.empty,
       omega (arith, room, c.insert_link.ensures.room, c.insert_link.ensures.whole, c.insert_link.ensures.capacity, c.self.invariant.2),
+      c.self.invariant.3,
+      omega (arith, room, c.insert_link.ensures.room, c.insert_link.ensures.whole, c.self.invariant.4),
     )
 
 pub returns-clause-listing : goal.returns-clause-listing

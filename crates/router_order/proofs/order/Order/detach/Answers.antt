@@ -12,6 +12,8 @@ invariant_of-self c =
       detach_indexed c.args.entity.0 c.args.activity.0 (attachments c.self.inside.rows.rows) (attachments c.cut_link.new.rows.rows) c.self.inside.entries.rows c.cut_row.new.self.rows is c.cut_row.ensures.rows c.self.invariant.0,
       c.self.invariant.1,
       omega (arith, c.cut_link.ensures.room, c.cut_link.ensures.whole, c.self.invariant.2),
+      c.self.invariant.3,
+      omega (arith, c.cut_link.ensures.room, c.cut_link.ensures.whole, c.self.invariant.4),
     )
 
 pub returns-clause-listing : goal.returns-clause-listing

@@ -11,6 +11,8 @@ invariant_of-self c =
       forget_indexed c.args.activity.0 c.self.inside.rows.rows (attachments c.cut_links_on.new.rows.rows) c.self.inside.entries.rows c.cut_entries.new.entries.rows c.cut_links_on.ensures.rows cut c.self.invariant.0,
       c.self.invariant.1,
       omega (arith, c.cut_links_on.ensures.room, c.cut_links_on.ensures.whole, c.self.invariant.2),
+      c.self.invariant.3,
+      omega (arith, c.cut_links_on.ensures.room, c.cut_links_on.ensures.whole, c.self.invariant.4),
     )
 
 pub returns-clause-agrees : goal.returns-clause-agrees
