@@ -1,5 +1,5 @@
 -- Attachments to one activity laid with ranks that rise, and the attachments of all once those to one activity are others.
-use Rattle.std.proofs.Common.{◌≡◌, ℕ, suc, ◌+◌, ◌*◌, ◌<◌, ◌==◌, true, false, List, [], ◌∷◌, ◌++◌, length, take, get_or, refl, sym, ap, subst, ◌∙◌, arith, inl, inr}
+use Rattle.std.proofs.Common.{◌≡◌, ℕ, zero, suc, ◌+◌, ◌*◌, ◌<◌, ◌==◌, true, false, List, [], ◌∷◌, ◌++◌, length, take, get_or, refl, sym, ap, subst, ◌∙◌, arith, inl, inr}
 use Rattle.std.specs.Prelude.{nat_lt}
 use Rattle.std.specs.List.{AllByRecursion}
 use Rattle.std.proofs.Math.Nat.{mul-suc}
@@ -40,6 +40,11 @@ behind_all row rows own below =
     high x mine less =
         let step : pair_before row.activity.0 row.rank x.activity.0 x.rank ≡ false = grind (arith, nat_tests, mine, less) in
         pair_agrees row.activity.0 row.rank x.activity.0 x.rank ∙ step
+
+pub all_at : (P : Link → Type 0) (links : List Link) (i : ℕ) (d : Link) → AllByRecursion P links → i < length links → P (get_or links i d)
+all_at P [] i d all within = absurd (omega (arith, within))
+all_at P (x ∷ xs) zero d all within = all.0
+all_at P (x ∷ xs) (suc i) d all within = all_at P xs i d all.1 (omega (arith, within))
 
 -- one attachment more is laid behind the others
 module _ (row : Placed) (rows more : List Placed) (is : more ≡ put placed_before row rows) (below : AreBelow row.rank (run rows row.activity.0)) where

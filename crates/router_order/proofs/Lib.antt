@@ -4,7 +4,6 @@ pub mod PathOrder
 pub mod ListingLemmas
 pub mod FirstLemmas
 pub mod IndexLemmas
-pub mod AnewLemmas
 pub mod RunLemmas
 pub mod LayLemmas
 pub mod MoveLemmas

@@ -15,7 +15,7 @@ use Rattle.entity_tree.proofs.ListLemmas.{all_joined}
 use Rattle.row_index.specs.declared.entry.Entry.{Entry}
 use Rattle.router_order.specs.Listed.{IsListing, listed_before}
 use Rattle.router_order.specs.Taken.{IsTaken}
-use Rattle.router_order.proofs.AnewLemmas.{linked_more}
+use Rattle.router_order.proofs.LinkLemmas.{linked_more}
 use Rattle.router_order.proofs.LinkLemmas.{all_on, same_numbers, without_link_linked}
 use Rattle.router_order.proofs.ListingLemmas.{filter_keeps, filter_listing, put_linked}
 
@@ -43,10 +43,6 @@ module _ (P : ℕ → ℕ → Type 0) where
     | inr other ↦ linked_holds xs e a all.1 (rw other at there)
   ]
 
-  pub members_hold : (old new : List Link) → ((e a : ℕ) → is_linked new e a ≡ is_linked old e a) → AllByRecursion (λ (l : Link). P l.entity.0 l.activity.0) old → AllByRecursion (λ (l : Link). P l.entity.0 l.activity.0) new
-  members_hold old new members all =
-      all_from_all (λ (l : Link). is_linked new l.entity.0 l.activity.0 ≡ true) (λ l. P l.entity.0 l.activity.0) (λ l there. linked_holds old l.entity.0 l.activity.0 all (sym (members l.entity.0 l.activity.0) ∙ there)) new (each_linked new)
-
 pub own_on : (a : ℕ) (links : List Link) → AllByRecursion (λ (l : Link). l.activity.0 ≡ a) (links_on links a)
 own_on a links = all_from_all (λ (l : Link). (l.activity.0 == a) ≡ true) (λ (l : Link). l.activity.0 ≡ a) (λ l mine. grind (arith, nat_tests, mine)) (links_on links a) (all_on a links)
 
@@ -58,9 +54,6 @@ pub run_listed : (es : List Entity) (rows : List Link) (b : ℕ) → IsListing e
 run_listed es rows b listing = filter_listing es (λ l. l.activity.0 == b) rows listing
 
 -- Attachments that go from the one list and come to the other.
-
-pub taken_none : (old before : List Link) → IsTaken old old before before
-taken_none old before = record { listing = λ es was. was; members = λ e a. refl; fewer = λ e a none. none }
 
 pub taken_then : (old left new before more after : List Link) → IsTaken old left before more → IsTaken left new more after → IsTaken old new before after
 taken_then old left new before more after one two = record {

@@ -20,7 +20,6 @@ use Rattle.entity_tree.proofs.RowLemmas.{found_number, same_number}
 use Rattle.entity_tree.proofs.TreeLemmas.{tree_step, trees}
 use Rattle.row_index.proofs.RowLemmas.{any_fails}
 use Rattle.router_order.specs.Listed.{IsListing, listed_before}
-use Rattle.router_order.proofs.AnewLemmas.{all_still_there}
 use Rattle.router_order.proofs.LinkLemmas.{any_joined}
 use Rattle.router_order.proofs.ListingLemmas.{true_both}
 use Rattle.router_order.proofs.MoveLemmas.{each_linked}
@@ -39,6 +38,21 @@ entity_still (x ∷ xs) e priority f = elim (cases_Bool (x.number.0 == f)) [
   | inl mine ↦ rw (same_number e priority x, mine) refl
   | inr other ↦ rw (same_number e priority x, other) (entity_still xs e priority f)
 ]
+
+-- who is there doesn't depend on priorities
+pub still_there : (rows : List Entity) (e : ℕ) (priority : ℤ) (f : ℕ) → is_entity (with_priority rows e priority) f ≡ is_entity rows f
+still_there [] e priority f = refl
+still_there (x ∷ xs) e priority f = elim (cases_Bool (x.number.0 == f)) [
+  | inl mine ↦ rw (same_number e priority x, mine) refl
+  | inr other ↦ rw (same_number e priority x, other) (still_there xs e priority f)
+]
+
+pub all_still_there : (es : List Entity) (e : ℕ) (priority : ℤ) (links : List Link) → AllByRecursion (λ row. is_entity es row.entity.0 ≡ true) links → AllByRecursion (λ row. is_entity (with_priority es e priority) row.entity.0 ≡ true) links
+all_still_there es e priority links all =
+    all_from_all (λ (row : Link). is_entity es row.entity.0 ≡ true) (λ row. is_entity (with_priority es e priority) row.entity.0 ≡ true) (λ row there. still_there es e priority row.entity.0 ∙ there) links all
+
+pub still_all : (es fs : List Entity) (e : ℕ) (priority : ℤ) (links : List Link) → fs ≡ with_priority es e priority → AllByRecursion (λ row. is_entity es row.entity.0 ≡ true) links → AllByRecursion (λ row. is_entity fs row.entity.0 ≡ true) links
+still_all es fs e priority links is all = subst (λ (rows : List Entity). AllByRecursion (λ (row : Link). is_entity rows row.entity.0 ≡ true) links) (sym is) (all_still_there es e priority links all)
 
 length_still : (rows : List Entity) (e : ℕ) (priority : ℤ) → length (with_priority rows e priority) ≡ length rows
 length_still [] e priority = refl

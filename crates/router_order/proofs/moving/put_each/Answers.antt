@@ -3,7 +3,7 @@ use Rattle.std.proofs.Common.{◌≡◌, true, arith}
 use Rattle.slee_state.specs.declared.rows.Link.{Link}
 use Rattle.entity_tree.specs.Kept.{is_entity}
 use Rattle.router_order.specs.Placed.{attachments}
-use Rattle.router_order.proofs.AnewLemmas.{all_at}
+use Rattle.router_order.proofs.LayLemmas.{all_at}
 use Rattle.router_order.proofs.ListingLemmas.{put_keeps}
 use Rattle.router_order.proofs.MoveLemmas.{next_members}
 use Rattle.router_order.proofs.moving.put_each.Goals as goal

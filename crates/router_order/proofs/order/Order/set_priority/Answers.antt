@@ -3,7 +3,7 @@ use Rattle.std.proofs.Common.{◌∙◌, List, ap, arith, length, subst, sym}
 use Rattle.slee_state.specs.declared.rows.Entity.{Entity}
 use Rattle.router_order.specs.Listed.{Agrees, IsListing}
 use Rattle.router_order.specs.Placed.{attachments}
-use Rattle.router_order.proofs.AnewLemmas.{still_all}
+use Rattle.router_order.proofs.PriorityLemmas.{still_all}
 use Rattle.router_order.proofs.MoveLemmas.{again_linked, taken_there}
 use Rattle.router_order.proofs.PriorityLemmas.{left_listed, none_changed}
 use Rattle.router_order.proofs.order.Order.set_priority.Goals as goal
