@@ -4,4 +4,10 @@ pub mod PathOrder
 pub mod ListingLemmas
 pub mod FirstLemmas
 pub mod IndexLemmas
-pub mod AnewLemmas
+pub mod RunLemmas
+pub mod LayLemmas
+pub mod MoveLemmas
+pub mod PriorityLemmas
+pub mod IndexedLemmas
+pub mod DetachLemmas
+pub mod RankLemmas

@@ -126,3 +126,13 @@ pub without_links_on_linked : (links : List Link) (a f b : ℕ) → is_linked (w
 without_links_on_linked links a f b =
     left_any (is_link f b) (λ l. not (l.activity.0 == a)) (not (b == a)) links
     (λ l is. let same = same_numbers l f b is in rw same.1 refl)
+
+or_turned : (a b : Bool) → (b || (a || false)) ≡ (a || b)
+or_turned true true = refl
+or_turned true false = refl
+or_turned false true = refl
+or_turned false false = refl
+
+-- who is attached by these and one more
+pub linked_more : (rows : List Link) (l : Link) (e a : ℕ) → is_linked (rows ++ l ∷ []) e a ≡ (is_link e a l || is_linked rows e a)
+linked_more rows l e a = any_joined (is_link e a) rows (l ∷ []) ∙ or_turned (is_link e a l) (is_linked rows e a)

@@ -11,7 +11,6 @@ use Rattle.slee_state.specs.declared.rows.Link.{Link}
 use Rattle.slee_state.specs.Orders.{put, rises_by, same_pair}
 use Rattle.slee_state.specs.Contexts.{is_link, is_linked, with_link, without_link, without_links_on}
 use Rattle.sorted_rows.proofs.OrderLemmas.{AllInOrder, all_filter, all_from_all, order_filter}
-use Rattle.sorted_rows.proofs.CutLemmas.{Parts}
 use Rattle.sorted_rows.proofs.HalvingLemmas.{PlacesBy, absent_from, found, position_at}
 use Rattle.sorted_rows.proofs.RowLemmas.{PartedBy, inserted_is, replaced_is}
 use Rattle.entity_tree.specs.Kept.{AreParents, is_entity}
@@ -20,7 +19,7 @@ use Rattle.router_order.specs.Listed.{Agrees, IsByActivity, IsListing, listed_be
 use Rattle.router_order.proofs.LinkLemmas.{put_any, same_numbers, with_link_linked, without_link_linked, without_links_on_linked}
 use Rattle.router_order.proofs.PathOrder.{joins, listed_is, listed_order, listed_total, one_link, parted}
 
-true_both : (a b : Bool) → a ≡ true → b ≡ true → (a && b) ≡ true
+pub true_both : (a b : Bool) → a ≡ true → b ≡ true → (a && b) ≡ true
 true_both true true passes also = refl
 true_both true false passes also = cc
 true_both false b passes also = cc
@@ -61,19 +60,6 @@ IsNotAbove x y = nat_le x.activity.0 y.activity.0 ≡ true
 
 pub activity_order : (rows : List Link) → IsByActivity rows → AllInOrder IsNotAbove rows
 activity_order rows rises = in_order (λ x y. nat_le x.activity.0 y.activity.0) (λ x y z one two. grind (arith, nat_tests, one, two)) rows rises
-
-pub filter_activities : (p : Link → Bool) (rows : List Link) → IsByActivity rows → IsByActivity (filter p rows)
-filter_activities p rows rises =
-    rises_again (λ x y. nat_le x.activity.0 y.activity.0) (λ x y z one two. grind (arith, nat_tests, one, two)) (filter p rows) (order_filter IsNotAbove p rows (activity_order rows rises))
-
--- two numbers part the rows of one activity from the others
-pub activity_parts : (a : ℕ) → Parts IsNotAbove (λ x. nat_lt x.activity.0 a) (λ x. nat_le x.activity.0 a) (λ x. not (x.activity.0 == a))
-activity_parts a = record {
-  within = λ x low. grind (arith, nat_tests, low);
-  lower = λ x y le low. grind (arith, nat_tests, le, low);
-  upper = λ x y le low. grind (arith, nat_tests, le, low);
-  left = λ x. grind (arith, nat_tests);
-}
 
 module _ (es : List Entity) where
   pub steps : (x y z : Link) → listed_before es x y ≡ true → listed_before es y z ≡ true → listed_before es x z ≡ true
@@ -119,7 +105,7 @@ module _ (es : List Entity) where
 
   module _ (parents : AreParents es) where
     -- two attachments of entities that are there and of which neither is listed before the other are the same
-    same_place : (f b : ℕ) (x y : Link) → is_entity es x.entity.0 ≡ true → is_entity es y.entity.0 ≡ true → listed_before es x y ≡ false → listed_before es y x ≡ false → is_link f b x ≡ is_link f b y
+    pub same_place : (f b : ℕ) (x y : Link) → is_entity es x.entity.0 ≡ true → is_entity es y.entity.0 ≡ true → listed_before es x y ≡ false → listed_before es y x ≡ false → is_link f b x ≡ is_link f b y
     same_place f b x y there also one two =
         let laws = parted_at y in
         let tied : is_eq (listed_order es x y) ≡ true = elim (cases_Bool (is_eq (listed_order es x y))) [
@@ -174,11 +160,8 @@ module _ (es : List Entity) where
   pub forgotten : (a : ℕ) (rows fewer links : List Link) → fewer ≡ without_links_on rows a → Agrees es links rows → Agrees es (without_links_on links a) fewer
   forgotten a rows fewer links is agrees = subst (λ (all : List Link). Agrees es (without_links_on links a) all) (sym is) (forget_agrees es a rows links agrees)
 
-pub filtered_activities : (p : Link → Bool) (rows fewer : List Link) → fewer ≡ filter p rows → IsByActivity rows → IsByActivity fewer
-filtered_activities p rows fewer is rises = subst (λ (all : List Link). IsByActivity all) (sym is) (filter_activities p rows rises)
-
 -- two attachments of the same numbers are one
-same_link : (x y : Link) → x.entity.0 ≡ y.entity.0 → x.activity.0 ≡ y.activity.0 → x ≡ y
+pub same_link : (x y : Link) → x.entity.0 ≡ y.entity.0 → x.activity.0 ≡ y.activity.0 → x ≡ y
 same_link x y entities activities = λ i. record { entity = record { 0 = entities i }; activity = record { 0 = activities i } }
 
 agree_from : (p q : Link → Bool) (i : ℕ) (rows : List Link) → AllByRecursion (λ x. p x ≡ q x) rows → position_from p i rows ≡ position_from q i rows

@@ -1,2 +1,4 @@
 pub mod Asked
 pub mod Listed
+pub mod Placed
+pub mod Taken

@@ -1,12 +1,15 @@
 //! Which of the entities that are attached to an activity receives its head event next (JSR 240, 8.4).
 #![tactic(auto)]
 
-mod anew;
+mod cutting;
+mod inserting;
+mod laying;
 mod listing;
+mod moving;
 mod next;
 mod order;
+mod placed;
 mod ready;
-mod runs;
 mod wants;
 
 pub use next::next_entity;

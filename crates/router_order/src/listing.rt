@@ -1,15 +1,15 @@
-//! Attachments that are listed by activity, then by the path of the entity: one is found by halving, put in its place, and taken out.
-ghost use Rattle.std.specs.Prelude.{◌≡◌, ◌≤◌, ◌<◌, ◌+◌, ◌-◌, length, IsTrue, IfSome, vec_capacity, vec_len};
+//! Attachments that are listed by activity, then by the path of the entity: one is found by halving, and put in its place.
+ghost use Rattle.std.specs.Prelude.{◌≡◌, ◌≤◌, ◌<◌, ◌+◌, ◌++◌, ◌∷◌, [], length, IsTrue, IfSome, vec_capacity, vec_len};
 ghost use Rattle.std.specs.List.{insert, prefix_len, position_from};
 ghost use Rattle.slee_state.specs.Orders.{put};
-ghost use Rattle.slee_state.specs.Contexts.{is_link, without_link};
+ghost use Rattle.slee_state.specs.Contexts.{is_link};
 ghost use Rattle.entity_tree.specs.Kept.{is_entity};
 ghost use Rattle.router_order.specs.Listed.{IsListing, listed_before};
 
 use entity_tree::Tree;
 use slee_state::Link;
 
-fn is_before(tree: &Tree, row: &Link, link: &Link) -> bool
+pub fn is_before(tree: &Tree, row: &Link, link: &Link) -> bool
     ensures { result ≡ listed_before tree.now.rows row.now link.now }
 {
     row.activity.0 < link.activity.0
@@ -63,6 +63,19 @@ fn insert_row(rows: &mut Vec<Link>, place: usize, row: Link)
     }
 }
 
+/// The attachment goes behind the others.
+pub fn push_link(rows: &mut Vec<Link>, row: Link)
+    requires room { vec_len rows.old < vec_capacity rows.old }
+    ensures items { rows.new.items ≡ rows.old.items ++ row ∷ [] }
+    ensures length { vec_len rows.new ≡ vec_len rows.old + 1 }
+    ensures capacity { vec_capacity rows.old ≤ vec_capacity rows.new }
+{
+    match rows.push(row) {
+        Ok(()) => {}
+        Err(_) => unreachable!(),
+    }
+}
+
 /// The attachment stands in its place.
 pub fn put_link(tree: &Tree, rows: &mut Vec<Link>, link: Link)
     requires listing { IsListing tree.now.rows rows.old.items }
@@ -79,20 +92,5 @@ pub fn put_link(tree: &Tree, rows: &mut Vec<Link>, link: Link)
             let place = count_before(tree, rows, &link);
             insert_row(rows, place, link);
         }
-    }
-}
-
-/// The attachment is gone.
-pub fn cut_link(tree: &Tree, rows: &mut Vec<Link>, link: &Link)
-    requires { IsListing tree.now.rows rows.old.items }
-    ensures items { rows.new.items ≡ without_link rows.old.items link.now.entity.0 link.now.activity.0 }
-    ensures length { vec_len rows.new ≤ vec_len rows.old }
-    ensures capacity { vec_capacity rows.old ≤ vec_capacity rows.new }
-{
-    match place_of(tree, rows, link) {
-        Some(place) => {
-            rows.remove(place);
-        }
-        None => {}
     }
 }

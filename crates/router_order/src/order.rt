@@ -12,35 +12,41 @@ ghost use Rattle.entity_tree.specs.Kept.{is_entity};
 ghost use Rattle.router_order.specs.Asked.{IsAbout};
 ghost use Rattle.router_order.specs.Listed.{Agrees, IsListing, listed_before};
 
-use crate::anew::list_anew;
-use crate::listing::{cut_link, put_link};
+use crate::cutting::{cut_entries, cut_link, cut_links_on};
+use crate::inserting::insert_link;
+use crate::moving::{put_each, take_below};
+use crate::placed::Placed;
 use crate::ready::first_ready;
-use crate::runs::{cut_links_on, links_on};
 use crate::wants::Wants;
 use entity_tree::Tree;
 use event_mask::Masks;
+use leaf_rows::Leaves;
+use row_index::Entry;
 use slee_state::Link;
 use slee_value::{ActivityId, EntityId, NoMemory};
 use std::alloc::Global;
 use std::marker::Model;
-use std::mem::swap;
 
-/// All attachments, by activity, then by the path of the entity. The spare list is empty but while they are listed anew.
-#[derive(Debug, Drop)]
+/// All attachments, by activity, then by rank, which rises as the paths of the entities do, and each entity's activities. The spare list is empty but while the attachments to one activity have ranks anew, and the other one but while paths change.
+#[derive(Drop)]
 pub struct Order {
-    rows: Vec<Link>,
+    rows: Leaves<Placed>,
+    entries: Leaves<Entry>,
     spare: Vec<Link>,
+    taken: Vec<Link>,
+    alloc: Global,
 }
 
 impl Model for Order {
-    ghost use Rattle.std.specs.Prelude.{◌≡◌, ◌≤◌, [], min, ◌-◌, vec_capacity, vec_len};
-    ghost use Rattle.router_order.specs.Listed.{IsByActivity, OrderView};
+    ghost use Rattle.std.specs.Prelude.{◌≡◌, ◌≤◌, [], min, length, ◌-◌, vec_capacity};
+    ghost use Rattle.router_order.specs.Listed.{OrderView};
+    ghost use Rattle.router_order.specs.Placed.{attachments, IsIndexed};
 
     ghost Value = { OrderView };
 
-    ghost view = { λ o. record { rows = o.rows.items; room = min (vec_capacity o.rows) (vec_capacity o.spare) - vec_len o.rows } };
+    ghost view = { λ o. record { rows = attachments o.rows.rows; room = min (min o.rows.room o.entries.room) (min (vec_capacity o.spare) (vec_capacity o.taken) - length o.rows.rows) } };
 
-    ghost invariant = { λ o. IsByActivity o.rows.items × (o.spare.items ≡ []) × (vec_len o.rows ≤ vec_capacity o.spare) };
+    ghost invariant = { λ o. IsIndexed (attachments o.rows.rows) o.entries.rows × (o.spare.items ≡ []) × (length o.rows.rows ≤ vec_capacity o.spare) × (o.taken.items ≡ []) × (length o.rows.rows ≤ vec_capacity o.taken) };
 }
 
 impl Order {
@@ -50,8 +56,11 @@ impl Order {
         ensures agrees { (entities : List Entity) → Agrees entities [] result.rows }
     {
         Order {
-            rows: Vec::new(alloc),
+            rows: Leaves::new(alloc),
+            entries: Leaves::new(alloc),
             spare: Vec::new(alloc),
+            taken: Vec::new(alloc),
+            alloc,
         }
     }
 
@@ -62,7 +71,14 @@ impl Order {
         ensures grown { self.old.room ≤ self.new.room }
     {
         self.rows.reserve(rows as usize)?;
-        self.spare.reserve(self.rows.len() + rows as usize)?;
+        self.entries.reserve(rows as usize)?;
+        match self.rows.len().checked_add(rows as usize) {
+            Some(all) => {
+                self.spare.reserve(all)?;
+                self.taken.reserve(all)?;
+            }
+            None => return Err(NoMemory),
+        }
         Ok(())
     }
 
@@ -77,7 +93,19 @@ impl Order {
         ensures room { self.old.room ≤ self.new.room + 1 }
     {
         tree.ordered();
-        put_link(tree, &mut self.rows, Link { entity, activity });
+        if self.entries.has_row(entity.0, activity.0, &[]) {
+            return;
+        }
+        insert_link(
+            tree,
+            &mut self.rows,
+            &mut self.spare,
+            Link { entity, activity },
+        );
+        self.entries.put_row(Entry {
+            key: entity.0,
+            number: activity.0,
+        });
     }
 
     /// The entity isn't listed any longer among those that are attached to the activity.
@@ -88,7 +116,9 @@ impl Order {
         ensures agrees { (links : List Link) → Agrees tree.now.rows links self.old.rows → Agrees tree.now.rows (without_link links entity.0 activity.0) self.new.rows }
         ensures room { self.old.room ≤ self.new.room }
     {
-        cut_link(tree, &mut self.rows, &Link { entity, activity });
+        tree.ordered();
+        cut_link(&mut self.rows, activity, entity);
+        self.entries.cut_row(entity.0, activity.0, &[]);
     }
 
     /// No entity is listed for the activity.
@@ -97,10 +127,11 @@ impl Order {
         ensures agrees { (entities : List Entity) (links : List Link) → Agrees entities links self.old.rows → Agrees entities (without_links_on links activity.0) self.new.rows }
         ensures room { self.old.room ≤ self.new.room }
     {
+        cut_entries(&mut self.entries, self.rows.rows_of(activity.0), activity);
         cut_links_on(&mut self.rows, activity);
     }
 
-    /// The entity has this priority, in the tree too. All attachments are listed anew, since paths of others go through the entity.
+    /// The entity has this priority, in the tree too. The attachments of the entity and of those below it are taken out and put in again; where there is no memory to find these, all attachments are.
     pub fn set_priority(&mut self, tree: &mut Tree, entity: EntityId, priority: i8)
         requires { IsListing tree.old.rows self.old.rows }
         ensures entities { tree.new.rows ≡ with_priority tree.old.rows entity.0 priority }
@@ -111,9 +142,22 @@ impl Order {
         ensures room { self.old.room ≤ self.new.room }
     {
         tree.set_priority(entity, priority);
-        list_anew(tree, &self.rows, &mut self.spare);
-        swap(&mut self.rows, &mut self.spare);
-        self.spare.clear();
+        tree.ordered();
+        match tree.find(entity) {
+            Some(_) => {
+                take_below(
+                    tree,
+                    &mut self.rows,
+                    &mut self.taken,
+                    &self.entries,
+                    entity,
+                    self.alloc,
+                );
+                put_each(tree, &mut self.rows, &mut self.spare, &self.taken);
+                self.taken.clear();
+            }
+            None => {}
+        }
     }
 
     /// The entity that receives the activity's head event next. Only attachments to the activity are looked at, up to that of the entity.
@@ -127,6 +171,6 @@ impl Order {
         ensures { (s : State) (v : Event) → IsAbout s activity.0 v tree.now.rows masks.now.rows wants.now.event.now wants.now.blocks.now wants.now.target wants.now.delivered.now → Agrees tree.now.rows s.links self.now.rows → result ≡ option_map (λ row. row.number) (first s activity.0 v) }
     {
         tree.ordered();
-        first_ready(tree, links_on(&self.rows, activity), masks, activity, wants)
+        first_ready(tree, self.rows.rows_of(activity.0), masks, activity, wants)
     }
 }

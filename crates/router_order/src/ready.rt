@@ -1,11 +1,13 @@
 //! The first of some attachments whose entity may receive an event.
 ghost use Rattle.std.specs.Prelude.{◌≡◌, find, option_map};
 ghost use Rattle.router_order.specs.Asked.{is_wanted, passes};
+ghost use Rattle.router_order.specs.Placed.{attachment, attachments};
 
+use crate::placed::Placed;
 use crate::wants::{Wants, is_wanted};
 use entity_tree::Tree;
 use event_mask::Masks;
-use slee_state::Link;
+use leaf_rows::Run;
 use slee_value::{ActivityId, EntityId};
 
 fn is_ready(
@@ -13,12 +15,12 @@ fn is_ready(
     masks: &Masks,
     activity: ActivityId,
     wants: &Wants<'_>,
-    link: &Link,
+    row: &Placed,
 ) -> bool
-    ensures { result ≡ passes tree.now.rows (is_wanted tree.now.rows masks.now.rows activity.0 wants.now.event.now wants.now.blocks.now wants.now.target wants.now.delivered.now) link.now }
+    ensures { result ≡ passes tree.now.rows (is_wanted tree.now.rows masks.now.rows activity.0 wants.now.event.now wants.now.blocks.now wants.now.target wants.now.delivered.now) (attachment row.now) }
 {
-    match tree.find(link.entity) {
-        Some(row) => is_wanted(tree, masks, activity, wants, row),
+    match tree.find(row.entity) {
+        Some(entity) => is_wanted(tree, masks, activity, wants, entity),
         None => false,
     }
 }
@@ -26,16 +28,16 @@ fn is_ready(
 /// The entity of the first of these attachments that may receive the event.
 pub fn first_ready(
     tree: &Tree,
-    links: &[Link],
+    run: Run<'_, Placed>,
     masks: &Masks,
     activity: ActivityId,
     wants: &Wants<'_>,
 ) -> Option<EntityId>
-    ensures { result ≡ option_map (λ link. link.entity) (find (passes tree.now.rows (is_wanted tree.now.rows masks.now.rows activity.0 wants.now.event.now wants.now.blocks.now wants.now.target wants.now.delivered.now)) links.now) }
+    ensures { result ≡ option_map (λ link. link.entity) (find (passes tree.now.rows (is_wanted tree.now.rows masks.now.rows activity.0 wants.now.event.now wants.now.blocks.now wants.now.target wants.now.delivered.now)) (attachments run.entry)) }
 {
-    'links: for link in links {
-        if is_ready(tree, masks, activity, wants, link) {
-            return Some(link.entity);
+    'rows: for row in run {
+        if is_ready(tree, masks, activity, wants, row) {
+            return Some(row.entity);
         }
     }
     None

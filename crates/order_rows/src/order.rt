@@ -1,0 +1,204 @@
+//! Who receives an event next: by the plain form, and by the index that is kept.
+
+use crate::growing::{
+    BLOCK, attach_each, forget, grow, grow_levels, list_each, list_on_each, list_up_to,
+};
+use activity_context::Contexts;
+use entity_tree::Tree;
+use event_mask::Masks;
+use router_order::{Order, Wants, next_entity};
+use slee_value::{ActivityId, EntityId, NoMemory, Text};
+use std::alloc::Global;
+use std::mem::ManuallyDrop;
+use std::test::Fail;
+
+const CALL: ActivityId = ActivityId(7);
+
+const OTHER: ActivityId = ActivityId(3);
+
+// The roots whose priorities lie between those of 1 and 2.
+const BETWEEN: u64 = 70;
+
+fn wants<'a>(event: &'a Text, delivered: &'a [EntityId]) -> Wants<'a> {
+    Wants {
+        event,
+        blocks: &[BLOCK],
+        target: None,
+        delivered,
+    }
+}
+
+// By the index these entities receive the event one after another, and no other one does.
+fn come(
+    alloc: Global,
+    tree: &Tree,
+    order: &Order,
+    masks: &Masks,
+    activity: ActivityId,
+    wanted: &[u64],
+) -> Result<bool, NoMemory> {
+    let event = Text::from_str(alloc, "ring")?;
+    let mut delivered = Vec::new(alloc);
+    for number in wanted {
+        let next = order.next(tree, masks, activity, &wants(&event, &delivered));
+        if next != Some(EntityId(*number)) {
+            return Ok(false);
+        }
+        delivered.push(EntityId(*number))?;
+    }
+    let last = order.next(tree, masks, activity, &wants(&event, &delivered));
+    Ok(last.is_none())
+}
+
+// As above, by going through all attachments.
+fn come_plainly(
+    alloc: Global,
+    tree: &Tree,
+    contexts: &Contexts,
+    masks: &Masks,
+    activity: ActivityId,
+    wanted: &[u64],
+) -> Result<bool, NoMemory> {
+    let event = Text::from_str(alloc, "ring")?;
+    let mut delivered = Vec::new(alloc);
+    for number in wanted {
+        let next = next_entity(tree, contexts, masks, activity, &wants(&event, &delivered));
+        if next != Some(EntityId(*number)) {
+            return Ok(false);
+        }
+        delivered.push(EntityId(*number))?;
+    }
+    let last = next_entity(tree, contexts, masks, activity, &wants(&event, &delivered));
+    Ok(last.is_none())
+}
+
+// The last root that came stands behind 1, and those before it behind it, down to 2.
+fn levels(alloc: Global) -> Result<Vec<u64>, NoMemory> {
+    let mut all = Vec::new(alloc);
+    all.push(1)?;
+    for place in 0..BETWEEN {
+        all.push(BETWEEN + 2 - place)?;
+    }
+    all.push(2)?;
+    Ok(all)
+}
+
+// On each of so many activities these entities receive the event one after another.
+fn come_on_each(
+    alloc: Global,
+    tree: &Tree,
+    order: &Order,
+    masks: &Masks,
+    activities: u64,
+    wanted: &[u64],
+) -> Result<bool, NoMemory> {
+    for activity in 0..activities {
+        if !come(alloc, tree, order, masks, ActivityId(activity), wanted)? {
+            return Ok(false);
+        }
+    }
+    Ok(true)
+}
+
+// Room is made for a mask, and then the entity masks the event.
+fn mask(masks: &mut Masks, alloc: Global, entity: u64) -> Result<(), NoMemory> {
+    masks.reserve(1)?;
+    masks.set(EntityId(entity), CALL, Text::from_str(alloc, "ring")?, true);
+    Ok(())
+}
+
+#[test]
+fn entities_come_by_the_priorities_on_their_paths(rt: HostRuntime) -> Result<(), Fail> {
+    let alloc = rt.alloc();
+    let mut tree_kept = ManuallyDrop::new(Tree::new(alloc));
+    let tree = &mut *tree_kept;
+    let mut order_kept = ManuallyDrop::new(Order::new(alloc));
+    let order = &mut *order_kept;
+    let mut contexts_kept = ManuallyDrop::new(Contexts::new(alloc));
+    let contexts = &mut *contexts_kept;
+    let masks = ManuallyDrop::new(Masks::new(alloc));
+    grow(tree, alloc)?;
+    list_each(tree, order, CALL, &[4, 1, 5, 3, 2, 4])?;
+    list_each(tree, order, OTHER, &[3, 4])?;
+    attach_each(contexts, CALL, &[1, 2, 3, 4, 5])?;
+    assert!(rt; come(alloc, tree, order, &masks, CALL, &[2, 5, 4, 1, 3])?);
+    assert!(rt; come(alloc, tree, order, &masks, OTHER, &[4, 3])?);
+    assert!(rt; come_plainly(alloc, tree, contexts, &masks, CALL, &[2, 5, 4, 1, 3])?);
+    Ok(())
+}
+
+#[test]
+fn another_priority_moves_the_whole_tree(rt: HostRuntime) -> Result<(), Fail> {
+    let alloc = rt.alloc();
+    let mut tree_kept = ManuallyDrop::new(Tree::new(alloc));
+    let tree = &mut *tree_kept;
+    let mut order_kept = ManuallyDrop::new(Order::new(alloc));
+    let order = &mut *order_kept;
+    let masks = ManuallyDrop::new(Masks::new(alloc));
+    grow(tree, alloc)?;
+    list_each(tree, order, CALL, &[1, 2, 3, 4, 5])?;
+    list_each(tree, order, OTHER, &[3, 4])?;
+    order.set_priority(tree, EntityId(2), -7);
+    assert!(rt; come(alloc, tree, order, &masks, CALL, &[1, 3, 2, 5, 4])?);
+    assert!(rt; come(alloc, tree, order, &masks, OTHER, &[3, 4])?);
+    order.set_priority(tree, EntityId(4), 2);
+    order.set_priority(tree, EntityId(9), 100);
+    assert!(rt; come(alloc, tree, order, &masks, CALL, &[1, 3, 2, 4, 5])?);
+    Ok(())
+}
+
+#[test]
+fn ranks_that_run_out_are_given_anew(rt: HostRuntime) -> Result<(), Fail> {
+    let alloc = rt.alloc();
+    let mut tree_kept = ManuallyDrop::new(Tree::new(alloc));
+    let tree = &mut *tree_kept;
+    let mut order_kept = ManuallyDrop::new(Order::new(alloc));
+    let order = &mut *order_kept;
+    let masks = ManuallyDrop::new(Masks::new(alloc));
+    grow_levels(tree)?;
+    list_up_to(tree, order, CALL, BETWEEN + 2)?;
+    assert!(rt; come(alloc, tree, order, &masks, CALL, &levels(alloc)?)?);
+    Ok(())
+}
+
+#[test]
+fn who_is_detached_or_masks_the_event_is_passed_over(rt: HostRuntime) -> Result<(), Fail> {
+    let alloc = rt.alloc();
+    let mut tree_kept = ManuallyDrop::new(Tree::new(alloc));
+    let tree = &mut *tree_kept;
+    let mut order_kept = ManuallyDrop::new(Order::new(alloc));
+    let order = &mut *order_kept;
+    let mut masks_kept = ManuallyDrop::new(Masks::new(alloc));
+    let masks = &mut *masks_kept;
+    grow(tree, alloc)?;
+    order.reserve(0)?;
+    list_each(tree, order, CALL, &[1, 2, 3, 4, 5])?;
+    list_each(tree, order, OTHER, &[1, 2])?;
+    order.detach(tree, CALL, EntityId(5));
+    order.detach(tree, CALL, EntityId(5));
+    mask(masks, alloc, 1)?;
+    assert!(rt; come(alloc, tree, order, masks, CALL, &[2, 4, 3])?);
+    forget(tree, order, CALL);
+    assert!(rt; come(alloc, tree, order, masks, CALL, &[])?);
+    assert!(rt; come(alloc, tree, order, masks, OTHER, &[2, 1])?);
+    list_each(tree, order, CALL, &[3, 5])?;
+    assert!(rt; come(alloc, tree, order, masks, CALL, &[5, 3])?);
+    Ok(())
+}
+
+#[test]
+fn each_activity_has_its_order(rt: HostRuntime) -> Result<(), Fail> {
+    let alloc = rt.alloc();
+    let mut tree_kept = ManuallyDrop::new(Tree::new(alloc));
+    let tree = &mut *tree_kept;
+    let mut order_kept = ManuallyDrop::new(Order::new(alloc));
+    let order = &mut *order_kept;
+    let masks = ManuallyDrop::new(Masks::new(alloc));
+    grow(tree, alloc)?;
+    list_on_each(tree, order, 3, 60)?;
+    list_on_each(tree, order, 5, 60)?;
+    assert!(rt; come_on_each(alloc, tree, order, &masks, 60, &[5, 3])?);
+    order.set_priority(tree, EntityId(1), 6);
+    assert!(rt; come_on_each(alloc, tree, order, &masks, 60, &[3, 5])?);
+    Ok(())
+}

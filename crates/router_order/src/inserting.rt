@@ -1,0 +1,148 @@
+//! An attachment put in its place among those to its activity.
+ghost use Rattle.std.specs.Prelude.{◌≡◌, ◌==◌, ◌+◌, ◌-◌, ◌^◌, ◌<◌, ◌≤◌, ℕ, [], Some, IfSome, IsTrue, false, filter, length, option_map, slice_get, true, vec_capacity};
+ghost use Rattle.std.specs.List.{AllByRecursion, prefix_len};
+ghost use Rattle.slee_state.specs.Contexts.{is_linked};
+ghost use Rattle.slee_state.specs.Orders.{put};
+ghost use Rattle.entity_tree.specs.Kept.{is_entity};
+ghost use Rattle.router_order.specs.Listed.{IsListing, listed_before};
+ghost use Rattle.router_order.specs.declared.placed.Placed.{Placed};
+ghost use Rattle.router_order.specs.Placed.{attachment, attachments};
+
+use crate::laying::{RANK_GAP, copy_run, replace};
+use crate::listing::{is_before, put_link};
+use crate::placed::{Placed, attachment};
+use entity_tree::Tree;
+use leaf_rows::{Leaves, Run};
+use slee_state::Link;
+
+/// The rank of an attachment that is the first to its activity.
+const FIRST_RANK: u64 = 1 << 63;
+
+/// The attachment stands in its place, and those to its activity have ranks anew.
+fn insert_anew(tree: &Tree, rows: &mut Leaves<Placed>, spare: &mut Vec<Link>, link: Link)
+    requires listing { IsListing tree.now.rows (attachments rows.old.rows) }
+    requires there { IsTrue (is_entity tree.now.rows link.entity.0) }
+    requires empty { spare.old.items ≡ [] }
+    requires memory { length rows.old.rows < vec_capacity spare.old }
+    requires room { 0 < rows.old.room }
+    ensures rows { attachments rows.new.rows ≡ put (listed_before tree.now.rows) link (attachments rows.old.rows) }
+    ensures empty { spare.new.items ≡ [] }
+    ensures capacity { vec_capacity spare.old ≤ vec_capacity spare.new }
+    ensures room { rows.old.room ≤ rows.new.room + 1 }
+    ensures whole { rows.new.room + length rows.new.rows ≡ rows.old.room + length rows.old.rows }
+{
+    copy_run(rows.rows_of(link.activity.0), spare);
+    put_link(tree, spare, link);
+    replace(rows, link.activity, spare);
+    spare.clear();
+    rows.rises();
+}
+
+/// How many of these attachments are listed before this one.
+fn place_in(tree: &Tree, run: &Run<'_, Placed>, link: &Link) -> usize
+    requires listing { IsListing tree.now.rows (attachments run.now) }
+    requires count { length run.now < 2 ^ 64 }
+    ensures { result ≡ prefix_len (λ row. listed_before tree.now.rows (attachment row) link.now) run.now }
+{
+    let mut low = 0;
+    let mut high = run.len();
+    'halves: while low < high {
+        let middle = low + (high - low) / 2;
+        if is_earlier(tree, run, middle, link) {
+            low = middle + 1;
+        } else {
+            high = middle;
+        }
+    }
+    low
+}
+
+/// Whether the attachment at the place is listed before this one.
+fn is_earlier(tree: &Tree, run: &Run<'_, Placed>, place: usize, link: &Link) -> bool
+    requires { place < length run.now }
+    ensures { (row : Placed) → slice_get run.now place ≡ Some row → result ≡ listed_before tree.now.rows (attachment row) link.now }
+{
+    match run.get(place) {
+        Some(row) => is_before(tree, &attachment(row), link),
+        None => false,
+    }
+}
+
+/// The rank of the attachment at the place.
+fn rank_in(run: &Run<'_, Placed>, place: usize) -> Option<u64>
+    ensures { result ≡ option_map (λ row. row.rank) (slice_get run.now place) }
+{
+    match run.get(place) {
+        Some(row) => Some(row.rank),
+        None => None,
+    }
+}
+
+/// The rank of the attachment before the place.
+fn rank_before(run: &Run<'_, Placed>, place: usize) -> Option<u64>
+    ensures { (row : Placed) → 0 < place → slice_get run.now (place - 1) ≡ Some row → result ≡ Some row.rank }
+{
+    if place == 0 {
+        None
+    } else {
+        rank_in(run, place - 1)
+    }
+}
+
+/// A rank above the one and below the other, where there is one.
+fn rank_between(low: Option<u64>, high: Option<u64>) -> Option<u64>
+    ensures above { IfSome result (λ rank. (other : ℕ) → low ≡ Some other → other < rank) }
+    ensures below { IfSome result (λ rank. (other : ℕ) → high ≡ Some other → rank < other) }
+{
+    match (low, high) {
+        (None, None) => Some(FIRST_RANK),
+        (Some(low), None) => low.checked_add(RANK_GAP),
+        (None, Some(high)) => high.checked_sub(RANK_GAP),
+        (Some(low), Some(high)) => {
+            if low < high && 1 < high - low {
+                Some(low + (high - low) / 2)
+            } else {
+                None
+            }
+        }
+    }
+}
+
+/// A rank for the attachment among those to its activity, where there is one.
+fn rank_for(tree: &Tree, rows: &Leaves<Placed>, link: &Link) -> Option<u64>
+    requires { IsListing tree.now.rows (attachments rows.now.rows) }
+    ensures above { IfSome result (λ rank. AllByRecursion (λ row. listed_before tree.now.rows (attachment row) link.now ≡ true → row.rank < rank) (filter (λ row. row.activity.0 == link.now.activity.0) rows.now.rows)) }
+    ensures below { IfSome result (λ rank. AllByRecursion (λ row. listed_before tree.now.rows (attachment row) link.now ≡ false → rank < row.rank) (filter (λ row. row.activity.0 == link.now.activity.0) rows.now.rows)) }
+{
+    rows.rises();
+    let _count = rows.len();
+    let run = rows.rows_of(link.activity.0);
+    let place = place_in(tree, &run, link);
+    rank_between(rank_before(&run, place), rank_in(&run, place))
+}
+
+/// The attachment, which isn't there yet, stands in its place.
+pub fn insert_link(tree: &Tree, rows: &mut Leaves<Placed>, spare: &mut Vec<Link>, link: Link)
+    requires listing { IsListing tree.now.rows (attachments rows.old.rows) }
+    requires there { IsTrue (is_entity tree.now.rows link.entity.0) }
+    requires absent { is_linked (attachments rows.old.rows) link.entity.0 link.activity.0 ≡ false }
+    requires empty { spare.old.items ≡ [] }
+    requires memory { length rows.old.rows < vec_capacity spare.old }
+    requires room { 0 < rows.old.room }
+    ensures rows { attachments rows.new.rows ≡ put (listed_before tree.now.rows) link (attachments rows.old.rows) }
+    ensures empty { spare.new.items ≡ [] }
+    ensures capacity { vec_capacity spare.old ≤ vec_capacity spare.new }
+    ensures room { rows.old.room ≤ rows.new.room + 1 }
+    ensures whole { rows.new.room + length rows.new.rows ≡ rows.old.room + length rows.old.rows }
+{
+    tree.ordered();
+    rows.rises();
+    match rank_for(tree, rows, &link) {
+        Some(rank) => rows.put_row(Placed {
+            activity: link.activity,
+            rank,
+            entity: link.entity,
+        }),
+        None => insert_anew(tree, rows, spare, link),
+    }
+}
