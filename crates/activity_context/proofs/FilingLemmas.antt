@@ -23,8 +23,8 @@ use Rattle.row_index.proofs.SumLemmas.{all_passed}
 use Rattle.text_index.specs.Numbers.{number_of}
 use Rattle.activity_context.specs.declared.numbered.NumberedName.{NumberedName}
 use Rattle.activity_context.specs.Naming.{AreFiled, AreFound, AreNeeded, activity_entry, as_kept, in_byte_order, numbered_key}
-use Rattle.activity_context.proofs.SortLemmas as sorting
-use Rattle.activity_context.proofs.SortLemmas.{IsAhead, AreApart}
+use Rattle.text_index.proofs.SortLemmas as sorting
+use Rattle.text_index.proofs.SortLemmas.{IsAhead, AreApart}
 
 pub one_way : (x y : Named) → name_before x y ≡ true → name_before y x ≡ false
 one_way x y ahead = (parted_by_key named_key (named_key y)).low_not_behind x ahead
