@@ -47,6 +47,11 @@ fn the_row_that_has_a_value_is_told_by_its_place(rt: HostRuntime) -> Result<(), 
     Ok(())
 }
 
+// The name that stands before the other one in byte order.
+fn lesser<'a>(one: &'a str, other: &'a str) -> &'a str {
+    if other < one { other } else { one }
+}
+
 #[test]
 fn of_two_rows_the_lesser_one_is_told(rt: HostRuntime) -> Result<(), Fail> {
     let alloc = rt.alloc();
@@ -57,8 +62,10 @@ fn of_two_rows_the_lesser_one_is_told(rt: HostRuntime) -> Result<(), Fail> {
         for (other, _pin, tel) in ROWS {
             let fields = values(alloc, pin, tel)?;
             let added = add(profiles, alloc, ACCOUNTS, "y", fields)?;
-            let lesser = if other < row { other } else { row };
-            assert_eq!(rt; rival(profiles, added), Some((ACCOUNTS, lesser)));
+            assert_eq!(rt;
+                rival(profiles, added),
+                Some((ACCOUNTS, lesser(row, other)))
+            );
         }
     }
     Ok(())
