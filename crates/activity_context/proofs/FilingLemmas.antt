@@ -8,7 +8,7 @@ use Rattle.std.proofs.lemmas.Bool.Decides.{nat_tests}
 use Rattle.std.proofs.lemmas.Map.Views.{any-filter_same}
 use Rattle.std.proofs.lemmas.Slice.Eq.{bytes_eq-Decides}
 use Rattle.slee_state.specs.Contexts.{name_before, named_at}
-use Rattle.slee_state.specs.Orders.{put, rises_by, sorted}
+use Rattle.slee_state.specs.Orders.{put, rises_by}
 use Rattle.slee_state.specs.declared.rows.Named.{Named}
 use Rattle.sorted_rows.specs.Keys.{is_key, is_pair, key_before, named_key, pair_key, Rises}
 use Rattle.sorted_rows.proofs.OrderLemmas.{AllInOrder, all_filter, all_from_all, before_joins, in_order, put_rises, filter_rises}
@@ -23,8 +23,10 @@ use Rattle.row_index.proofs.SumLemmas.{all_passed}
 use Rattle.text_index.specs.Numbers.{number_of}
 use Rattle.activity_context.specs.declared.numbered.NumberedName.{NumberedName}
 use Rattle.activity_context.specs.Naming.{AreFiled, AreFound, AreNeeded, activity_entry, as_kept, in_byte_order, numbered_key}
-use Rattle.activity_context.proofs.SortLemmas as sorting
-use Rattle.activity_context.proofs.SortLemmas.{IsAhead, AreApart}
+use Rattle.text_index.proofs.ItemLemmas as items
+use Rattle.text_index.proofs.ItemLemmas.{all_put, filter_agree}
+use Rattle.text_index.proofs.SortLemmas as sorting
+use Rattle.text_index.proofs.SortLemmas.{IsAhead, AreApart}
 
 pub one_way : (x y : Named) → name_before x y ≡ true → name_before y x ≡ false
 one_way x y ahead = (parted_by_key named_key (named_key y)).low_not_behind x ahead
@@ -101,21 +103,9 @@ found_numbered name rows numbered =
     (all_from_all (λ (row : NumberedName). row.number ≡ number_of row.named.name) (λ row. bytes_eq row.named.name name ≡ true → (row.number == number_of name) ≡ true)
     (λ row is mine. let text : row.named.name ≡ name = (bytes_eq-Decides row.named.name name).0 mine in number_same row.number (number_of name) (is ∙ ap number_of text)) rows numbered)
 
-map_filter : (q : Named → Bool) (rows : List NumberedName) → as_kept (filter (λ row. q row.named) rows) ≡ filter q (as_kept rows)
-map_filter q [] = refl
-map_filter q (x ∷ xs) = elim (cases_Bool (q x.named)) [
-  | inl stays ↦ rw stays (ap (λ rest. x.named ∷ rest) (map_filter q xs))
-  | inr goes ↦ rw goes (map_filter q xs)
-]
-
 -- what is left out of the names is left out of them in byte order
 pub order_filter : (q : Named → Bool) (rows : List NumberedName) → IsTrue (rises_by name_before (in_byte_order rows)) → in_byte_order (filter (λ row. q row.named) rows) ≡ filter q (in_byte_order rows)
-order_filter q rows once = ap (sorted name_before) (map_filter q rows) ∙ sorting.sorted_filter name_before one_way chain q (as_kept rows) (named_order rows once)
-
-map_insert : (x : NumberedName) (n : ℕ) (rows : List NumberedName) → as_kept (insert rows n x) ≡ insert (as_kept rows) n x.named
-map_insert x zero rows = refl
-map_insert x (suc n) [] = refl
-map_insert x (suc n) (y ∷ ys) = ap (λ rest. y.named ∷ rest) (map_insert x n ys)
+order_filter q rows once = items.order_filter (λ (row : NumberedName). row.named) name_before one_way chain q rows (named_order rows once)
 
 other_numbered : (x y : NumberedName) → bytes_eq x.named.name y.named.name ≡ false → is_key (numbered_key x) (numbered_key y) ≡ false
 other_numbered x y other = elim (cases_Bool (x.number == y.number)) [
@@ -125,10 +115,6 @@ other_numbered x y other = elim (cases_Bool (x.number == y.number)) [
   ]
   | inr differ ↦ rw differ refl
 ]
-
-map_all : (P : Named → Type 0) (rows : List NumberedName) → AllByRecursion (λ row. P row.named) rows → AllByRecursion P (as_kept rows)
-map_all P [] all = tt
-map_all P (x ∷ xs) all = (all.0, map_all P xs all.1)
 
 absent_keys : (x : NumberedName) (rows : List NumberedName) → find (λ row. bytes_eq row.named.name x.named.name) rows ≡ None → AllByRecursion (λ row. is_key (numbered_key row) (numbered_key x) ≡ false) rows
 absent_keys x rows absent =
@@ -147,18 +133,9 @@ order_put x rows rises once absent =
     let none = none_at (λ (row : NumberedName). bytes_eq row.named.name x.named.name) rows absent in
     let place = prefix_len (λ row. key_before (numbered_key row) (numbered_key x)) rows in
     let is = put_place x rows rises absent in
-    let apart = map_all (AreApart name_before x.named) rows (all_from_all (λ (row : NumberedName). bytes_eq row.named.name x.named.name ≡ false) (λ row. AreApart name_before x.named row.named) (λ row other. apart_texts x.named row.named other) rows none) in
+    let apart = all_from_all (λ (row : NumberedName). bytes_eq row.named.name x.named.name ≡ false) (λ row. AreApart name_before x.named row.named) (λ row other. apart_texts x.named row.named other) rows none in
     ap in_byte_order (sym is)
-    ∙ ap (sorted name_before) (map_insert x place rows)
-    ∙ sorting.sorted_insert name_before one_way chain x.named place (as_kept rows) apart
-    ∙ sorting.inserted_is name_before one_way chain x.named (in_byte_order rows) (named_order rows once) (sorting.all_sorted name_before one_way chain (AreApart name_before x.named) (as_kept rows) apart)
-
-all_joined : {X : Type 0} (P : X → Type 0) (xs ys : List X) → AllByRecursion P xs → AllByRecursion P ys → AllByRecursion P (xs ++ ys)
-all_joined P [] ys all also = also
-all_joined P (x ∷ xs) ys all also = (all.0, all_joined P xs ys all.1 also)
-
-all_put : {X : Type 0} (before : X → X → Bool) (P : X → Type 0) (x : X) (rows : List X) → P x → AllByRecursion P rows → AllByRecursion P (put before x rows)
-all_put before P x rows own all = all_joined P (filter (λ y. before y x) rows) (x ∷ filter (λ y. before x y) rows) (all_filter P (λ y. before y x) rows all) (own, all_filter P (λ y. before x y) rows all)
+    ∙ items.order_insert (λ (row : NumberedName). row.named) name_before one_way chain x place rows (named_order rows once) apart
 
 any_joined : {X : Type 0} (p : X → Bool) (xs ys : List X) → list_any p (xs ++ ys) ≡ (list_any p xs || list_any p ys)
 any_joined p [] ys = refl
@@ -237,13 +214,6 @@ filed_put x rows entries number rises filed absent =
       needed = rw (← put_place x rows rises absent) (needed_put x (prefix_len (λ row. key_before (numbered_key row) (numbered_key x)) rows) rows entries filed.needed);
       once = rw (order_put x rows rises filed.once absent) (put_rises named_key x.named (in_byte_order rows) filed.once);
     }
-
-pub filter_agree : {X : Type 0} (p q : X → Bool) (xs : List X) → AllByRecursion (λ x. p x ≡ q x) xs → filter p xs ≡ filter q xs
-filter_agree p q [] all = refl
-filter_agree p q (x ∷ xs) all = elim (cases_Bool (q x)) [
-  | inl stays ↦ rw (all.0, stays) (ap (λ rest. x ∷ rest) (filter_agree p q xs all.1))
-  | inr goes ↦ rw (all.0, goes) (filter_agree p q xs all.1)
-]
 
 -- names are left out, and the entries of the others stay
 pub filed_filter : (q : Named → Bool) (rows : List NumberedName) (entries less : List Entry) → AreFiled rows entries → AreFound (filter (λ row. q row.named) rows) less → AreNeeded (filter (λ row. q row.named) rows) less

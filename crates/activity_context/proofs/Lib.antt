@@ -3,5 +3,4 @@ pub mod FilingLemmas
 pub mod LinkLemmas
 pub mod NameLemmas
 pub mod NamedLemmas
-pub mod SortLemmas
 pub mod PushLemmas

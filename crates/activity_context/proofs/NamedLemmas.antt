@@ -15,7 +15,7 @@ use Rattle.row_index.proofs.RowLemmas.{filter_behind}
 use Rattle.activity_context.specs.declared.numbered.NumberedName.{NumberedName}
 use Rattle.activity_context.specs.Naming.{as_kept, in_byte_order}
 use Rattle.activity_context.proofs.FilingLemmas.{chain, one_way}
-use Rattle.activity_context.proofs.SortLemmas.{sorted_same}
+use Rattle.text_index.proofs.SortLemmas.{sorted_same}
 
 -- as many names are kept
 pub as_many : (rows : List NumberedName) → length (in_byte_order rows) ≡ length rows

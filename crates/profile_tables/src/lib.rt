@@ -4,6 +4,7 @@
 mod counted;
 mod fault;
 mod fitting;
+mod numbered;
 mod profiles;
 mod rivals;
 mod same;

@@ -1,14 +1,15 @@
-//! The rows of profile tables; clauses see them as a list, with what is declared for each table and the room.
+//! The rows of profile tables; clauses see them as a list in byte order, and as they are kept, with what is declared for each table and the room.
 ghost use Rattle.std.specs.Prelude.{◌≡◌, ◌+◌, ◌<◌, ◌≤◌, ◌||◌, [], Some, nat_lt, length, find, IsTrue, IfOk, OnOk, OnErr, slice_get, option_copied};
 ghost use Rattle.slee_state.specs.Orders.{rises_by};
 ghost use Rattle.slee_state.specs.Fitting.{has_row};
 ghost use Rattle.slee_state.specs.Profiles.{is_row, row_at, row_before, with_row, without_row};
-ghost use Rattle.std.specs.List.{position_from};
-ghost use Rattle.profile_tables.specs.Faults.{fault_of, fault_of_add, fault_of_asking, fault_of_update, fault_of_values, is_rival};
+ghost use Rattle.std.specs.List.Sorted.{IsPermutation};
+ghost use Rattle.profile_tables.specs.Faults.{fault_of, fault_of_add, fault_of_asking, fault_of_update, fault_of_values, place_of_rival};
 
 use crate::counted::{count_row, reserve_counts, uncount_old};
 use crate::fitting::are_declared;
-use crate::rivals::{may_have_rival, place_of_rival};
+use crate::numbered::NumberedRow;
+use crate::rivals::{least_rival, place_of_row};
 use crate::table_spec::{most_of, unique_of};
 use crate::{RowFault, TableSpec};
 use leaf_rows::Leaves;
@@ -17,12 +18,14 @@ use slee_state::ProfileRow;
 use slee_value::{NoMemory, Payload, Text};
 use std::alloc::Global;
 use std::marker::Model;
+use text_index::number_of;
 
-/// The rows of all profile tables, counted by their unique values. There are places for so many rows among the counts.
+/// The rows of all profile tables under the numbers of their names, and these numbers under those of their unique values. There
+/// are places for so many rows among the values.
 #[derive(Drop)]
 pub struct Profiles {
     tables: Vec<TableSpec>,
-    rows: Leaves<ProfileRow>,
+    rows: Leaves<NumberedRow>,
     by_value: Leaves<Tally>,
     most: u64,
     places: u64,
@@ -55,6 +58,7 @@ impl Profiles {
     pub fn new(alloc: Global, tables: Vec<TableSpec>) -> Self
         ensures tables { result.tables ≡ tables.items }
         ensures rows { result.rows ≡ [] }
+        ensures kept { result.kept ≡ [] }
     {
         let most = most_of(&tables);
         Profiles {
@@ -70,6 +74,7 @@ impl Profiles {
     pub fn reserve(&mut self, rows: u64) -> Result<(), NoMemory>
         ensures tables { self.new.tables ≡ self.old.tables }
         ensures rows { self.new.rows ≡ self.old.rows }
+        ensures kept { self.new.kept ≡ self.old.kept }
         ensures room { OnOk result (rows ≤ self.new.room) }
         ensures grown { self.old.room ≤ self.new.room }
     {
@@ -89,10 +94,15 @@ impl Profiles {
         self.tables.get(table as usize)
     }
 
+    /// The row of this name in the table.
     fn find(&self, table: u32, row: &Text) -> Option<&ProfileRow>
         ensures { option_copied result ≡ find (is_row table row.now) self.now.rows }
     {
-        self.rows.row_of(table as u64, 0, row.as_bytes())
+        let name = row.as_bytes();
+        match self.rows.row_of(number_of(name), table as u64, name) {
+            Some(row) => Some(&row.item),
+            None => None,
+        }
     }
 
     fn has_row(&self, table: u32, row: &Text) -> bool
@@ -104,7 +114,7 @@ impl Profiles {
         }
     }
 
-    /// Where the first other row stands that has one of the unique values. Rows are looked at only where one may have.
+    /// Where the least other row in byte order stands that has one of the unique values.
     fn place_of_rival(
         &self,
         spec: &TableSpec,
@@ -113,20 +123,19 @@ impl Profiles {
         fields: &Payload,
     ) -> Option<u64>
         requires { slice_get self.now.tables table ≡ Some spec.now }
-        ensures { result ≡ position_from (is_rival spec.now.unique (record { table = table; row = row.now; attributes = fields.now })) 0 self.now.rows }
+        ensures { result ≡ place_of_rival spec.now.unique self.now.rows self.now.kept (record { table = table; row = row.now; attributes = fields.now }) }
     {
-        let unique = spec.unique.as_slice();
-        if may_have_rival(
-            &self.by_value,
+        let rival = least_rival(
             &self.rows,
-            unique,
+            &self.by_value,
+            spec.unique.as_slice(),
             table,
             row,
             fields.as_slice(),
-        ) {
-            place_of_rival(&self.rows, unique, table, row, fields)
-        } else {
-            None
+        );
+        match rival {
+            Some(rival) => place_of_row(&self.rows, rival),
+            None => None,
         }
     }
 
@@ -139,7 +148,7 @@ impl Profiles {
         fields: &Payload,
     ) -> Option<RowFault>
         requires { slice_get self.now.tables table ≡ Some spec.now }
-        ensures { result ≡ fault_of_values spec.now self.now.rows (record { table = table; row = row.now; attributes = fields.now }) }
+        ensures { result ≡ fault_of_values spec.now self.now.rows self.now.kept (record { table = table; row = row.now; attributes = fields.now }) }
     {
         if !are_declared(spec.attributes.as_slice(), fields.as_slice()) {
             return Some(RowFault::BadAttribute);
@@ -164,7 +173,7 @@ impl Profiles {
     }
 
     fn fault_of_add(&self, table: u32, row: &Text, fields: &Payload) -> Option<RowFault>
-        ensures { result ≡ fault_of_add self.now.tables self.now.rows (record { table = table; row = row.now; attributes = fields.now }) }
+        ensures { result ≡ fault_of_add self.now.tables self.now.rows self.now.kept (record { table = table; row = row.now; attributes = fields.now }) }
     {
         match self.spec_of(table) {
             None => Some(RowFault::NoTable),
@@ -177,7 +186,7 @@ impl Profiles {
     }
 
     fn fault_of_update(&self, table: u32, row: &Text, fields: &Payload) -> Option<RowFault>
-        ensures { result ≡ fault_of_update self.now.tables self.now.rows (record { table = table; row = row.now; attributes = fields.now }) }
+        ensures { result ≡ fault_of_update self.now.tables self.now.rows self.now.kept (record { table = table; row = row.now; attributes = fields.now }) }
     {
         match self.spec_of(table) {
             None => Some(RowFault::NoTable),
@@ -191,14 +200,14 @@ impl Profiles {
 
     /// Whether a new row may be added.
     pub fn test_add(&self, table: u32, row: &Text, fields: &Payload) -> Result<(), RowFault>
-        ensures { fault_of result ≡ fault_of_add self.now.tables self.now.rows (record { table = table; row = row.now; attributes = fields.now }) }
+        ensures { fault_of result ≡ fault_of_add self.now.tables self.now.rows self.now.kept (record { table = table; row = row.now; attributes = fields.now }) }
     {
         answer(self.fault_of_add(table, row, fields))
     }
 
     /// Whether a row may have other values.
     pub fn test_update(&self, table: u32, row: &Text, fields: &Payload) -> Result<(), RowFault>
-        ensures { fault_of result ≡ fault_of_update self.now.tables self.now.rows (record { table = table; row = row.now; attributes = fields.now }) }
+        ensures { fault_of result ≡ fault_of_update self.now.tables self.now.rows self.now.kept (record { table = table; row = row.now; attributes = fields.now }) }
     {
         answer(self.fault_of_update(table, row, fields))
     }
@@ -211,10 +220,12 @@ impl Profiles {
         ensures room { self.old.room ≤ self.new.room + 1 }
         ensures replaced { IsTrue (has_row self.old.rows item.table item.row) → self.old.room ≤ self.new.room }
     {
+        let number = number_of(item.row.as_bytes());
         uncount_old(
             &mut self.by_value,
             &self.tables,
             &self.rows,
+            number,
             item.table,
             &item.row,
         );
@@ -224,14 +235,15 @@ impl Profiles {
             unique,
             item.table,
             item.attributes.as_slice(),
+            number,
         );
-        self.rows.put_row(item);
+        self.rows.put_row(NumberedRow { number, item });
     }
 
     /// A new row stands in the room that was made.
     pub fn add(&mut self, table: u32, row: Text, fields: Payload) -> Result<(), RowFault>
         requires { 0 < self.old.room }
-        ensures fault { fault_of result ≡ fault_of_add self.old.tables self.old.rows (record { table = table; row = row; attributes = fields }) }
+        ensures fault { fault_of result ≡ fault_of_add self.old.tables self.old.rows self.old.kept (record { table = table; row = row; attributes = fields }) }
         ensures tables { self.new.tables ≡ self.old.tables }
         ensures rows { OnOk result (self.new.rows ≡ with_row self.old.rows table row fields) }
         ensures room { self.old.room ≤ self.new.room + 1 }
@@ -253,7 +265,7 @@ impl Profiles {
     /// The row has other values.
     #[tactic(auto, using(crate::proofs::RowLemmas::there_to_update))]
     pub fn update(&mut self, table: u32, row: Text, fields: Payload) -> Result<(), RowFault>
-        ensures fault { fault_of result ≡ fault_of_update self.old.tables self.old.rows (record { table = table; row = row; attributes = fields }) }
+        ensures fault { fault_of result ≡ fault_of_update self.old.tables self.old.rows self.old.kept (record { table = table; row = row; attributes = fields }) }
         ensures tables { self.new.tables ≡ self.old.tables }
         ensures rows { OnOk result (self.new.rows ≡ with_row self.old.rows table row fields) }
         ensures room { self.old.room ≤ self.new.room }
@@ -277,8 +289,16 @@ impl Profiles {
         ensures rows { self.new.rows ≡ without_row self.old.rows table row.now }
         ensures room { self.old.room ≤ self.new.room }
     {
-        uncount_old(&mut self.by_value, &self.tables, &self.rows, table, row);
-        self.rows.cut_row(table as u64, 0, row.as_bytes());
+        let number = number_of(row.as_bytes());
+        uncount_old(
+            &mut self.by_value,
+            &self.tables,
+            &self.rows,
+            number,
+            table,
+            row,
+        );
+        self.rows.cut_row(number, table as u64, row.as_bytes());
     }
 
     /// The row is gone.
@@ -326,16 +346,18 @@ impl Profiles {
     pub fn len(&self) -> u64
         ensures length { result ≡ length self.now.rows }
         ensures order { IsTrue (rises_by row_before self.now.rows) }
+        ensures kept { IsPermutation self.now.rows self.now.kept }
     {
         self.rows.len() as u64
     }
 
-    /// The row at this place, counted from 0.
+    /// The row that is kept at this place, counted from 0. Each row is kept at one place, in an order of their own.
     pub fn at(&self, place: u64) -> &ProfileRow
         requires { place < length self.now.rows }
-        ensures row { slice_get self.now.rows place ≡ Some result.now }
+        ensures row { slice_get self.now.kept place ≡ Some result.now }
         ensures order { IsTrue (rises_by row_before self.now.rows) }
+        ensures kept { IsPermutation self.now.rows self.now.kept }
     {
-        self.rows.at(place as usize)
+        &self.rows.at(place as usize).item
     }
 }

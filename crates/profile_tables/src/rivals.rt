@@ -1,114 +1,161 @@
-//! Rows that have a value that is to be unique.
-ghost use Rattle.std.specs.Prelude.{◌≡◌, find, Some, None};
-ghost use Rattle.std.specs.List.{position_from, list_any};
-ghost use Rattle.slee_state.specs.Profiles.{is_row};
-ghost use Rattle.profile_tables.specs.Faults.{alike_in, is_rival};
-ghost use Rattle.profile_tables.specs.Unique.{is_taken};
+//! Rows that have a value that is to be unique. They are found under the numbers of the values.
+ghost use Rattle.std.specs.Prelude.{◌≡◌, ◌==◌, ◌&&◌, find, option_copied};
+ghost use Rattle.std.specs.List.{AllByRecursion, position_from};
+ghost use Rattle.slee_state.specs.Profiles.{is_row, row_before};
+ghost use Rattle.sorted_rows.specs.Keys.{is_key};
+ghost use Rattle.text_index.specs.Numbers.{number_of};
+ghost use Rattle.profile_tables.specs.Faults.{is_rival};
+ghost use Rattle.profile_tables.specs.Keeping.{as_kept, in_byte_order, numbered_key, AreFiled};
+ghost use Rattle.profile_tables.specs.Unique.{earlier, is_rival_in, AreUnder};
 
+use crate::numbered::NumberedRow;
 use crate::same::is_alike;
 use crate::values::value_key;
-use leaf_rows::Leaves;
-use row_tally::{Tally, count_under};
+use leaf_rows::{Leaves, Run};
+use row_tally::Tally;
 use slee_state::ProfileRow;
-use slee_value::{Name, Payload, Text, Value};
+use slee_value::{Name, Text, Value};
+use text_index::number_of;
 
-fn are_alike(unique: &[Name], one: &[(Name, Value)], other: &[(Name, Value)]) -> bool
-    ensures { result ≡ list_any (alike_in one.now other.now) unique.now }
-{
-    unique.iter().any(|name| is_alike(one, other, name))
-}
-
-/// Whether the other row is another one of the table, and has one of the unique values.
-fn is_rival(unique: &[Name], table: u32, row: &Text, fields: &Payload, other: &ProfileRow) -> bool
-    ensures { result ≡ is_rival unique.now (record { table = table; row = row.now; attributes = fields.now }) other.now }
+/// Whether the other row is another one of the table, and has the value of this attribute.
+fn is_rival_in(
+    name: &Name,
+    table: u32,
+    row: &Text,
+    fields: &[(Name, Value)],
+    other: &ProfileRow,
+) -> bool
+    ensures { result ≡ is_rival_in (record { table = table; row = row.now; attributes = fields.now }) name.now other.now }
 {
     other.table == table
         && other.row.as_bytes() != row.as_bytes()
-        && are_alike(unique, fields.as_slice(), other.attributes.as_slice())
+        && is_alike(fields, other.attributes.as_slice(), name)
 }
 
-/// Whether rows are counted under the number of the attribute's value.
-fn is_taken(tallies: &Leaves<Tally>, table: u32, fields: &[(Name, Value)], name: &Name) -> bool
-    ensures { result ≡ is_taken tallies.now.rows None table fields.now name.now }
-{
-    count_under(tallies, value_key(table, fields, name)) > 0
-}
-
-/// Whether other rows than this one are counted under the number of the attribute's value.
-fn is_taken_beside(
-    tallies: &Leaves<Tally>,
-    own: &ProfileRow,
-    table: u32,
-    fields: &[(Name, Value)],
+/// The first of these rows that has the value of this attribute.
+fn first_rival<'a>(
+    among: Run<'a, NumberedRow>,
     name: &Name,
-) -> bool
-    ensures { result ≡ is_taken tallies.now.rows (Some own.now) table fields.now name.now }
-{
-    let key = value_key(table, fields, name);
-    let own_count = if value_key(own.table, own.attributes.as_slice(), name) == key {
-        1
-    } else {
-        0
-    };
-    count_under(tallies, key) > own_count
-}
-
-fn has_taken(tallies: &Leaves<Tally>, unique: &[Name], table: u32, fields: &[(Name, Value)]) -> bool
-    ensures { result ≡ list_any (is_taken tallies.now.rows None table fields.now) unique.now }
-{
-    unique
-        .iter()
-        .any(|name| is_taken(tallies, table, fields, name))
-}
-
-fn has_taken_beside(
-    tallies: &Leaves<Tally>,
-    own: &ProfileRow,
-    unique: &[Name],
-    table: u32,
-    fields: &[(Name, Value)],
-) -> bool
-    ensures { result ≡ list_any (is_taken tallies.now.rows (Some own.now) table fields.now) unique.now }
-{
-    unique
-        .iter()
-        .any(|name| is_taken_beside(tallies, own, table, fields, name))
-}
-
-/// Whether another row may have one of the unique values: where none is counted beside the row itself, none has.
-pub fn may_have_rival(
-    tallies: &Leaves<Tally>,
-    rows: &Leaves<ProfileRow>,
-    unique: &[Name],
     table: u32,
     row: &Text,
     fields: &[(Name, Value)],
-) -> bool
-    ensures { result ≡ list_any (is_taken tallies.now.rows (find (is_row table row.now) rows.now.rows) table fields.now) unique.now }
+) -> Option<&'a ProfileRow>
+    ensures { option_copied result ≡ find (is_rival_in (record { table = table; row = row.now; attributes = fields.now }) name.now) (as_kept among.entry) }
 {
-    match rows.row_of(table as u64, 0, row.as_bytes()) {
-        Some(own) => has_taken_beside(tallies, own, unique, table, fields),
-        None => has_taken(tallies, unique, table, fields),
+    for other in among {
+        if is_rival_in(name, table, row, fields, &other.item) {
+            return Some(&other.item);
+        }
+    }
+    None
+}
+
+/// Of the rows of one number, the least that has the value of this attribute.
+fn rival_numbered<'a>(
+    rows: &'a Leaves<NumberedRow>,
+    number: u64,
+    name: &Name,
+    table: u32,
+    row: &Text,
+    fields: &[(Name, Value)],
+) -> Option<&'a ProfileRow>
+    requires { AreFiled rows.now.rows }
+    ensures { option_copied result ≡ find (λ other. is_rival_in (record { table = table; row = row.now; attributes = fields.now }) name.now other && (number_of other.row == number)) (in_byte_order rows.now.rows) }
+{
+    rows.rises();
+    let among = rows.rows_of_pair(number, table as u64);
+    first_rival(among, name, table, row, fields)
+}
+
+fn is_before(one: &ProfileRow, other: &ProfileRow) -> bool
+    ensures { result ≡ row_before one.now other.now }
+{
+    one.table < other.table
+        || (one.table == other.table && one.row.as_bytes().cmp(other.row.as_bytes()).is_lt())
+}
+
+/// The lesser one of two rows, or the only one.
+fn earlier<'a>(one: Option<&'a ProfileRow>, other: Option<&'a ProfileRow>) -> Option<&'a ProfileRow>
+    ensures { option_copied result ≡ earlier (option_copied one.entry) (option_copied other.entry) }
+{
+    match (one, other) {
+        (None, other) => other,
+        (one, None) => one,
+        (Some(one), Some(other)) => if is_before(other, one) {
+            Some(other)
+        } else {
+            Some(one)
+        },
     }
 }
 
-/// Where the first other row of the table stands that has one of the unique values.
-pub fn place_of_rival(
-    rows: &Leaves<ProfileRow>,
+/// The least other row of the table that has the value of this attribute. Rows are looked at only under the value's number.
+fn rival_in<'a>(
+    rows: &'a Leaves<NumberedRow>,
+    tallies: &Leaves<Tally>,
+    name: &Name,
+    table: u32,
+    row: &Text,
+    fields: &[(Name, Value)],
+) -> Option<&'a ProfileRow>
+    requires filed { AreFiled rows.now.rows }
+    requires under { AreUnder (in_byte_order rows.now.rows) tallies.now.rows (record { table = table; row = row.now; attributes = fields.now }) name.now }
+    ensures { option_copied result ≡ find (is_rival_in (record { table = table; row = row.now; attributes = fields.now }) name.now) (in_byte_order rows.now.rows) }
+{
+    let mut least = None;
+    for tally in tallies.rows_of(value_key(table, fields, name)) {
+        let rival = rival_numbered(rows, tally.entry.number, name, table, row, fields);
+        least = earlier(least, rival);
+    }
+    least
+}
+
+/// The least other row of the table that has one of the unique values.
+pub fn least_rival<'a>(
+    rows: &'a Leaves<NumberedRow>,
+    tallies: &Leaves<Tally>,
     unique: &[Name],
     table: u32,
     row: &Text,
-    fields: &Payload,
-) -> Option<u64>
-    ensures { result ≡ position_from (is_rival unique.now (record { table = table; row = row.now; attributes = fields.now })) 0 rows.now.rows }
+    fields: &[(Name, Value)],
+) -> Option<&'a ProfileRow>
+    requires filed { AreFiled rows.now.rows }
+    requires under { AllByRecursion (AreUnder (in_byte_order rows.now.rows) tallies.now.rows (record { table = table; row = row.now; attributes = fields.now })) unique.now }
+    ensures { option_copied result ≡ find (is_rival unique.now (record { table = table; row = row.now; attributes = fields.now })) (in_byte_order rows.now.rows) }
 {
-    let count = rows.len() as u64;
+    let mut least = None;
+    for name in unique {
+        let rival = rival_in(rows, tallies, name, table, row, fields);
+        least = earlier(least, rival);
+    }
+    least
+}
+
+/// The place of the row of this key among all rows.
+fn place_of(rows: &Leaves<NumberedRow>, first: u64, second: u64, text: &[u8]) -> Option<usize>
+    ensures { result ≡ position_from (λ row. is_key (numbered_key row) (record { first = first; second = second; text = text.now })) 0 rows.now.rows }
+{
+    let count = rows.len();
     let mut left = count;
-    for other in rows.iter() {
-        if is_rival(unique, table, row, fields, other) {
+    for row in rows.iter() {
+        if row.number == first
+            && (row.item.table as u64 == second && row.item.row.as_bytes() == text)
+        {
             return Some(count - left);
         }
         left -= 1;
     }
     None
+}
+
+/// Where the row stands among those that are kept.
+pub fn place_of_row(rows: &Leaves<NumberedRow>, item: &ProfileRow) -> Option<u64>
+    requires { AreFiled rows.now.rows }
+    ensures { result ≡ position_from (is_row item.now.table item.now.row) 0 (as_kept rows.now.rows) }
+{
+    let name = item.row.as_bytes();
+    match place_of(rows, number_of(name), item.table as u64, name) {
+        Some(place) => Some(place as u64),
+        None => None,
+    }
 }

@@ -1,4 +1,4 @@
-//! The numbers that values are made into, under which rows are counted.
+//! The numbers that values are made into, under which rows are found.
 ghost use Rattle.std.specs.Prelude.{◌≡◌};
 ghost use Rattle.profile_tables.specs.Unique.{number_in, value_key, value_number};
 

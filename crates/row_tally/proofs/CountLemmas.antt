@@ -1,20 +1,23 @@
--- What one row more or less, and rows that go, leave of the tallies.
-use Rattle.std.proofs.Common.{◌≡◌, ℕ, zero, suc, ◌+◌, ◌-◌, ◌*◌, ◌<◌, ◌==◌, Bool, true, false, cond, List, [], ◌∷◌, ◌++◌, Option, Some, None, refl, sym, ap, ◌∙◌, arith, inl, inr}
-use Rattle.std.specs.Prelude.{not, nat_lt, ◌||◌}
+-- What an entry that is counted more or less often leaves of the tallies, and rows that go of a sum.
+use Rattle.std.proofs.Common.{◌≡◌, ℕ, zero, suc, ◌+◌, ◌-◌, ◌*◌, ◌<◌, ◌==◌, Bool, true, false, List, [], ◌∷◌, ◌++◌, Option, Some, None, refl, sym, ap, ◌∙◌, arith, inl, inr}
+use Rattle.std.specs.Prelude.{not, nat_lt, ◌||◌, ◌&&◌}
 use Rattle.std.specs.List.{AllByRecursion, filter, find, list_any, sum_by}
 use Rattle.std.specs.Option.{option_map_or}
-use Rattle.std.proofs.lemmas.Bool.{cases_Bool}
+use Rattle.std.proofs.lemmas.Bool.{cases_Bool, and_parts}
 use Rattle.std.proofs.Math.Bool.{or-true}
 use Rattle.std.proofs.lemmas.Bool.Decides.{nat_tests}
 use Rattle.std.proofs.lemmas.List.Sums.{sum_by-cons}
-use Rattle.sorted_rows.specs.Keys.{is_key, key_before, Rises}
-use Rattle.sorted_rows.proofs.HalvingLemmas.{PlacesBy}
+use Rattle.slee_state.specs.Orders.{put}
+use Rattle.sorted_rows.specs.Keys.{Key, is_key, key_before, Rises}
 use Rattle.sorted_rows.proofs.OrderLemmas.{AllInOrder, IsBefore, all_from_all, in_order, filter_rises}
+use Rattle.sorted_rows.proofs.PartLemmas.{parted_by_key}
+use Rattle.row_index.specs.declared.entry.Entry.{Entry}
+use Rattle.row_index.specs.Index.{entry_key}
 use Rattle.row_index.proofs.FoundLemmas.{none_at}
 use Rattle.row_index.proofs.IndexLemmas.{sum_put}
-use Rattle.row_index.proofs.RowLemmas.{all_stay, filter_behind}
+use Rattle.row_index.proofs.RowLemmas.{all_stay, filter_behind, same_key}
 use Rattle.row_tally.specs.declared.tally.Tally.{Tally}
-use Rattle.row_tally.specs.Tallies.{tally_key, count_at, with_count, without_key, one_more, one_less, IsTally}
+use Rattle.row_tally.specs.Tallies.{tally_key, count_at, is_of, one_of, with_count, without_entry, one_more, one_less, IsTally}
 
 pub each : {X : Type 0} (P : X → Type 0) → ((x : X) → P x) → (xs : List X) → AllByRecursion P xs
 each P all [] = tt
@@ -38,137 +41,135 @@ sum_cut R q once g found (x ∷ xs) order is = elim (cases_Bool (q x)) [
 ]
 
 -- a tally's share of a sum
-abbrev pub share : (ℕ → ℕ) → Tally → ℕ
-share f t = t.count * f t.key
+abbrev pub share : (Entry → ℕ) → Tally → ℕ
+share f t = t.count * f t.entry
 
-pub once : (k : ℕ) (x y : Tally) → IsBefore tally_key x y → (x.key == k) ≡ true → (y.key == k) ≡ false
-once k x y before mine = grind (arith, nat_tests)
+pub once : (e : Entry) (x y : Tally) → IsBefore tally_key x y → is_of e x ≡ true → is_of e y ≡ false
+once e x y before mine = let laws = parted_by_key tally_key (entry_key e) in laws.later_apart x y before (laws.mine_not_low x mine)
 
--- where the tally of a key stands
-pub tally_places : (k : ℕ) → PlacesBy (IsBefore tally_key) (λ t. nat_lt t.key k) (λ t. t.key == k)
-tally_places k = record {
-  before = λ x low. grind (arith, nat_tests, low);
-  later = λ x y before high. grind (arith, nat_tests, before, high);
-  once = once k;
-}
+-- an entry is itself
+pub own_key : (e : Entry) → is_key (entry_key e) (entry_key e) ≡ true
+own_key e = same_key e.key e.key e.number e.number refl refl
 
-found_key : (k : ℕ) (found : Tally) (ts : List Tally) → find (λ t. t.key == k) ts ≡ Some found → found.key ≡ k
-found_key k found [] is = cc
-found_key k found (x ∷ xs) is = elim (cases_Bool (x.key == k)) [
-  | inl mine ↦ let first : Some x ≡ Some found = rw mine at is in let same : x ≡ found = cc in let own : x.key ≡ k = grind (arith, nat_tests, mine) in ap (λ (t : Tally). t.key) (sym same) ∙ own
-  | inr other ↦ found_key k found xs (rw other at is)
+-- entries of one key are the same
+pub one_entry : (x e : Entry) → is_key (entry_key x) (entry_key e) ≡ true → x ≡ e
+one_entry x e is =
+    let parts = and_parts (x.key == e.key) ((x.number == e.number) && true) is in
+    let rest = and_parts (x.number == e.number) true parts.1 in
+    let first : x.key ≡ e.key = let same = parts.0 in grind (arith, nat_tests, same) in
+    let second : x.number ≡ e.number = let same = rest.0 in grind (arith, nat_tests, same) in
+    λ i. record { key = first i; number = second i }
+
+pub found_passes : {X : Type 0} (q : X → Bool) (x : X) (xs : List X) → find q xs ≡ Some x → q x ≡ true
+found_passes q x [] is = cc
+found_passes q x (y ∷ ys) is = elim (cases_Bool (q y)) [
+  | inl mine ↦ let first : Some y ≡ Some x = rw mine at is in let same : y ≡ x = cc in ap q (sym same) ∙ mine
+  | inr other ↦ found_passes q x ys (rw other at is)
 ]
 
--- what stands under a key, taken apart
-pub share_apart : (f : ℕ → ℕ) (k : ℕ) (ts : List Tally) → Rises tally_key ts → sum_by (share f) ts ≡ count_at ts k * f k + sum_by (share f) (without_key k ts)
-share_apart f k ts rises = by (find (λ t. t.key == k) ts) refl
+found_entry : (e : Entry) (found : Tally) (ts : List Tally) → find (is_of e) ts ≡ Some found → found.entry ≡ e
+found_entry e found ts is = one_entry found.entry e (found_passes (is_of e) found ts is)
+
+-- an entry's part of a sum, taken apart
+pub share_apart : (f : Entry → ℕ) (e : Entry) (ts : List Tally) → Rises tally_key ts → sum_by (share f) ts ≡ count_at ts e * f e + sum_by (share f) (without_entry e ts)
+share_apart f e ts rises = by (find (is_of e) ts) refl
   where
-    by : (o : Option Tally) → find (λ t. t.key == k) ts ≡ o → sum_by (share f) ts ≡ option_map_or (λ (t : Tally). t.count) (find (λ t. t.key == k) ts) 0 * f k + sum_by (share f) (without_key k ts)
-    by None is = rw (is, all_stay (λ (t : Tally). t.key == k) ts (none_at (λ (t : Tally). t.key == k) ts is)) (omega arith)
+    by : (o : Option Tally) → find (is_of e) ts ≡ o → sum_by (share f) ts ≡ option_map_or (λ (t : Tally). t.count) (find (is_of e) ts) 0 * f e + sum_by (share f) (without_entry e ts)
+    by None is = rw (is, all_stay (is_of e) ts (none_at (is_of e) ts is)) (omega arith)
     by (Some t) is =
-        let cut = sum_cut (IsBefore tally_key) (λ (t : Tally). t.key == k) (once k) (share f) t ts (in_order tally_key ts rises) is in
-        let mine = ap (λ (n : ℕ). t.count * f n) (found_key k t ts is) in
-        rw is (cut ∙ ap (λ n. n + sum_by (share f) (without_key k ts)) mine)
+        let cut = sum_cut (IsBefore tally_key) (is_of e) (once e) (share f) t ts (in_order tally_key ts rises) is in
+        let mine = ap (λ (x : Entry). t.count * f x) (found_entry e t ts is) in
+        rw is (cut ∙ ap (λ n. n + sum_by (share f) (without_entry e ts)) mine)
 
-low_stays : (k count : ℕ) (t : Tally) → not (t.key == k) ≡ false → key_before (tally_key t) (tally_key (record { key = k; count = count })) ≡ false
-low_stays k count t goes = grind (arith, nat_tests)
+goes_alone : (b : Bool) → not b ≡ false → b ≡ true
+goes_alone true goes = refl
+goes_alone false goes = cc
 
-high_stays : (k count : ℕ) (t : Tally) → not (t.key == k) ≡ false → key_before (tally_key (record { key = k; count = count })) (tally_key t) ≡ false
-high_stays k count t goes = grind (arith, nat_tests)
+-- the row that gives way may be cut before
+pub put_over : {Row : Type 0} (key : Row → Key) (x : Row) (rows : List Row) → put (λ a b. key_before (key a) (key b)) x (filter (λ row. not (is_key (key row) (key x))) rows) ≡ put (λ a b. key_before (key a) (key b)) x rows
+put_over {Row} key x rows =
+    let laws = parted_by_key key (key x) in
+    let q = λ (row : Row). is_key (key row) (key x) in
+    let stays = λ (row : Row). not (q row) in
+    let low = λ (row : Row). key_before (key row) (key x) in
+    let high = λ (row : Row). key_before (key x) (key row) in
+    ap (λ front. front ++ x ∷ filter high (filter stays rows)) (filter_behind low stays rows (each (λ row. stays row ≡ false → low row ≡ false) (λ row goes. laws.mine_not_low row (goes_alone (q row) goes)) rows))
+    ∙ ap (λ back. filter low rows ++ x ∷ back) (filter_behind high stays rows (each (λ row. stays row ≡ false → high row ≡ false) (λ row goes. laws.mine_not_behind row (goes_alone (q row) goes)) rows))
 
--- the tally that gives way may be cut before
-put_over : (k count : ℕ) (ts : List Tally) → with_count k count (without_key k ts) ≡ with_count k count ts
-put_over k count ts =
-    let x : Tally = record { key = k; count = count } in
-    let stays = λ (t : Tally). not (t.key == k) in
-    let low = λ (t : Tally). key_before (tally_key t) (tally_key x) in
-    let high = λ (t : Tally). key_before (tally_key x) (tally_key t) in
-    ap (λ front. front ++ x ∷ filter high (filter stays ts)) (filter_behind low stays ts (each (λ t. stays t ≡ false → low t ≡ false) (low_stays k count) ts))
-    ∙ ap (λ back. filter low ts ++ x ∷ back) (filter_behind high stays ts (each (λ t. stays t ≡ false → high t ≡ false) (high_stays k count) ts))
-
-cut_apart : (k : ℕ) (ts : List Tally) → AllByRecursion (λ t. is_key (tally_key t) (tally_key (record { key = k; count = 0 })) ≡ false) (without_key k ts)
-cut_apart k [] = tt
-cut_apart k (t ∷ ts) = elim (cases_Bool (t.key == k)) [
-  | inl mine ↦ rw mine (cut_apart k ts)
-  | inr other ↦ rw (other, other) ((refl, cut_apart k ts))
+-- once those that pass are left out, none passes
+pub none_stays : {X : Type 0} (q : X → Bool) (xs : List X) → AllByRecursion (λ x. q x ≡ false) (filter (λ x. not (q x)) xs)
+none_stays q [] = tt
+none_stays q (x ∷ xs) = elim (cases_Bool (q x)) [
+  | inl mine ↦ rw mine (none_stays q xs)
+  | inr other ↦ rw (other, other) ((refl, none_stays q xs))
 ]
 
--- so many under the key, and the others as before
-pub share_with : (f : ℕ → ℕ) (k count : ℕ) (ts : List Tally) → Rises tally_key ts → sum_by (share f) (with_count k count ts) ≡ count * f k + sum_by (share f) (without_key k ts)
-share_with f k count ts rises =
-    let x : Tally = record { key = k; count = count } in
-    ap (sum_by (share f)) (sym (put_over k count ts)) ∙ sum_put tally_key (share f) x (without_key k ts) (filter_rises tally_key (λ t. not (t.key == k)) ts rises) (cut_apart k ts)
+-- the entry so often, and the others as before
+pub share_with : (f : Entry → ℕ) (e : Entry) (count : ℕ) (ts : List Tally) → Rises tally_key ts → sum_by (share f) (with_count e count ts) ≡ count * f e + sum_by (share f) (without_entry e ts)
+share_with f e count ts rises =
+    let x : Tally = record { entry = e; count = count } in
+    ap (sum_by (share f)) (sym (put_over tally_key x ts)) ∙ sum_put tally_key (share f) x (without_entry e ts) (filter_rises tally_key (λ t. not (is_of e t)) ts rises) (none_stays (is_of e) ts)
 
-pub share_more : (f : ℕ → ℕ) (k : ℕ) (ts : List Tally) → Rises tally_key ts → sum_by (share f) (one_more k ts) ≡ f k + sum_by (share f) ts
-share_more f k ts rises =
-    let new = share_with f k (count_at ts k + 1) ts rises in
-    let old = share_apart f k ts rises in
+pub share_more : (f : Entry → ℕ) (e : Entry) (ts : List Tally) → Rises tally_key ts → sum_by (share f) (one_more e ts) ≡ f e + sum_by (share f) ts
+share_more f e ts rises =
+    let new = share_with f e (count_at ts e + 1) ts rises in
+    let old = share_apart f e ts rises in
     omega (arith, new, old)
 
--- how many stand under a key, as a sum
-pub count_is_sum : (k : ℕ) (ts : List Tally) → Rises tally_key ts → count_at ts k ≡ sum_by (share (λ n. cond (n == k) 1 0)) ts
-count_is_sum k ts rises =
-    let f = λ (n : ℕ). cond (n == k) 1 0 in
-    let own : f k ≡ 1 = let mine : (k == k) ≡ true = grind (arith, nat_tests) in rw mine refl in
-    let apart = share_apart f k ts rises in
+-- how often an entry is counted, as a sum
+pub count_is_sum : (e : Entry) (ts : List Tally) → Rises tally_key ts → count_at ts e ≡ sum_by (share (one_of e)) ts
+count_is_sum e ts rises =
+    let own : one_of e e ≡ 1 = rw (own_key e) refl in
+    let apart = share_apart (one_of e) e ts rises in
     let rest = none_of ts in
-    let one : count_at ts k * f k ≡ count_at ts k = ap (λ n. count_at ts k * n) own ∙ (omega arith) in
+    let one : count_at ts e * one_of e e ≡ count_at ts e = ap (λ n. count_at ts e * n) own ∙ (omega arith) in
     omega (arith, apart, rest, one)
   where
-    none_of : (ts : List Tally) → sum_by (share (λ n. cond (n == k) 1 0)) (without_key k ts) ≡ 0
+    none_of : (ts : List Tally) → sum_by (share (one_of e)) (without_entry e ts) ≡ 0
     none_of [] = refl
-    none_of (t ∷ ts) = elim (cases_Bool (t.key == k)) [
+    none_of (t ∷ ts) = elim (cases_Bool (is_of e t)) [
       | inl mine ↦ rw mine (none_of ts)
       | inr other ↦
-          let step = sum_by-cons (share (λ n. cond (n == k) 1 0)) t (without_key k ts) in
-          let nothing : share (λ n. cond (n == k) 1 0) t ≡ 0 = rw other (omega arith) in
+          let step = sum_by-cons (share (one_of e)) t (without_entry e ts) in
+          let nothing : share (one_of e) t ≡ 0 = rw other (omega arith) in
           let rest = none_of ts in
           rw other (omega (arith, step, nothing, rest))
     ]
 
--- how many stand under a key, of rows
-pub count_is : {Row : Type 0} (keys : Row → List ℕ) (k : ℕ) (rows : List Row) (ts : List Tally) → IsTally keys rows ts → count_at ts k ≡ sum_by (λ row. sum_by (λ n. cond (n == k) 1 0) (keys row)) rows
-count_is keys k rows ts tally = count_is_sum k ts tally.rises ∙ tally.same (λ n. cond (n == k) 1 0)
+-- how often an entry is counted, of rows
+pub count_is : {Row : Type 0} (entries : Row → List Entry) (e : Entry) (rows : List Row) (ts : List Tally) → IsTally entries rows ts → count_at ts e ≡ sum_by (λ row. sum_by (one_of e) (entries row)) rows
+count_is entries e rows ts tally = count_is_sum e ts tally.rises ∙ tally.same (one_of e)
 
-pub share_less : (f : ℕ → ℕ) (k : ℕ) (ts : List Tally) → Rises tally_key ts → 0 < count_at ts k → f k + sum_by (share f) (one_less k ts) ≡ sum_by (share f) ts
-share_less f k ts rises some = elim (cases_Bool (nat_lt 1 (count_at ts k))) [
-  | inl many ↦ rw many (more (count_at ts k) refl some)
+pub share_less : (f : Entry → ℕ) (e : Entry) (ts : List Tally) → Rises tally_key ts → 0 < count_at ts e → f e + sum_by (share f) (one_less e ts) ≡ sum_by (share f) ts
+share_less f e ts rises some = elim (cases_Bool (nat_lt 1 (count_at ts e))) [
+  | inl many ↦ rw many (more (count_at ts e) refl some)
   | inr few ↦
-      let one : count_at ts k ≡ 1 = grind (arith, nat_tests, few, some) in
-      let old = share_apart f k ts rises in
-      let is : count_at ts k * f k ≡ f k = ap (λ n. n * f k) one ∙ (omega arith) in
+      let one : count_at ts e ≡ 1 = grind (arith, nat_tests, few, some) in
+      let old = share_apart f e ts rises in
+      let is : count_at ts e * f e ≡ f e = ap (λ n. n * f e) one ∙ (omega arith) in
       rw few (omega (arith, old, is))
 ]
   where
-    more : (n : ℕ) → count_at ts k ≡ n → 0 < n → f k + sum_by (share f) (with_count k (n - 1) ts) ≡ sum_by (share f) ts
+    more : (n : ℕ) → count_at ts e ≡ n → 0 < n → f e + sum_by (share f) (with_count e (n - 1) ts) ≡ sum_by (share f) ts
     more zero is some = absurd (omega (arith, some))
     more (suc n) is some =
-        let new = share_with f k n ts rises in
-        let old = share_apart f k ts rises in
-        let mine : count_at ts k * f k ≡ f k + n * f k = ap (λ m. m * f k) is ∙ (omega arith) in
+        let new = share_with f e n ts rises in
+        let old = share_apart f e ts rises in
+        let mine : count_at ts e * f e ≡ f e + n * f e = ap (λ m. m * f e) is ∙ (omega arith) in
         let back : suc n - 1 ≡ n = omega arith in
         rw back (omega (arith, new, old, mine))
 
--- a key under which some stand has a tally
-pub tally_there : (k count : ℕ) (ts : List Tally) → 0 < count_at ts k → list_any (λ t. is_key (tally_key t) (tally_key (record { key = k; count = count }))) ts ≡ true
-tally_there k count [] some = absurd (omega (arith, some))
-tally_there k count (t ∷ ts) some = elim (cases_Bool (t.key == k)) [
+-- an entry that is counted has a tally
+pub tally_there : (e : Entry) (ts : List Tally) → 0 < count_at ts e → list_any (is_of e) ts ≡ true
+tally_there e [] some = absurd (omega (arith, some))
+tally_there e (t ∷ ts) some = elim (cases_Bool (is_of e t)) [
   | inl mine ↦ rw mine refl
-  | inr other ↦ let rest : 0 < count_at ts k = rw other at some in rw other (tally_there k count ts rest)
+  | inr other ↦ let rest : 0 < count_at ts e = rw other at some in rw other (tally_there e ts rest)
 ]
 
--- a key that is counted has a tally, and another one finds room
-pub there_or_room : (k count : ℕ) (ts : List Tally) (room : ℕ) → (nat_lt 0 (count_at ts k) || nat_lt 0 room) ≡ true → (list_any (λ t. is_key (tally_key t) (tally_key (record { key = k; count = count }))) ts || nat_lt 0 room) ≡ true
-there_or_room k count ts room either = elim (cases_Bool (nat_lt 0 (count_at ts k))) [
-  | inl some ↦ let is : 0 < count_at ts k = grind (arith, nat_tests, some) in ap (λ has. has || nat_lt 0 room) (tally_there k count ts is)
-  | inr none ↦ let left : nat_lt 0 room ≡ true = rw none at either in rw left (or-true (list_any (λ t. is_key (tally_key t) (tally_key (record { key = k; count = count }))) ts))
+-- an entry that is counted has a tally, and another one finds room
+pub there_or_room : (e : Entry) (ts : List Tally) (room : ℕ) → (nat_lt 0 (count_at ts e) || nat_lt 0 room) ≡ true → (list_any (is_of e) ts || nat_lt 0 room) ≡ true
+there_or_room e ts room either = elim (cases_Bool (nat_lt 0 (count_at ts e))) [
+  | inl some ↦ let is : 0 < count_at ts e = grind (arith, nat_tests, some) in ap (λ has. has || nat_lt 0 room) (tally_there e ts is)
+  | inr none ↦ let left : nat_lt 0 room ≡ true = rw none at either in rw left (or-true (list_any (is_of e) ts))
 ]
-
--- where a sum is nothing, so is each part of it
-pub sum_nothing : {X : Type 0} (g : X → ℕ) (xs : List X) → sum_by g xs ≡ 0 → AllByRecursion (λ x. g x ≡ 0) xs
-sum_nothing g [] is = tt
-sum_nothing g (x ∷ xs) is =
-    let step = sum_by-cons g x xs in
-    let first : g x ≡ 0 = omega (arith, is, step) in
-    let rest : sum_by g xs ≡ 0 = omega (arith, is, step) in
-    (first, sum_nothing g xs rest)

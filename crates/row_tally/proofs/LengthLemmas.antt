@@ -1,8 +1,7 @@
 -- How many rows there are once a row stands in its place, and what it changes of a sum.
-use Rattle.std.proofs.Common.{◌≡◌, ℕ, ◌+◌, Bool, true, false, List, [], ◌∷◌, ◌++◌, Option, Some, None, length, refl, sym, ap, ◌∙◌, arith, inl, inr}
+use Rattle.std.proofs.Common.{◌≡◌, ℕ, ◌+◌, true, false, List, [], ◌∷◌, Option, Some, None, length, refl, sym, ap, ◌∙◌, arith}
 use Rattle.std.specs.Prelude.{is_some, not}
-use Rattle.std.specs.List.{AllByRecursion, filter, find, list_any, position_from, sum_by}
-use Rattle.std.proofs.lemmas.Bool.{cases_Bool}
+use Rattle.std.specs.List.{filter, find, list_any, position_from, sum_by}
 use Rattle.std.proofs.lemmas.List.Sums.{sum_by-cons}
 use Rattle.std.proofs.lemmas.List.{length-set}
 use Rattle.slee_state.specs.Orders.{put}
@@ -12,23 +11,12 @@ use Rattle.sorted_rows.proofs.OrderLemmas.{IsBefore, filter_rises, in_order}
 use Rattle.sorted_rows.proofs.PartLemmas.{parted_by_key}
 use Rattle.sorted_rows.proofs.RowLemmas.{replaced_is}
 use Rattle.row_index.proofs.IndexLemmas.{sum_put}
-use Rattle.row_index.proofs.RowLemmas.{each_fails, filter_behind}
-use Rattle.row_tally.proofs.CountLemmas.{each, sum_cut}
+use Rattle.row_index.proofs.RowLemmas.{each_fails}
+use Rattle.row_tally.proofs.CountLemmas.{none_stays, put_over, sum_cut}
 
 sum_ones : {X : Type 0} (xs : List X) → sum_by (λ x. 1) xs ≡ length xs
 sum_ones [] = refl
 sum_ones (x ∷ xs) = let step = sum_by-cons (λ y. 1) x xs in let more = sum_ones xs in omega (arith, step, more)
-
-goes_alone : (b : Bool) → not b ≡ false → b ≡ true
-goes_alone true goes = refl
-goes_alone false goes = cc
-
-none_stays : {X : Type 0} (q : X → Bool) (xs : List X) → AllByRecursion (λ x. q x ≡ false) (filter (λ x. not (q x)) xs)
-none_stays q [] = tt
-none_stays q (x ∷ xs) = elim (cases_Bool (q x)) [
-  | inl mine ↦ rw mine (none_stays q xs)
-  | inr other ↦ rw (other, other) ((refl, none_stays q xs))
-]
 
 module _ {Row : Type 0} (key : Row → Key) where
   -- one more, where none had its key
@@ -57,12 +45,7 @@ module _ {Row : Type 0} (key : Row → Key) where
       let q = λ (other : Row). is_key (key other) (key x) in
       let stays = λ (other : Row). not (q other) in
       let left = filter stays rows in
-      let low = λ (other : Row). key_before (key other) (key x) in
-      let high = λ (other : Row). key_before (key x) (key other) in
-      let over : put (λ a b. key_before (key a) (key b)) x left ≡ put (λ a b. key_before (key a) (key b)) x rows =
-      ap (λ front. front ++ x ∷ filter high left) (filter_behind low stays rows (each (λ row. stays row ≡ false → low row ≡ false) (λ row goes. laws.mine_not_low row (goes_alone (q row) goes)) rows))
-      ∙ ap (λ back. filter low rows ++ x ∷ back) (filter_behind high stays rows (each (λ row. stays row ≡ false → high row ≡ false) (λ row goes. laws.mine_not_behind row (goes_alone (q row) goes)) rows)) in
       let sum = sum_put key g x left (filter_rises key stays rows rises) (none_stays q rows) in
-      let same = ap (sum_by g) over in
+      let same = ap (sum_by g) (put_over key x rows) in
       let cut = sum_cut (IsBefore key) q (λ a b before mine. laws.later_apart a b before (laws.mine_not_low a mine)) g found rows (in_order key rows rises) is in
       omega (arith, sum, same, cut)

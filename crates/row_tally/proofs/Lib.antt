@@ -1,4 +1,3 @@
 pub mod CountLemmas
-pub mod PartLemmas
 pub mod KeyLemmas
 pub mod LengthLemmas

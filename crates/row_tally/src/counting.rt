@@ -1,58 +1,59 @@
-//! Rows counted under their keys.
+//! Entries counted as they come and go.
 ghost use Rattle.std.specs.Prelude.{◌≡◌, ◌+◌, ◌-◌, ◌<◌, ◌≤◌, ◌||◌, ◌^◌, length, nat_lt, IsTrue};
 ghost use Rattle.sorted_rows.specs.Keys.{Rises};
-ghost use Rattle.row_tally.specs.Tallies.{tally_key, count_at, one_more, one_less, with_count, without_key};
+ghost use Rattle.row_tally.specs.Tallies.{tally_key, count_at, one_more, one_less, with_count, without_entry};
 
 use crate::Tally;
 use leaf_rows::Leaves;
+use row_index::Entry;
 
-/// How many rows stand under the key.
-pub fn count_under(tallies: &Leaves<Tally>, key: u64) -> u64
-    ensures { result ≡ count_at tallies.now.rows key }
+/// How often the entry is counted.
+fn count_of(tallies: &Leaves<Tally>, entry: Entry) -> u64
+    ensures { result ≡ count_at tallies.now.rows entry }
 {
-    match tallies.first_row_of(key) {
+    match tallies.row_of(entry.key, entry.number, &[]) {
         Some(tally) => tally.count,
         None => 0,
     }
 }
 
-/// One more row stands under the key.
-pub fn count_one(tallies: &mut Leaves<Tally>, key: u64)
-    requires fits { count_at tallies.old.rows key < 2 ^ 64 - 1 }
-    requires room { IsTrue (nat_lt 0 (count_at tallies.old.rows key) || nat_lt 0 tallies.old.room) }
-    ensures rows { tallies.new.rows ≡ one_more key tallies.old.rows }
+/// The entry is counted once more.
+pub fn count_one(tallies: &mut Leaves<Tally>, entry: Entry)
+    requires fits { count_at tallies.old.rows entry < 2 ^ 64 - 1 }
+    requires room { IsTrue (nat_lt 0 (count_at tallies.old.rows entry) || nat_lt 0 tallies.old.room) }
+    ensures rows { tallies.new.rows ≡ one_more entry tallies.old.rows }
     ensures rises { Rises tally_key tallies.new.rows }
     ensures room { tallies.old.room ≤ tallies.new.room + 1 }
-    ensures counted { 0 < count_at tallies.old.rows key → tallies.old.room ≤ tallies.new.room }
+    ensures counted { 0 < count_at tallies.old.rows entry → tallies.old.room ≤ tallies.new.room }
     ensures capacity { tallies.old.room + length tallies.old.rows ≤ tallies.new.room + length tallies.new.rows }
 {
-    let count = count_under(tallies, key) + 1;
-    tallies.put_row(Tally { key, count });
+    let count = count_of(tallies, entry) + 1;
+    tallies.put_row(Tally { entry, count });
 }
 
-/// So many rows stand under the key, where some did.
-fn recount(tallies: &mut Leaves<Tally>, key: u64, count: u64)
-    requires { 0 < count_at tallies.old.rows key }
-    ensures rows { tallies.new.rows ≡ with_count key count tallies.old.rows }
+/// The entry is counted so often, where it was counted.
+fn recount(tallies: &mut Leaves<Tally>, entry: Entry, count: u64)
+    requires { 0 < count_at tallies.old.rows entry }
+    ensures rows { tallies.new.rows ≡ with_count entry count tallies.old.rows }
     ensures rises { Rises tally_key tallies.new.rows }
     ensures room { tallies.old.room ≤ tallies.new.room }
     ensures capacity { tallies.old.room + length tallies.old.rows ≤ tallies.new.room + length tallies.new.rows }
 {
-    tallies.put_row(Tally { key, count });
+    tallies.put_row(Tally { entry, count });
 }
 
-/// One row less stands under the key.
-pub fn uncount_one(tallies: &mut Leaves<Tally>, key: u64)
-    requires { 0 < count_at tallies.old.rows key }
-    ensures rows { tallies.new.rows ≡ one_less key tallies.old.rows }
+/// The entry is counted once less. It goes when it isn't counted any more.
+pub fn uncount_one(tallies: &mut Leaves<Tally>, entry: Entry)
+    requires { 0 < count_at tallies.old.rows entry }
+    ensures rows { tallies.new.rows ≡ one_less entry tallies.old.rows }
     ensures rises { Rises tally_key tallies.new.rows }
     ensures room { tallies.old.room ≤ tallies.new.room }
     ensures capacity { tallies.old.room + length tallies.old.rows ≤ tallies.new.room + length tallies.new.rows }
 {
-    let count = count_under(tallies, key);
+    let count = count_of(tallies, entry);
     if count > 1 {
-        recount(tallies, key, count - 1);
+        recount(tallies, entry, count - 1);
     } else {
-        tallies.cut_rows_of(key);
+        tallies.cut_row(entry.key, entry.number, &[]);
     }
 }

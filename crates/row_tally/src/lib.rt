@@ -1,8 +1,8 @@
-//! How many rows stand under a key, counted as they come and go.
+//! How often a row's number stands under a key, counted as rows come and go.
 #![tactic(auto)]
 
 mod counting;
 mod tally;
 
-pub use counting::{count_one, count_under, uncount_one};
+pub use counting::{count_one, uncount_one};
 pub use tally::Tally;

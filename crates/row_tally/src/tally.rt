@@ -1,11 +1,12 @@
-//! How many rows stand under a key.
+//! How often an entry stands for something.
 
+use row_index::Entry;
 use sorted_rows::Keyed;
 
-/// How many rows stand under a key.
+/// A row's number under a key, and how often it stands there.
 #[derive(Debug, Clone, Copy, PartialEq, Eq)]
 pub struct Tally {
-    pub key: u64,
+    pub entry: Entry,
     pub count: u64,
 }
 
@@ -15,11 +16,11 @@ impl Keyed for Tally {
     ghost key = { tally_key };
 
     fn first(&self) -> u64 {
-        self.key
+        self.entry.key
     }
 
     fn second(&self) -> u64 {
-        0
+        self.entry.number
     }
 
     fn text(&self) -> &[u8] {

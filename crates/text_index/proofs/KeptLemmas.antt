@@ -1,5 +1,5 @@
 -- Rows that are put back in the place of those of their number, and rows that are pushed.
-use Rattle.std.proofs.Common.{◌≡◌, ℕ, ◌+◌, ◌==◌, Bool, true, false, List, [], ◌∷◌, ◌++◌, Some, None, refl, ap, ◌∙◌, arith, inl, inr}
+use Rattle.std.proofs.Common.{◌≡◌, ℕ, ◌+◌, ◌==◌, false, List, [], ◌∷◌, ◌++◌, None, refl, ap, ◌∙◌, arith, inl, inr}
 use Rattle.std.specs.Prelude.{not, nat_lt, IsTrue}
 use Rattle.std.specs.List.{AllByRecursion, filter, find, list_all, sum_by}
 use Rattle.std.proofs.lemmas.Bool.{cases_Bool, and_parts}

@@ -1,2 +1,4 @@
 pub mod RunLemmas
 pub mod KeptLemmas
+pub mod SortLemmas
+pub mod ItemLemmas

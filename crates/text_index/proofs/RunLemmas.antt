@@ -1,5 +1,5 @@
 -- The entries under one key are those of the rows under it, in their order, and so lead to the first row that passes a test.
-use Rattle.std.proofs.Common.{◌≡◌, ℕ, ◌==◌, Bool, true, false, List, [], ◌∷◌, cond, Option, Some, None, map, refl, sym, ap, ◌∙◌, arith, inl, inr}
+use Rattle.std.proofs.Common.{◌≡◌, ℕ, ◌==◌, Bool, true, false, List, [], ◌∷◌, cond, Option, Some, map, refl, sym, ap, ◌∙◌, arith, inl, inr}
 use Rattle.std.specs.List.{AllByRecursion, filter, find, sum_by}
 use Rattle.std.proofs.lemmas.Bool.{cases_Bool}
 use Rattle.std.proofs.lemmas.Bool.Decides.{nat_tests}
@@ -12,7 +12,7 @@ use Rattle.row_index.proofs.FoundLemmas.{each_found, lower_number}
 use Rattle.row_index.proofs.IndexLemmas.{entry_same, index_filter, is_itself}
 use Rattle.row_index.proofs.RowLemmas.{entry}
 use Rattle.row_index.proofs.SumLemmas.{all_passed, none_counted, one_if, sum_mapped}
-use Rattle.text_index.specs.Found.{first_found, or_later}
+use Rattle.text_index.specs.Found.{first_found}
 
 alike : (x y : Entry) → entry_before x y ≡ false → entry_before y x ≡ false → is_entry x y ≡ true
 alike x y one other = grind (arith, nat_tests)

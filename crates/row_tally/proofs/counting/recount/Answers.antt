@@ -5,7 +5,7 @@ use Rattle.row_tally.proofs.CountLemmas.{tally_there}
 use Rattle.row_tally.proofs.counting.recount.Goals as goal
 
 pub put_row-requires : goal.put_row-requires
-put_row-requires c = ap (λ has. has || nat_lt 0 c.args.tallies.now.room) (tally_there c.args.key c.args.count c.args.tallies.now.rows c.requires)
+put_row-requires c = ap (λ has. has || nat_lt 0 c.args.tallies.now.room) (tally_there c.args.entry c.args.tallies.now.rows c.requires)
 
 pub returns-clause-room : goal.returns-clause-room
-returns-clause-room c = c.put_row.ensures.replaced (tally_there c.args.key c.args.count c.args.tallies.now.rows c.requires)
+returns-clause-room c = c.put_row.ensures.replaced (tally_there c.args.entry c.args.tallies.now.rows c.requires)

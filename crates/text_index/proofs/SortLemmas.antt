@@ -88,6 +88,11 @@ module _ {X : Type 0} (before : X → X → Bool)
   inserted_first x [] all = refl
   inserted_first x (y ∷ ys) all = rw all.0 refl
 
+  -- things that stand in order stay as they are
+  pub sorted_again : (xs : List X) → AllInOrder (IsAhead before) xs → sorted before xs ≡ xs
+  sorted_again [] order = refl
+  sorted_again (x ∷ xs) order = ap (inserted before x) (sorted_again xs order.1) ∙ inserted_first x xs order.0
+
   -- two things that are apart may be put in either way round
   either_way : (x y : X) (zs : List X) → AreApart before x y → inserted before x (inserted before y zs) ≡ inserted before y (inserted before x zs)
   either_way x y [] apart = elim (cases_Bool (before y x)) [
