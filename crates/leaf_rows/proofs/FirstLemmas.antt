@@ -131,6 +131,14 @@ module _ {Row : Type 0} (key : Row → Key) (share : Share) where
         → flat_map rows_of (take n leaves) ++ (without_first (λ row. is_in share (key row)) (rows_of leaf) ++ flat_map rows_of (drop (n + 1) leaves)) ≡ without_first (λ row. is_in share (key row)) (flat_map rows_of leaves)
     without_in_leaf n leaves leaf filled rises within is count = rw add-one (sym (without_at n leaves leaf filled (in_order key _ rises) within is count))
 
+-- no rows come where one goes
+pub without_short : {Row : Type 0} (q : Row → Bool) (rows : List Row) → length (without_first q rows) ≤ length rows
+without_short q [] = omega arith
+without_short q (x ∷ xs) = elim (cases_Bool (q x)) [
+  | inl is ↦ rw is (omega arith)
+  | inr other ↦ rw other (omega (arith, without_short q xs))
+]
+
 -- the first row that passes goes, and the others that don't pass stay
 pub kept_without : {Row : Type 0} (q : Row → Bool) (rows : List Row) → filter (λ row. not (q row)) (without_first q rows) ≡ filter (λ row. not (q row)) rows
 kept_without q [] = refl

@@ -48,6 +48,15 @@ module _ {Leaf Row : Type 0} (key : Row → Key) (rows_of : Leaf → List Row) w
       → flat_map rows_of (take n leaves) ++ (put (λ x y. key_before (key x) (key y)) row (rows_of leaf) ++ flat_map rows_of (drop (n + 1) leaves)) ≡ put (λ x y. key_before (key x) (key y)) row (flat_map rows_of leaves)
   put_in_leaf row leaves n leaf within is low high = sym (ap (put (λ x y. key_before (key x) (key y)) row) (joined_at rows_of leaves n leaf within is) ∙ put_between key row _ (rows_of leaf) _ low high)
 
+  module _ (row : Row) (leaves : List Leaf) (n : ℕ) (old : Leaf) (within : n < length leaves) (is : old ≡ get_or leaves n old)
+      (low : Low key (key row) (flat_map rows_of (take n leaves))) (high : High key (key row) (flat_map rows_of (drop (n + 1) leaves))) where
+    -- the leaf with the row in it stands in its place
+    pub put_set : (new : Leaf) → rows_of new ≡ put (λ x y. key_before (key x) (key y)) row (rows_of old) → flat_map rows_of (set leaves n new) ≡ put (λ x y. key_before (key x) (key y)) row (flat_map rows_of leaves)
+    put_set new put_is =
+        joined_set rows_of leaves n new within
+        ∙ ap (λ rows. flat_map rows_of (take n leaves) ++ (rows ++ flat_map rows_of (drop (n + 1) leaves))) put_is
+        ∙ put_in_leaf row leaves n old within is low high
+
 module _ {X : Type 0} (P : X → Type 0) where
   pub all_get : (xs : List X) (n : ℕ) (d : X) → AllByRecursion P xs → n < length xs → P (get_or xs n d)
   all_get [] n d all within = absurd (omega (arith, within))
@@ -94,6 +103,15 @@ module _ {Leaf Row : Type 0} (rows_of : Leaf → List Row) where
       → flat_map rows_of (insert (set leaves n one) (n + 1) two) ≡ flat_map rows_of (take n leaves) ++ ((rows_of one ++ rows_of two) ++ flat_map rows_of (drop (n + 1) leaves))
   joined_split leaves n one two within =
       rw (take_more_set leaves n one within, drop-set-lt (n + 1) leaves n one (omega arith), flat_map-append rows_of (take n leaves ++ one ∷ []) (two ∷ drop (n + 1) leaves), flat_map-append rows_of (take n leaves) (one ∷ []), append-nil (rows_of one)) (simp append_assoc)
+
+-- two leaves with a row among theirs stand in the place of one
+pub put_split : {Leaf Row : Type 0} (key : Row → Key) (rows_of : Leaf → List Row) (row : Row) (leaves : List Leaf) (n : ℕ) (old one two : Leaf) → n < length leaves → old ≡ get_or leaves n old
+    → Low key (key row) (flat_map rows_of (take n leaves)) → High key (key row) (flat_map rows_of (drop (n + 1) leaves)) → rows_of one ++ rows_of two ≡ put (λ x y. key_before (key x) (key y)) row (rows_of old)
+    → flat_map rows_of (insert (set leaves n one) (n + 1) two) ≡ put (λ x y. key_before (key x) (key y)) row (flat_map rows_of leaves)
+put_split key rows_of row leaves n old one two within is low high put_is =
+    joined_split rows_of leaves n one two within
+    ∙ ap (λ rows. flat_map rows_of (take n leaves) ++ (rows ++ flat_map rows_of (drop (n + 1) leaves))) put_is
+    ∙ put_in_leaf key rows_of row leaves n old within is low high
 
 -- what holds of all but one, and of that one, holds of all
 pub all_restored : {X : Type 0} (P : X → Type 0) (xs : List X) (n : ℕ) (d : X) → AllByRecursion P (remove xs n) → P (get_or xs n d) → AllByRecursion P xs

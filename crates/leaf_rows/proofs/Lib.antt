@@ -10,3 +10,5 @@ pub mod ShareLemmas
 pub mod RunLemmas
 pub mod CountLemmas
 pub mod ChangeLemmas
+pub mod PlaceLemmas
+pub mod LengthLemmas

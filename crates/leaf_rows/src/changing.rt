@@ -3,7 +3,7 @@ ghost use Rattle.std.specs.Prelude.{◌≡◌, ◌<◌, ◌≤◌, if◌then◌e
 ghost use Rattle.std.specs.Fn.{FnOnceReturnsAtMut};
 ghost use Rattle.std.specs.List.{AllByRecursion, flat_map, list_any};
 ghost use Rattle.sorted_rows.specs.Keys.{Rises, is_key};
-ghost use Rattle.leaf_rows.specs.Invariant.{leaf_rows, Belongs, HasMemory, HasRows, IsNumbered};
+ghost use Rattle.leaf_rows.specs.Invariant.{leaf_rows, row_count, Belongs, HasMemory, HasRows, IsNumbered};
 
 use crate::leaf::Leaf;
 use crate::search::leaf_of;
@@ -69,6 +69,7 @@ fn change_at<R: Keyed, F: FnOnce(&mut R)>(
     ensures memory { AllByRecursion HasMemory leaves.new.items }
     ensures len { vec_len leaves.new ≡ vec_len leaves.old }
     ensures capacity { vec_capacity leaves.new ≡ vec_capacity leaves.old }
+    ensures lengths { map row_count leaves.new.items ≡ map row_count leaves.old.items }
 {
     let leaf = &mut leaves[place];
     change_among(&mut leaf.rows, first, second, text, change)
@@ -96,6 +97,7 @@ pub fn change_in<R: Keyed, F: FnOnce(&mut R)>(
     ensures memory { AllByRecursion HasMemory leaves.new.items }
     ensures len { vec_len leaves.new ≡ vec_len leaves.old }
     ensures capacity { vec_capacity leaves.new ≡ vec_capacity leaves.old }
+    ensures lengths { map row_count leaves.new.items ≡ map row_count leaves.old.items }
 {
     match leaf_of(leaves.as_slice(), first, second, text) {
         Some(place) => change_at(leaves, place, first, second, text, change),

@@ -11,19 +11,26 @@ use crate::leaf::{Leaf, last_numbers};
 use crate::search::{leaf_of, start_in};
 use crate::share::{Share, cut_in, first_in};
 use crate::splitting::push_item;
+use prefix_counts::Counts;
 use sorted_rows::{Keyed, cut_first_of, cut_row};
 
 /// The leaf at the place goes to the spare ones if it has no row.
-fn release<R: Keyed + Drop>(leaves: &mut Vec<Leaf<R>>, spares: &mut Vec<Leaf<R>>, place: usize)
-    requires stands { StandsBut R.key leaves.old spares.old place }
+fn release<R: Keyed + Drop>(
+    leaves: &mut Vec<Leaf<R>>,
+    spares: &mut Vec<Leaf<R>>,
+    counts: &mut Counts,
+    place: usize,
+)
+    requires stands { StandsBut R.key leaves.old spares.old counts.old place }
     requires within { place < vec_len leaves.old }
     ensures rows { flat_map leaf_rows leaves.new.items ≡ flat_map leaf_rows leaves.old.items }
-    ensures stands { Stands R.key leaves.new spares.new }
+    ensures stands { Stands R.key leaves.new spares.new counts.new }
     ensures room { vec_len spares.old ≤ vec_len spares.new }
     ensures slots { vec_len leaves.new + vec_len spares.new ≡ vec_len leaves.old + vec_len spares.old }
 {
     if leaves[place].rows.is_empty() {
         let spare = leaves.remove(place);
+        counts.remove(place);
         push_item(spares, spare);
     }
 }
@@ -44,23 +51,25 @@ fn cut_among<R: Keyed + Drop>(rows: &mut Vec<R>, first: u64, second: u64, text: 
 fn cut_at<R: Keyed + Drop>(
     leaves: &mut Vec<Leaf<R>>,
     spares: &mut Vec<Leaf<R>>,
+    counts: &mut Counts,
     place: usize,
     first: u64,
     second: u64,
     text: &[u8],
 ) -> usize
-    requires stands { Stands R.key leaves.old spares.old }
+    requires stands { Stands R.key leaves.old spares.old counts.old }
     requires belongs { Belongs R.key leaves.old.items (record { first = first; second = second; text = text.now }) place }
     ensures rows { flat_map leaf_rows leaves.new.items ≡ filter (λ row. not (is_key (R.key row) (record { first = first; second = second; text = text.now }))) (flat_map leaf_rows leaves.old.items) }
     ensures count { length (flat_map leaf_rows leaves.new.items) + result ≡ length (flat_map leaf_rows leaves.old.items) }
-    ensures stands { Stands R.key leaves.new spares.new }
+    ensures stands { Stands R.key leaves.new spares.new counts.new }
     ensures room { vec_len spares.old ≤ vec_len spares.new }
     ensures slots { vec_len leaves.new + vec_len spares.new ≡ vec_len leaves.old + vec_len spares.old }
 {
     let leaf = &mut leaves[place];
     let count = cut_among(&mut leaf.rows, first, second, text);
     leaf.last = last_numbers(leaf.rows.as_slice());
-    release(leaves, spares, place);
+    counts.set(place, leaf.rows.len());
+    release(leaves, spares, counts, place);
     count
 }
 
@@ -68,19 +77,20 @@ fn cut_at<R: Keyed + Drop>(
 pub fn cut_from<R: Keyed + Drop>(
     leaves: &mut Vec<Leaf<R>>,
     spares: &mut Vec<Leaf<R>>,
+    counts: &mut Counts,
     first: u64,
     second: u64,
     text: &[u8],
 ) -> usize
-    requires { Stands R.key leaves.old spares.old }
+    requires { Stands R.key leaves.old spares.old counts.old }
     ensures rows { flat_map leaf_rows leaves.new.items ≡ filter (λ row. not (is_key (R.key row) (record { first = first; second = second; text = text.now }))) (flat_map leaf_rows leaves.old.items) }
     ensures count { length (flat_map leaf_rows leaves.new.items) + result ≡ length (flat_map leaf_rows leaves.old.items) }
-    ensures stands { Stands R.key leaves.new spares.new }
+    ensures stands { Stands R.key leaves.new spares.new counts.new }
     ensures room { vec_len spares.old ≤ vec_len spares.new }
     ensures slots { vec_len leaves.new + vec_len spares.new ≡ vec_len leaves.old + vec_len spares.old }
 {
     match leaf_of(leaves.as_slice(), first, second, text) {
-        Some(place) => cut_at(leaves, spares, place, first, second, text),
+        Some(place) => cut_at(leaves, spares, counts, place, first, second, text),
         None => 0,
     }
 }
@@ -89,22 +99,24 @@ pub fn cut_from<R: Keyed + Drop>(
 fn cut_first_at<R: Keyed + Drop>(
     leaves: &mut Vec<Leaf<R>>,
     spares: &mut Vec<Leaf<R>>,
+    counts: &mut Counts,
     place: usize,
     first: u64,
 ) -> Option<R>
-    requires stands { Stands R.key leaves.old spares.old }
+    requires stands { Stands R.key leaves.old spares.old counts.old }
     requires within { place < vec_len leaves.old }
     requires head { place ≡ prefix_len (λ leaf. nat_lt (last_key R.key (leaf_rows leaf)).first first) leaves.old.items }
     ensures row { result ≡ find (λ row. (R.key row).first == first) (flat_map leaf_rows leaves.old.items) }
     ensures rows { flat_map leaf_rows leaves.new.items ≡ without_first (λ row. (R.key row).first == first) (flat_map leaf_rows leaves.old.items) }
-    ensures stands { Stands R.key leaves.new spares.new }
+    ensures stands { Stands R.key leaves.new spares.new counts.new }
     ensures room { vec_len spares.old ≤ vec_len spares.new }
     ensures slots { vec_len leaves.new + vec_len spares.new ≡ vec_len leaves.old + vec_len spares.old }
 {
     let leaf = &mut leaves[place];
     let row = cut_first_of(&mut leaf.rows, first);
     leaf.last = last_numbers(leaf.rows.as_slice());
-    release(leaves, spares, place);
+    counts.set(place, leaf.rows.len());
+    release(leaves, spares, counts, place);
     row
 }
 
@@ -112,18 +124,19 @@ fn cut_first_at<R: Keyed + Drop>(
 pub fn cut_first_from<R: Keyed + Drop>(
     leaves: &mut Vec<Leaf<R>>,
     spares: &mut Vec<Leaf<R>>,
+    counts: &mut Counts,
     first: u64,
 ) -> Option<R>
-    requires { Stands R.key leaves.old spares.old }
+    requires { Stands R.key leaves.old spares.old counts.old }
     ensures row { result ≡ find (λ row. (R.key row).first == first) (flat_map leaf_rows leaves.old.items) }
     ensures rows { flat_map leaf_rows leaves.new.items ≡ without_first (λ row. (R.key row).first == first) (flat_map leaf_rows leaves.old.items) }
-    ensures stands { Stands R.key leaves.new spares.new }
+    ensures stands { Stands R.key leaves.new spares.new counts.new }
     ensures room { vec_len spares.old ≤ vec_len spares.new }
     ensures slots { vec_len leaves.new + vec_len spares.new ≡ vec_len leaves.old + vec_len spares.old }
 {
     let place = start_in(leaves.as_slice(), Share::First(first));
     if place < leaves.len() {
-        cut_first_at(leaves, spares, place, first)
+        cut_first_at(leaves, spares, counts, place, first)
     } else {
         None
     }
@@ -150,23 +163,25 @@ fn leaf_with<R: Keyed>(leaves: &[Leaf<R>], share: Share) -> Option<usize>
 fn cut_share_at<R: Keyed + Drop>(
     leaves: &mut Vec<Leaf<R>>,
     spares: &mut Vec<Leaf<R>>,
+    counts: &mut Counts,
     place: usize,
     share: Share,
 ) -> usize
-    requires stands { Stands R.key leaves.old spares.old }
+    requires stands { Stands R.key leaves.old spares.old counts.old }
     requires within { place < vec_len leaves.old }
     requires some { (leaf : Leaf R) → leaf ≡ slice_index_or leaves.old.items place leaf → IsTrue (list_any (λ row. is_in share (R.key row)) (leaf_rows leaf)) }
     ensures others { filter (λ row. not (is_in share (R.key row))) (flat_map leaf_rows leaves.new.items) ≡ filter (λ row. not (is_in share (R.key row))) (flat_map leaf_rows leaves.old.items) }
     ensures count { length (flat_map leaf_rows leaves.new.items) + result ≡ length (flat_map leaf_rows leaves.old.items) }
     ensures fewer { 0 < result }
-    ensures stands { Stands R.key leaves.new spares.new }
+    ensures stands { Stands R.key leaves.new spares.new counts.new }
     ensures room { vec_len spares.old ≤ vec_len spares.new }
     ensures slots { vec_len leaves.new + vec_len spares.new ≡ vec_len leaves.old + vec_len spares.old }
 {
     let leaf = &mut leaves[place];
     let count = cut_in(&mut leaf.rows, share);
     leaf.last = last_numbers(leaf.rows.as_slice());
-    release(leaves, spares, place);
+    counts.set(place, leaf.rows.len());
+    release(leaves, spares, counts, place);
     count
 }
 
@@ -174,21 +189,22 @@ fn cut_share_at<R: Keyed + Drop>(
 pub fn cut_share<R: Keyed + Drop>(
     leaves: &mut Vec<Leaf<R>>,
     spares: &mut Vec<Leaf<R>>,
+    counts: &mut Counts,
     share: Share,
     count: usize,
 ) -> usize
-    requires stands { Stands R.key leaves.old spares.old }
+    requires stands { Stands R.key leaves.old spares.old counts.old }
     requires count { count ≡ length (flat_map leaf_rows leaves.old.items) }
     ensures rows { flat_map leaf_rows leaves.new.items ≡ filter (λ row. not (is_in share (R.key row))) (flat_map leaf_rows leaves.old.items) }
     ensures count { result ≡ length (flat_map leaf_rows leaves.new.items) }
     ensures fewer { result ≤ count }
-    ensures stands { Stands R.key leaves.new spares.new }
+    ensures stands { Stands R.key leaves.new spares.new counts.new }
     ensures room { vec_len spares.old ≤ vec_len spares.new }
     ensures slots { vec_len leaves.new + vec_len spares.new ≡ vec_len leaves.old + vec_len spares.old }
 {
     let mut left = count;
     'cuts: while let Some(place) = leaf_with(leaves.as_slice(), share) {
-        left -= cut_share_at(leaves, spares, place, share);
+        left -= cut_share_at(leaves, spares, counts, place, share);
     }
     left
 }

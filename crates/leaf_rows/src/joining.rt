@@ -5,6 +5,7 @@ ghost use Rattle.leaf_rows.specs.Invariant.{leaf_rows, Stands};
 
 use crate::leaf::{HALF_LEAF, LEAF_ROWS, Leaf, last_numbers};
 use crate::splitting::push_item;
+use prefix_counts::Counts;
 use sorted_rows::Keyed;
 
 /// Whether one leaf can hold the rows of both.
@@ -43,12 +44,17 @@ fn move_behind<R: Drop>(rows: &mut Vec<R>, into: &mut Vec<R>)
 }
 
 /// The leaf at the place takes the rows of the next one, which goes to the spare ones.
-fn join_at<R: Keyed + Drop>(leaves: &mut Vec<Leaf<R>>, spares: &mut Vec<Leaf<R>>, place: usize)
-    requires stands { Stands R.key leaves.old spares.old }
+fn join_at<R: Keyed + Drop>(
+    leaves: &mut Vec<Leaf<R>>,
+    spares: &mut Vec<Leaf<R>>,
+    counts: &mut Counts,
+    place: usize,
+)
+    requires stands { Stands R.key leaves.old spares.old counts.old }
     requires within { place + 1 < length leaves.old.items }
     requires fit { (one other : Leaf R) → one ≡ slice_index_or leaves.old.items place one → other ≡ slice_index_or leaves.old.items (place + 1) other → vec_len one.rows + vec_len other.rows ≤ LEAF_ROWS }
     ensures rows { flat_map leaf_rows leaves.new.items ≡ flat_map leaf_rows leaves.old.items }
-    ensures stands { Stands R.key leaves.new spares.new }
+    ensures stands { Stands R.key leaves.new spares.new counts.new }
     ensures slots { vec_len leaves.new + vec_len spares.new ≡ vec_len leaves.old + vec_len spares.old }
     ensures room { 0 < vec_len spares.new }
 {
@@ -56,36 +62,43 @@ fn join_at<R: Keyed + Drop>(leaves: &mut Vec<Leaf<R>>, spares: &mut Vec<Leaf<R>>
     let leaf = &mut leaves[place];
     move_behind(&mut next.rows, &mut leaf.rows);
     leaf.last = last_numbers(leaf.rows.as_slice());
+    counts.remove(place + 1);
+    counts.set(place, leaf.rows.len());
     push_item(spares, next);
 }
 
 /// A spare leaf is made of those that there are.
-fn make_spare<R: Keyed + Drop>(leaves: &mut Vec<Leaf<R>>, spares: &mut Vec<Leaf<R>>)
-    requires stands { Stands R.key leaves.old spares.old }
+fn make_spare<R: Keyed + Drop>(
+    leaves: &mut Vec<Leaf<R>>,
+    spares: &mut Vec<Leaf<R>>,
+    counts: &mut Counts,
+)
+    requires stands { Stands R.key leaves.old spares.old counts.old }
     requires few { length (flat_map leaf_rows leaves.old.items) < HALF_LEAF * (vec_len leaves.old - 1) }
     ensures rows { flat_map leaf_rows leaves.new.items ≡ flat_map leaf_rows leaves.old.items }
-    ensures stands { Stands R.key leaves.new spares.new }
+    ensures stands { Stands R.key leaves.new spares.new counts.new }
     ensures slots { vec_len leaves.new + vec_len spares.new ≡ vec_len leaves.old + vec_len spares.old }
     ensures room { 0 < vec_len spares.new }
 {
     let place = place_to_join(leaves.as_slice());
-    join_at(leaves, spares, place);
+    join_at(leaves, spares, counts, place);
 }
 
 /// Where there is room for a row, a spare leaf is there or is made of those that there are.
 pub fn keep_spare<R: Keyed + Drop>(
     leaves: &mut Vec<Leaf<R>>,
     spares: &mut Vec<Leaf<R>>,
+    counts: &mut Counts,
     room: usize,
 )
-    requires stands { Stands R.key leaves.old spares.old }
+    requires stands { Stands R.key leaves.old spares.old counts.old }
     requires few { 0 < room → length (flat_map leaf_rows leaves.old.items) < HALF_LEAF * (vec_len leaves.old + vec_len spares.old - 1) }
     ensures rows { flat_map leaf_rows leaves.new.items ≡ flat_map leaf_rows leaves.old.items }
-    ensures stands { Stands R.key leaves.new spares.new }
+    ensures stands { Stands R.key leaves.new spares.new counts.new }
     ensures slots { vec_len leaves.new + vec_len spares.new ≡ vec_len leaves.old + vec_len spares.old }
     ensures room { 0 < room → 0 < vec_len spares.new }
 {
     if room > 0 && spares.is_empty() {
-        make_spare(leaves, spares);
+        make_spare(leaves, spares, counts);
     }
 }

@@ -1,6 +1,6 @@
 //! Leaves of rows, seen as one list.
 ghost use Rattle.std.specs.Prelude.{◌≡◌, ◌==◌, ◌+◌, ◌<◌, ◌≤◌, ◌||◌, if◌then◌else◌, [], IsTrue, OnOk, Some, filter, find, length, map, nat_eq, nat_le, nat_lt, not, option_copied, slice_get};
-ghost use Rattle.std.specs.List.{list_any};
+ghost use Rattle.std.specs.List.{list_any, position_from};
 ghost use Rattle.std.specs.Fn.{FnOnceReturnsAtMut};
 ghost use Rattle.slee_state.specs.Orders.{put};
 ghost use Rattle.sorted_rows.specs.Keys.{Rises, is_key, is_pair, key_before};
@@ -16,6 +16,7 @@ use crate::reading;
 use crate::runs::{self, Run};
 use crate::share::Share;
 use crate::spares::add_spares;
+use prefix_counts::Counts;
 use sorted_rows::Keyed;
 use std::alloc::{AllocError, Global};
 use std::marker::Model;
@@ -25,6 +26,7 @@ use std::marker::Model;
 pub struct Leaves<R: Keyed> {
     leaves: Vec<Leaf<R>>,
     spares: Vec<Leaf<R>>,
+    counts: Counts,
     count: usize,
     room: usize,
     alloc: Global,
@@ -42,7 +44,7 @@ impl<R: Keyed> Model for Leaves<R> {
 
     ghost view = { λ l. record { rows = flat_map leaf_rows l.leaves.items; room = l.room } };
 
-    ghost invariant = { λ l. Holds R.key l.leaves l.spares l.count l.room };
+    ghost invariant = { λ l. Holds R.key l.leaves l.spares l.counts l.count l.room };
 }
 
 impl<R: Keyed + Drop> Leaves<R> {
@@ -53,6 +55,7 @@ impl<R: Keyed + Drop> Leaves<R> {
         Leaves {
             leaves: Vec::new(alloc),
             spares: Vec::new(alloc),
+            counts: Counts::new(alloc),
             count: 0,
             room: 0,
             alloc,
@@ -101,7 +104,13 @@ impl<R: Keyed + Drop> Leaves<R> {
             return Err(AllocError);
         }
         let leaves = (self.count + count) / HALF_LEAF + 2;
-        add_spares(&mut self.leaves, &mut self.spares, self.alloc, leaves)?;
+        add_spares(
+            &mut self.leaves,
+            &mut self.spares,
+            &mut self.counts,
+            self.alloc,
+            leaves,
+        )?;
         self.room = count;
         Ok(())
     }
@@ -111,6 +120,13 @@ impl<R: Keyed + Drop> Leaves<R> {
         ensures { option_copied result ≡ find (λ row. is_key (R.key row) (record { first = first; second = second; text = text.now })) self.now.rows }
     {
         reading::row_of(self.leaves.as_slice(), first, second, text)
+    }
+
+    /// The place of the row of this key among all rows.
+    pub fn place_of(&self, first: u64, second: u64, text: &[u8]) -> Option<usize>
+        ensures { result ≡ position_from (λ row. is_key (R.key row) (record { first = first; second = second; text = text.now })) 0 self.now.rows }
+    {
+        reading::place_of(self.leaves.as_slice(), &self.counts, first, second, text)
     }
 
     /// Whether there is a row of this key.
@@ -155,12 +171,12 @@ impl<R: Keyed + Drop> Leaves<R> {
         row_behind(self.leaves.as_slice(), first, second, text)
     }
 
-    /// The row at the place among all rows. It goes from leaf to leaf; `iter` is the way over all rows.
+    /// The row at the place among all rows. `iter` is the way over all rows.
     pub fn at(&self, place: usize) -> &R
         requires { place < length self.now.rows }
         ensures { slice_get self.now.rows place ≡ Some result.now }
     {
-        reading::row_at(self.leaves.as_slice(), place)
+        reading::row_at(self.leaves.as_slice(), &self.counts, place)
     }
 
     /// All rows.
@@ -200,8 +216,13 @@ impl<R: Keyed + Drop> Leaves<R> {
         ensures replaced { IsTrue (list_any (λ other. is_key (R.key other) (R.key row)) self.old.rows) → self.old.room ≤ self.new.room }
         ensures whole { self.new.room + length self.new.rows ≡ self.old.room + length self.old.rows }
     {
-        keep_spare(&mut self.leaves, &mut self.spares, self.room);
-        if put_in(&mut self.leaves, &mut self.spares, row) {
+        keep_spare(
+            &mut self.leaves,
+            &mut self.spares,
+            &mut self.counts,
+            self.room,
+        );
+        if put_in(&mut self.leaves, &mut self.spares, &mut self.counts, row) {
             self.count += 1;
             self.room -= 1;
         }
@@ -234,7 +255,14 @@ impl<R: Keyed + Drop> Leaves<R> {
         ensures gives { IsTrue (list_any (λ row. is_key (R.key row) (record { first = first; second = second; text = text.now })) self.old.rows) → self.old.room + 1 ≤ self.new.room }
         ensures whole { self.new.room + length self.new.rows ≡ self.old.room + length self.old.rows }
     {
-        let count = cut_from(&mut self.leaves, &mut self.spares, first, second, text);
+        let count = cut_from(
+            &mut self.leaves,
+            &mut self.spares,
+            &mut self.counts,
+            first,
+            second,
+            text,
+        );
         self.count -= count;
         self.room += count;
     }
@@ -248,7 +276,7 @@ impl<R: Keyed + Drop> Leaves<R> {
         ensures gives { IsTrue (list_any (λ row. (R.key row).first == first) self.old.rows) → self.old.room + 1 ≤ self.new.room }
         ensures whole { self.new.room + length self.new.rows ≡ self.old.room + length self.old.rows }
     {
-        let row = cut_first_from(&mut self.leaves, &mut self.spares, first)?;
+        let row = cut_first_from(&mut self.leaves, &mut self.spares, &mut self.counts, first)?;
         self.count -= 1;
         self.room += 1;
         Some(row)
@@ -265,6 +293,7 @@ impl<R: Keyed + Drop> Leaves<R> {
         self.count = cut_share(
             &mut self.leaves,
             &mut self.spares,
+            &mut self.counts,
             Share::First(first),
             before,
         );
@@ -282,6 +311,7 @@ impl<R: Keyed + Drop> Leaves<R> {
         self.count = cut_share(
             &mut self.leaves,
             &mut self.spares,
+            &mut self.counts,
             Share::Pair(first, second),
             before,
         );

@@ -1,13 +1,14 @@
 //! Rows found in the leaf in which their key belongs.
-ghost use Rattle.std.specs.Prelude.{◌≡◌, ◌<◌, find, length, option_copied, slice_get, Some};
-ghost use Rattle.std.specs.List.{AllByRecursion, flat_map, list_any};
+ghost use Rattle.std.specs.Prelude.{◌≡◌, ◌^◌, ◌<◌, find, length, map, option_copied, slice_get, Some};
+ghost use Rattle.std.specs.List.{AllByRecursion, flat_map, list_any, position_from};
 ghost use Rattle.sorted_rows.specs.Keys.{Rises, is_key};
-ghost use Rattle.leaf_rows.specs.Invariant.{leaf_rows, HasRows, IsNumbered};
+ghost use Rattle.leaf_rows.specs.Invariant.{leaf_rows, row_count, HasRows, IsNumbered};
 ghost use Rattle.leaf_rows.specs.Shares.{is_in};
 
 use crate::leaf::Leaf;
 use crate::search::{leaf_of, start_in};
 use crate::share::{Share, first_in};
+use prefix_counts::Counts;
 use sorted_rows::Keyed;
 
 /// The row of this key.
@@ -47,6 +48,33 @@ pub fn has_row<R: Keyed>(leaves: &[Leaf<R>], first: u64, second: u64, text: &[u8
     }
 }
 
+/// The place of the row of this key among all rows.
+pub fn place_of<R: Keyed>(
+    leaves: &[Leaf<R>],
+    counts: &Counts,
+    first: u64,
+    second: u64,
+    text: &[u8],
+) -> Option<usize>
+    requires rises { Rises R.key (flat_map leaf_rows leaves.now) }
+    requires filled { AllByRecursion HasRows leaves.now }
+    requires numbered { AllByRecursion (IsNumbered R.key) leaves.now }
+    requires lengths { counts.now.numbers ≡ map row_count leaves.now }
+    requires fits { length (flat_map leaf_rows leaves.now) < 2 ^ 64 }
+    ensures { result ≡ position_from (λ row. is_key (R.key row) (record { first = first; second = second; text = text.now })) 0 (flat_map leaf_rows leaves.now) }
+{
+    match leaf_of(leaves, first, second, text) {
+        Some(place) => {
+            let leaf = &leaves[place];
+            match sorted_rows::place_of(leaf.rows.as_slice(), first, second, text) {
+                Some(inner) => Some(counts.sum_before(place) + inner),
+                None => None,
+            }
+        }
+        None => None,
+    }
+}
+
 /// The first row of the share.
 pub fn first_row_of<R: Keyed>(leaves: &[Leaf<R>], share: Share) -> Option<&R>
     requires rises { Rises R.key (flat_map leaf_rows leaves.now) }
@@ -74,20 +102,12 @@ pub fn has_row_of<R: Keyed>(leaves: &[Leaf<R>], share: Share) -> bool
 }
 
 /// The row at the place among all rows.
-pub fn row_at<R>(leaves: &[Leaf<R>], place: usize) -> &R
-    requires { place < length (flat_map leaf_rows leaves.now) }
+pub fn row_at<'a, R>(leaves: &'a [Leaf<R>], counts: &Counts, place: usize) -> &'a R
+    requires lengths { counts.now.numbers ≡ map row_count leaves.now }
+    requires within { place < length (flat_map leaf_rows leaves.now) }
     ensures { slice_get (flat_map leaf_rows leaves.now) place ≡ Some result.now }
 {
-    let mut left = leaves;
-    let mut rest = place;
-    'leaves: while let Some((leaf, others)) = left.split_first() {
-        match leaf.rows.get(rest) {
-            Some(row) => return row,
-            None => {
-                rest -= leaf.rows.len();
-                left = others;
-            }
-        }
-    }
-    unreachable!()
+    let (at, inner) = counts.place_in(place);
+    let leaf = &leaves[at];
+    &leaf.rows[inner]
 }

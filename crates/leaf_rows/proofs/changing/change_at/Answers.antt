@@ -1,9 +1,10 @@
 -- a row is changed among all just as in its leaf
-use Rattle.std.proofs.Common.{◌+◌, ◌++◌, if◌then◌else◌, map, take, drop, sym, ap, subst, ◌∙◌}
+use Rattle.std.proofs.Common.{◌≡◌, ◌+◌, ◌++◌, if◌then◌else◌, map, take, drop, sym, ap, subst, ◌∙◌, arith}
+use Rattle.std.proofs.Math.Seq.{map-set_same}
 use Rattle.std.specs.List.{flat_map}
 use Rattle.sorted_rows.specs.Keys.{Key, is_key}
 use Rattle.leaf_rows.specs.Laying.{numbers_of}
-use Rattle.leaf_rows.specs.Invariant.{leaf_rows, IsNumbered}
+use Rattle.leaf_rows.specs.Invariant.{leaf_rows, row_count, IsNumbered}
 use Rattle.leaf_rows.specs.declared.leaf.Leaf.{Leaf}
 use Rattle.leaf_rows.proofs.ChangeLemmas.{changed_between, keys_between}
 use Rattle.leaf_rows.proofs.JoinLemmas.{all_get, all_set, any_in_leaf, joined_at, joined_set, leaf_rises}
@@ -55,3 +56,11 @@ returns-clause-numbered g c =
     let new : Leaf g.row.R.Denot = record { rows = c.change_among.new.rows; last = old.last } in
     let had : IsNumbered g.R.Keyed.key old = subst (IsNumbered g.R.Keyed.key) (sym c.index_mut-leaf.ensures.value) (all_get (IsNumbered g.R.Keyed.key) items c.args.place old c.requires.numbered c.requires.belongs.within) in
     all_set (IsNumbered g.R.Keyed.key) items c.args.place new c.requires.numbered (had ∙ ap numbers_of (sym (last_same g.R.Keyed.key new.rows.items old.rows.items c.change_among.ensures.keys)))
+
+pub returns-clause-lengths : goal.returns-clause-lengths
+returns-clause-lengths g c =
+    let items = c.args.leaves.now.items in
+    let old = c.index_mut-leaf.result.now in
+    let new : Leaf g.row.R.Denot = record { rows = c.change_among.new.rows; last = old.last } in
+    let same : row_count new ≡ row_count old = omega (arith, c.change_among.ensures.len, old.rows.ok.0, new.rows.ok.0) in
+    map-set_same row_count items c.args.place new old (same ∙ ap row_count c.index_mut-leaf.ensures.value)

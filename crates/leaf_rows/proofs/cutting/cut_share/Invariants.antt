@@ -11,7 +11,7 @@ invariant-cuts g l = record {
   rows : filter (λ row. not (is_in l.share (g.R.Keyed.key row))) (flat_map leaf_rows l.leaves.items) ≡ filter (λ row. not (is_in l.share (g.R.Keyed.key row))) (flat_map leaf_rows l.initial.leaves.items);
   counted : l.left ≡ length (flat_map (leaf_rows {Row = g.row.R.Denot}) l.leaves.items);
   fewer : l.left ≤ l.count;
-  stands : Stands g.R.Keyed.key l.leaves l.spares;
+  stands : Stands g.R.Keyed.key l.leaves l.spares l.counts;
   room : vec_len l.initial.spares ≤ vec_len l.spares;
   slots : vec_len l.leaves + vec_len l.spares ≡ vec_len l.initial.leaves + vec_len l.initial.spares;
 }

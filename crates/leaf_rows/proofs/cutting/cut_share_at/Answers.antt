@@ -1,18 +1,29 @@
 -- the rows of the share go from one leaf, and the others stay
-use Rattle.std.proofs.Common.{◌+◌, ◌<◌, ◌++◌, take, drop, length, sym, ap, subst, ◌∙◌, arith}
+use Rattle.std.proofs.Common.{◌≡◌, ◌+◌, ◌<◌, ◌≤◌, ◌++◌, take, drop, length, set, sym, ap, subst, ◌∙◌, arith}
 use Rattle.std.specs.Prelude.{not}
 use Rattle.std.specs.List.{AllByRecursion, filter, flat_map}
 use Rattle.sorted_rows.specs.Keys.{Rises}
-use Rattle.leaf_rows.specs.Invariant.{leaf_rows, HasMemory, HasRows, IsNumbered}
+use Rattle.leaf_rows.specs.Invariant.{leaf_rows, row_count, HasMemory, HasRows, IsNumbered}
 use Rattle.leaf_rows.specs.Shares.{is_in}
 use Rattle.leaf_rows.specs.declared.leaf.Leaf.{Leaf}
 use Rattle.leaf_rows.proofs.CountLemmas.{cut_rises, joined_length, others_stay}
 use Rattle.leaf_rows.proofs.FirstLemmas.{fewer_left}
+use Rattle.leaf_rows.proofs.LengthLemmas.{fewer_fit, lengths_fit, lengths_set}
 use Rattle.leaf_rows.proofs.JoinLemmas.{all_get, all_set, all_remove, joined_at, joined_set, leaf_rises, removed_same}
 use Rattle.leaf_rows.proofs.cutting.cut_share_at.Goals as goal
 
 pub cut_in-count-requires : goal.cut_in-count-requires
 cut_in-count-requires g c = leaf_rises g.R.Keyed.key (leaf_rows {Row = g.row.R.Denot}) c.args.leaves.now.items c.args.place c.index_mut-leaf.result.now (omega (arith, c.requires.within, c.args.leaves.now.ok.0)) c.index_mut-leaf.ensures.value c.requires.stands.rises
+
+pub set-requires-clause-fits : goal.set-requires-clause-fits
+set-requires-clause-fits g c =
+    let items = c.args.leaves.now.items in
+    let old = c.index_mut-leaf.result.now in
+    let new : Leaf g.row.R.Denot = record { rows = c.cut_in-count.new.rows; last = c.last_numbers-leaf.result } in
+    let within : c.args.place < length items = omega (arith, c.requires.within, c.args.leaves.now.ok.0) in
+    let same : c.len.result ≡ row_count new = omega (arith, c.len.ensures, new.rows.ok.0) in
+    let fewer : row_count new ≤ row_count old = omega (arith, c.cut_in-count.ensures.count, old.rows.ok.0, new.rows.ok.0) in
+    lengths_fit _ (set items c.args.place new) (lengths_set c.args.counts.now.numbers items c.args.place c.len.result new c.requires.stands.lengths same) (fewer_fit items c.args.place old new within c.index_mut-leaf.ensures.value fewer c.requires.stands.fits)
 
 pub release-requires-clause-stands : goal.release-requires-clause-stands
 release-requires-clause-stands g c =
@@ -27,6 +38,8 @@ release-requires-clause-stands g c =
     let left = joined_set rows_of items c.args.place new within ∙ ap (λ rows. front ++ (rows ++ back)) c.cut_in-count.ensures.items in
     let rose = subst (Rises g.R.Keyed.key) (joined_at rows_of items c.args.place old within c.index_mut-leaf.ensures.value) c.requires.stands.rises in
     let had : HasMemory old = subst HasMemory (sym c.index_mut-leaf.ensures.value) (all_get HasMemory items c.args.place old c.requires.stands.memory within) in
+    let same : c.len.result ≡ row_count new = omega (arith, c.len.ensures, new.rows.ok.0) in
+    let fewer : row_count new ≤ row_count c.index_mut-leaf.result.now = omega (arith, c.cut_in-count.ensures.count, c.index_mut-leaf.result.now.rows.ok.0, new.rows.ok.0) in
     record {
       rises = subst (Rises g.R.Keyed.key) (sym left) (cut_rises g.R.Keyed.key others front (rows_of old) back rose);
       filled = subst (AllByRecursion HasRows) (sym (removed_same items c.args.place new)) (all_remove HasRows items c.args.place c.requires.stands.filled);
@@ -36,6 +49,9 @@ release-requires-clause-stands g c =
       spare_memory = c.requires.stands.spare_memory;
       outer = c.requires.stands.outer;
       inner = c.requires.stands.inner;
+      lengths = c.set.ensures.numbers ∙ lengths_set c.args.counts.now.numbers items c.args.place c.len.result new c.requires.stands.lengths same;
+      places = rw c.set.ensures.places c.requires.stands.places;
+      fits = fewer_fit items c.args.place c.index_mut-leaf.result.now new within c.index_mut-leaf.ensures.value fewer c.requires.stands.fits;
     }
 
 pub returns-clause-others : goal.returns-clause-others

@@ -1,10 +1,11 @@
 -- an empty leaf holds no rows, and the others stand as they did
-use Rattle.std.proofs.Common.{◌≡◌, ◌+◌, ◌<◌, ◌++◌, [], take, drop, length, vec_len, sym, ap, subst, ◌∙◌, arith}
+use Rattle.std.proofs.Common.{◌≡◌, ◌+◌, ◌<◌, ◌++◌, [], take, drop, map, length, vec_len, sym, ap, subst, ◌∙◌, arith}
 use Rattle.std.specs.List.{AllByRecursion, flat_map}
 use Rattle.std.proofs.lemmas.Bool.Decides.{nat_tests}
 use Rattle.std.proofs.lemmas.List.{get_or_default}
 use Rattle.sorted_rows.specs.Keys.{Rises}
-use Rattle.leaf_rows.specs.Invariant.{leaf_rows, HasMemory, HasRows, IsNumbered, IsSpare}
+use Rattle.leaf_rows.specs.Invariant.{leaf_rows, row_count, HasMemory, HasRows, IsNumbered, IsSpare}
+use Rattle.leaf_rows.proofs.LengthLemmas.{lengths_remove}
 use Rattle.leaf_rows.proofs.JoinLemmas.{all_get, all_push, all_remove, all_restored, empty_is, joined_at, joined_removed}
 use Rattle.leaf_rows.proofs.cutting.release.Goals as goal
 
@@ -39,6 +40,9 @@ returns-then-is_empty-clause-stands g c =
       spare_memory = subst (AllByRecursion HasMemory) (sym c.push_item.ensures.items) (all_push HasMemory c.args.spares.now.items c.remove-spare.result c.requires.stands.spare_memory (subst HasMemory (sym spare) has));
       outer = omega (arith, c.requires.stands.outer, c.remove-spare.ensures.len, c.remove-spare.ensures.capacity, c.push_item.ensures.len);
       inner = omega (arith, c.requires.stands.inner, c.remove-spare.ensures.len, c.push_item.ensures.memory, c.push_item.ensures.len);
+      lengths = c.remove.ensures.numbers ∙ lengths_remove c.args.counts.now.numbers items c.args.place c.requires.stands.lengths ∙ ap (map row_count) (sym c.remove-spare.ensures.items);
+      places = omega (arith, c.requires.stands.places, c.remove-spare.ensures.len, c.push_item.ensures.len, c.remove.ensures.places);
+      fits = rw (returns-then-is_empty-clause-rows g c) c.requires.stands.fits;
     }
 
 pub returns-else-is_empty-clause-stands : goal.returns-else-is_empty-clause-stands
@@ -56,4 +60,7 @@ returns-else-is_empty-clause-stands g c =
       spare_memory = c.requires.stands.spare_memory;
       outer = c.requires.stands.outer;
       inner = c.requires.stands.inner;
+      lengths = c.requires.stands.lengths;
+      places = c.requires.stands.places;
+      fits = c.requires.stands.fits;
     }

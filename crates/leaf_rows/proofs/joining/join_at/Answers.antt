@@ -1,12 +1,28 @@
 -- one leaf has the rows of both, and the other one none
-use Rattle.std.proofs.Common.{◌≡◌, ◌+◌, ◌<◌, get_or, length, sym, ap, subst, ◌∙◌, arith}
+use Rattle.std.proofs.Common.{◌≡◌, ◌+◌, ◌<◌, get_or, length, set, sym, ap, subst, ◌∙◌, arith}
+use Rattle.std.specs.Prelude.{remove}
 use Rattle.std.specs.List.{AllByRecursion}
 use Rattle.std.proofs.lemmas.List.{length-append}
 use Rattle.sorted_rows.specs.Keys.{Rises}
-use Rattle.leaf_rows.specs.Invariant.{leaf_rows, HasMemory, HasRows, IsNumbered, IsSpare}
+use Rattle.leaf_rows.specs.Invariant.{leaf_rows, row_count, HasMemory, HasRows, IsNumbered, IsSpare}
 use Rattle.leaf_rows.specs.declared.leaf.Leaf.{Leaf}
+use Rattle.leaf_rows.proofs.LengthLemmas.{lengths_fit, lengths_remove, lengths_set}
 use Rattle.leaf_rows.proofs.JoinLemmas.{all_get, all_push, all_remove, all_set, before_removed, joined_pair}
 use Rattle.leaf_rows.proofs.joining.join_at.Goals as goal
+
+pub set-requires-clause-fits : goal.set-requires-clause-fits
+set-requires-clause-fits g c =
+    let rows_of = leaf_rows {Row = g.row.R.Denot} in
+    let items = c.args.leaves.now.items in
+    let n = c.args.place in
+    let one = c.index_mut-leaf.result.now in
+    let two = c.remove-next.result in
+    let new : Leaf g.row.R.Denot = record { rows = c.move_behind.new.into; last = c.last_numbers-leaf.result } in
+    let is_one : one ≡ get_or items n one = (rw c.remove-next.ensures.items at c.index_mut-leaf.ensures.value) ∙ before_removed rows_of items n one c.requires.within in
+    let rows = joined_pair rows_of items n one two new c.requires.within is_one c.remove-next.ensures.value c.move_behind.ensures.items in
+    let same : c.len.result ≡ row_count new = omega (arith, c.len.ensures, new.rows.ok.0) in
+    let left = c.remove.ensures.numbers ∙ lengths_remove c.args.counts.now.numbers items (n + 1) c.requires.stands.lengths in
+    lengths_fit _ (set (remove items (n + 1)) n new) (lengths_set _ (remove items (n + 1)) n c.len.result new left same) (rw rows c.requires.stands.fits)
 
 pub returns-clause-rows : goal.returns-clause-rows
 returns-clause-rows g c =
@@ -34,6 +50,7 @@ returns-clause-stands g c =
     let memory_one : HasMemory one = subst HasMemory (sym is_one) (all_get HasMemory items n one c.requires.stands.memory low) in
     let memory_two : HasMemory two = subst HasMemory (sym c.remove-next.ensures.value) (all_get HasMemory items (n + 1) two c.requires.stands.memory c.requires.within) in
     let long = ap length c.move_behind.ensures.items ∙ length-append one.rows.items two.rows.items in
+    let same : c.len.result ≡ row_count new = omega (arith, c.len.ensures, new.rows.ok.0) in
     let filled : HasRows new = omega (arith, long, has) in
     let memory : HasMemory new = omega (arith, memory_one, c.move_behind.ensures.memory) in
     let memory_left : HasMemory spare = omega (arith, memory_two, c.move_behind.ensures.memory_left) in
@@ -46,4 +63,7 @@ returns-clause-stands g c =
       spare_memory = subst (AllByRecursion HasMemory) (sym c.push_item.ensures.items) (all_push HasMemory c.args.spares.now.items spare c.requires.stands.spare_memory memory_left);
       outer = omega (arith, c.requires.stands.outer, c.remove-next.ensures.len, c.remove-next.ensures.capacity, c.push_item.ensures.len);
       inner = omega (arith, c.requires.stands.inner, c.remove-next.ensures.len, c.push_item.ensures.memory, c.push_item.ensures.len);
+      lengths = rw c.remove-next.ensures.items (c.set.ensures.numbers ∙ lengths_set _ (remove items (n + 1)) n c.len.result new (c.remove.ensures.numbers ∙ lengths_remove c.args.counts.now.numbers items (n + 1) c.requires.stands.lengths) same);
+      places = omega (arith, c.requires.stands.places, c.remove-next.ensures.len, c.push_item.ensures.len, c.remove.ensures.places, c.set.ensures.places);
+      fits = rw (returns-clause-rows g c) c.requires.stands.fits;
     }

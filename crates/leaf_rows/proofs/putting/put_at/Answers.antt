@@ -1,23 +1,33 @@
 -- a row is put among all just as into its leaf
-use Rattle.std.proofs.Common.{◌+◌, ◌++◌, take, drop, sym, ap, ◌∙◌}
+use Rattle.std.proofs.Common.{◌≡◌, set, sym, ap, ◌∙◌, arith}
 use Rattle.std.specs.Prelude.{not}
-use Rattle.std.specs.List.{flat_map}
-use Rattle.leaf_rows.specs.Invariant.{leaf_rows, IsNumbered}
+use Rattle.leaf_rows.specs.Invariant.{leaf_rows, row_count, IsNumbered}
 use Rattle.leaf_rows.specs.declared.leaf.Leaf.{Leaf}
-use Rattle.leaf_rows.proofs.JoinLemmas.{all_set, any_in_leaf, joined_set, leaf_rises, put_in_leaf}
+use Rattle.leaf_rows.proofs.JoinLemmas.{all_set, any_in_leaf, leaf_rises, put_set}
+use Rattle.leaf_rows.proofs.LengthLemmas.{lengths_fit, lengths_set}
 use Rattle.leaf_rows.proofs.putting.put_at.Goals as goal
 
 pub put_among-is_new-requires-clause-rises : goal.put_among-is_new-requires-clause-rises
 put_among-is_new-requires-clause-rises g c = leaf_rises g.R.Keyed.key (leaf_rows {Row = g.row.R.Denot}) c.args.leaves.now.items c.args.place c.index_mut-leaf.result.now c.requires.belongs.within c.index_mut-leaf.ensures.value c.requires.rises
 
-pub returns-clause-rows : goal.returns-clause-rows
-returns-clause-rows g c =
-    let rows_of = leaf_rows {Row = g.row.R.Denot} in
+pub set-requires-clause-fits : goal.set-requires-clause-fits
+set-requires-clause-fits g c =
     let items = c.args.leaves.now.items in
     let new : Leaf g.row.R.Denot = record { rows = c.put_among-is_new.new.rows; last = c.last_numbers-leaf.result } in
-    joined_set rows_of items c.args.place new c.requires.belongs.within
-    ∙ ap (λ rows. flat_map rows_of (take c.args.place items) ++ (rows ++ flat_map rows_of (drop (c.args.place + 1) items))) c.put_among-is_new.ensures.items
-    ∙ put_in_leaf g.R.Keyed.key rows_of c.args.row items c.args.place c.index_mut-leaf.result.now c.requires.belongs.within c.index_mut-leaf.ensures.value c.requires.belongs.low c.requires.belongs.high
+    let rows = put_set g.R.Keyed.key (leaf_rows {Row = g.row.R.Denot}) c.args.row items c.args.place c.index_mut-leaf.result.now c.requires.belongs.within c.index_mut-leaf.ensures.value c.requires.belongs.low c.requires.belongs.high new c.put_among-is_new.ensures.items in
+    let same : c.len.result ≡ row_count new = omega (arith, c.len.ensures, new.rows.ok.0) in
+    lengths_fit _ (set items c.args.place new) (lengths_set c.args.counts.now.numbers items c.args.place c.len.result new c.requires.lengths same) (rw rows c.requires.fits)
+
+pub returns-clause-rows : goal.returns-clause-rows
+returns-clause-rows g c =
+    let new : Leaf g.row.R.Denot = record { rows = c.put_among-is_new.new.rows; last = c.last_numbers-leaf.result } in
+    put_set g.R.Keyed.key (leaf_rows {Row = g.row.R.Denot}) c.args.row c.args.leaves.now.items c.args.place c.index_mut-leaf.result.now c.requires.belongs.within c.index_mut-leaf.ensures.value c.requires.belongs.low c.requires.belongs.high new c.put_among-is_new.ensures.items
+
+pub returns-clause-lengths : goal.returns-clause-lengths
+returns-clause-lengths g c =
+    let new : Leaf g.row.R.Denot = record { rows = c.put_among-is_new.new.rows; last = c.last_numbers-leaf.result } in
+    let same : c.len.result ≡ row_count new = omega (arith, c.len.ensures, new.rows.ok.0) in
+    c.set.ensures.numbers ∙ lengths_set c.args.counts.now.numbers c.args.leaves.now.items c.args.place c.len.result new c.requires.lengths same
 
 pub returns-clause-added : goal.returns-clause-added
 returns-clause-added g c =

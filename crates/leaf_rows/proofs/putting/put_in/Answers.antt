@@ -41,4 +41,7 @@ returns-then-takes-clause-stands g c = record {
   spare_memory = c.requires.stands.spare_memory;
   outer = omega (arith, c.requires.stands.outer, c.put_at.ensures.len, c.put_at.ensures.capacity);
   inner = omega (arith, c.requires.stands.inner, c.put_at.ensures.len);
+  lengths = c.put_at.ensures.lengths;
+  places = omega (arith, c.requires.stands.places, c.put_at.ensures.len, c.put_at.ensures.places);
+  fits = rw c.put_at.ensures.rows c.requires.fits;
 }

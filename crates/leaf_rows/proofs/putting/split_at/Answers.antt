@@ -1,12 +1,14 @@
 -- the rows of both parts are those of the leaf with the row among them
-use Rattle.std.proofs.Common.{◌+◌, ◌++◌, [], ◌∷◌, take, drop, set, sym, ap, subst, ◌∙◌, arith}
-use Rattle.std.specs.List.{AllByRecursion, flat_map}
+use Rattle.std.proofs.Common.{◌≡◌, ◌+◌, [], ◌∷◌, map, set, refl, sym, ap, subst, ◌∙◌, arith}
+use Rattle.std.specs.List.{AllByRecursion, flat_map, insert}
+use Rattle.std.proofs.lemmas.List.Sums.{sum_by-insert}
 use Rattle.sorted_rows.specs.Keys.{Rises}
 use Rattle.sorted_rows.proofs.OrderLemmas.{put_rises}
-use Rattle.leaf_rows.specs.Invariant.{leaf_rows, HasMemory, HasRows, IsNumbered, IsSpare}
+use Rattle.leaf_rows.specs.Invariant.{leaf_rows, row_count, HasMemory, HasRows, IsNumbered, IsSpare}
 use Rattle.leaf_rows.specs.declared.leaf.Leaf.{Leaf}
 use Rattle.leaf_rows.proofs.LastLemmas.{all_front, all_back}
-use Rattle.leaf_rows.proofs.JoinLemmas.{all_get, all_insert, all_set, joined_split, leaf_rises, put_in_leaf}
+use Rattle.leaf_rows.proofs.JoinLemmas.{all_get, all_insert, all_set, leaf_rises, put_split}
+use Rattle.leaf_rows.proofs.LengthLemmas.{lengths_fit, lengths_insert, lengths_set}
 use Rattle.leaf_rows.proofs.putting.split_at.Goals as goal
 
 pub put_in_two-requires-clause-rises : goal.put_in_two-requires-clause-rises
@@ -20,16 +22,37 @@ put_in_two-requires-clause-memory g c =
     let has = (all_back HasMemory c.pop.new.self.items (c.in-Some.spare ∷ []) (subst (AllByRecursion HasMemory) c.in-Some.ensures.items c.requires.stands.spare_memory)).0 in
     omega (arith, has, c.count_to_move-count.ensures.within)
 
-pub returns-clause-rows : goal.returns-clause-rows
-returns-clause-rows g c =
-    let rows_of = leaf_rows {Row = g.row.R.Denot} in
+pub set-requires-clause-fits : goal.set-requires-clause-fits
+set-requires-clause-fits g c =
     let items = c.args.leaves.now.items in
+    let n = c.args.place in
     let one : Leaf g.row.R.Denot = record { rows = c.put_in_two.new.rows; last = c.last_numbers-leaf.result } in
     let two : Leaf g.row.R.Denot = record { rows = c.put_in_two.new.behind; last = c.last_numbers-behind.result } in
-    ap (flat_map rows_of) c.insert_item.ensures.items
-    ∙ joined_split rows_of items c.args.place one two c.requires.belongs.within
-    ∙ ap (λ rows. flat_map rows_of (take c.args.place items) ++ (rows ++ flat_map rows_of (drop (c.args.place + 1) items))) c.put_in_two.ensures.items
-    ∙ put_in_leaf g.R.Keyed.key rows_of c.args.row items c.args.place c.index_mut-leaf.result.now c.requires.belongs.within c.index_mut-leaf.ensures.value c.requires.belongs.low c.requires.belongs.high
+    let rows = put_split g.R.Keyed.key (leaf_rows {Row = g.row.R.Denot}) c.args.row items n c.index_mut-leaf.result.now one two c.requires.belongs.within c.index_mut-leaf.ensures.value c.requires.belongs.low c.requires.belongs.high c.put_in_two.ensures.items in
+    let same : c.len-in-Some.result ≡ row_count one = omega (arith, c.len-in-Some.ensures, one.rows.ok.0) in
+    let numbers = set c.args.counts.now.numbers n c.len-in-Some.result in
+    let all = lengths_fit _ (insert (set items n one) (n + 1) two) (lengths_insert numbers (set items n one) (n + 1) (row_count two) two (lengths_set c.args.counts.now.numbers items n c.len-in-Some.result one c.requires.stands.lengths same) refl) (rw rows c.requires.fits) in
+    omega (arith, all, sum_by-insert (λ k. k) numbers (n + 1) (row_count two))
+
+pub insert-requires-clause-fits : goal.insert-requires-clause-fits
+insert-requires-clause-fits g c =
+    let items = c.args.leaves.now.items in
+    let n = c.args.place in
+    let one : Leaf g.row.R.Denot = record { rows = c.put_in_two.new.rows; last = c.last_numbers-leaf.result } in
+    let two : Leaf g.row.R.Denot = record { rows = c.put_in_two.new.behind; last = c.last_numbers-behind.result } in
+    let rows = put_split g.R.Keyed.key (leaf_rows {Row = g.row.R.Denot}) c.args.row items n c.index_mut-leaf.result.now one two c.requires.belongs.within c.index_mut-leaf.ensures.value c.requires.belongs.low c.requires.belongs.high c.put_in_two.ensures.items in
+    let same : c.len-in-Some.result ≡ row_count one = omega (arith, c.len-in-Some.ensures, one.rows.ok.0) in
+    let same_two : c.len-in-Some-2.result ≡ row_count two = omega (arith, c.len-in-Some-2.ensures, two.rows.ok.0) in
+    let left = c.set.ensures.numbers ∙ lengths_set c.args.counts.now.numbers items n c.len-in-Some.result one c.requires.stands.lengths same in
+    let all = lengths_fit _ (insert (set items n one) (n + 1) two) (lengths_insert c.set.new.self.numbers (set items n one) (n + 1) c.len-in-Some-2.result two left same_two) (rw rows c.requires.fits) in
+    omega (arith, all, sum_by-insert (λ k. k) c.set.new.self.numbers (n + 1) c.len-in-Some-2.result)
+
+pub returns-clause-rows : goal.returns-clause-rows
+returns-clause-rows g c =
+    let one : Leaf g.row.R.Denot = record { rows = c.put_in_two.new.rows; last = c.last_numbers-leaf.result } in
+    let two : Leaf g.row.R.Denot = record { rows = c.put_in_two.new.behind; last = c.last_numbers-behind.result } in
+    ap (flat_map (leaf_rows {Row = g.row.R.Denot})) c.insert_item.ensures.items
+    ∙ put_split g.R.Keyed.key (leaf_rows {Row = g.row.R.Denot}) c.args.row c.args.leaves.now.items c.args.place c.index_mut-leaf.result.now one two c.requires.belongs.within c.index_mut-leaf.ensures.value c.requires.belongs.low c.requires.belongs.high c.put_in_two.ensures.items
 
 pub returns-clause-stands : goal.returns-clause-stands
 returns-clause-stands g c =
@@ -38,6 +61,9 @@ returns-clause-stands g c =
     let two : Leaf g.row.R.Denot = record { rows = c.put_in_two.new.behind; last = c.last_numbers-behind.result } in
     let had : HasMemory c.index_mut-leaf.result.now = subst HasMemory (sym c.index_mut-leaf.ensures.value) (all_get HasMemory items c.args.place c.index_mut-leaf.result.now c.requires.stands.memory c.requires.belongs.within) in
     let has = (all_back HasMemory c.pop.new.self.items (c.in-Some.spare ∷ []) (subst (AllByRecursion HasMemory) c.in-Some.ensures.items c.requires.stands.spare_memory)).0 in
+    let same : c.len-in-Some.result ≡ row_count one = omega (arith, c.len-in-Some.ensures, one.rows.ok.0) in
+    let same_two : c.len-in-Some-2.result ≡ row_count two = omega (arith, c.len-in-Some-2.ensures, two.rows.ok.0) in
+    let left = c.set.ensures.numbers ∙ lengths_set c.args.counts.now.numbers items c.args.place c.len-in-Some.result one c.requires.stands.lengths same in
     record {
       rises = subst (Rises g.R.Keyed.key) (sym (returns-clause-rows g c)) (put_rises g.R.Keyed.key c.args.row _ c.requires.stands.rises);
       filled = subst (AllByRecursion HasRows) (sym c.insert_item.ensures.items) (all_insert HasRows (set items c.args.place one) (c.args.place + 1) two (all_set HasRows items c.args.place one c.requires.stands.filled c.put_in_two.ensures.left) c.put_in_two.ensures.moved);
@@ -47,4 +73,7 @@ returns-clause-stands g c =
       spare_memory = all_front HasMemory c.pop.new.self.items (c.in-Some.spare ∷ []) (subst (AllByRecursion HasMemory) c.in-Some.ensures.items c.requires.stands.spare_memory);
       outer = omega (arith, c.requires.stands.outer, c.insert_item.ensures.len, c.insert_item.ensures.memory, c.in-Some.ensures.len);
       inner = omega (arith, c.requires.stands.inner, c.insert_item.ensures.len, c.in-Some.ensures.len, c.in-Some.ensures.capacity);
+      lengths = c.insert.ensures.numbers ∙ lengths_insert c.set.new.self.numbers (set items c.args.place one) (c.args.place + 1) c.len-in-Some-2.result two left same_two ∙ ap (map row_count) (sym c.insert_item.ensures.items);
+      places = omega (arith, c.requires.stands.places, c.insert_item.ensures.len, c.in-Some.ensures.len, c.insert.ensures.places, c.set.ensures.places);
+      fits = rw (returns-clause-rows g c) c.requires.fits;
     }

@@ -1,7 +1,11 @@
 -- a row more takes one of the room, and a row in the place of another takes none
-use Rattle.std.proofs.Common.{◌≡◌, ℕ, ◌<◌, Bool, vec_len, true, false, refl, sym, ap, ◌∙◌, arith, length}
+use Rattle.std.proofs.Common.{◌≡◌, ℕ, ◌+◌, ◌^◌, ◌<◌, List, inl, inr, Bool, vec_len, true, false, refl, sym, ap, ◌∙◌, arith, length}
 use Rattle.std.specs.Prelude.{nat_lt, not, ◌||◌}
+use Rattle.std.specs.List.{list_any}
+use Rattle.std.proofs.lemmas.Bool.{cases_Bool}
 use Rattle.std.proofs.lemmas.Bool.Decides.{nat_tests}
+use Rattle.slee_state.specs.Orders.{put}
+use Rattle.sorted_rows.specs.Keys.{Key, Rises, is_key, key_before}
 use Rattle.leaf_rows.proofs.CountLemmas.{put_again, put_anew}
 use Rattle.leaf_rows.proofs.leaves.Leaves.put_row.Goals as goal
 
@@ -25,6 +29,13 @@ keep_there false room spares asked some =
     let spare : 0 < spares = some left in
     grind (arith, nat_tests, spare)
 
+put_fits : {Row : Type 0} (key : Row → Key) (row : Row) (rows : List Row) (room : ℕ) → Rises key rows → (list_any (λ other. is_key (key other) (key row)) rows || nat_lt 0 room) ≡ true → length rows + room < 2 ^ 64
+    → length (put (λ x y. key_before (key x) (key y)) row rows) < 2 ^ 64
+put_fits key row rows room rises asked bound = elim (cases_Bool (list_any (λ other. is_key (key other) (key row)) rows)) [
+  | inl there ↦ omega (arith, bound, put_again key row rows rises there)
+  | inr none ↦ omega (arith, bound, room_there _ room asked none, put_anew key row rows rises none)
+]
+
 pub keep_spare-requires-clause-few : goal.keep_spare-requires-clause-few
 keep_spare-requires-clause-few g c = λ some. omega (arith, c.self.invariant.spared, c.self.invariant.counted, some)
 
@@ -32,6 +43,11 @@ pub put_in-requires-clause-room : goal.put_in-requires-clause-room
 put_in-requires-clause-room g c =
     let asked = rw (← c.self.view_is) at c.requires in
     rw c.keep_spare.ensures.rows (keep_there _ c.self.inside.room (vec_len c.keep_spare.new.spares) asked c.keep_spare.ensures.room)
+
+pub put_in-requires-clause-fits : goal.put_in-requires-clause-fits
+put_in-requires-clause-fits g c =
+    let asked = rw (← c.self.view_is) at c.requires in
+    rw c.keep_spare.ensures.rows (put_fits g.R.Keyed.key c.args.row _ c.self.inside.room c.self.invariant.stands.rises asked (omega (arith, c.self.invariant.bounded, c.self.invariant.counted)))
 
 pub overflow_add-self : goal.overflow_add-self
 overflow_add-self g c =
