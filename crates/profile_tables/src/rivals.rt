@@ -2,10 +2,9 @@
 ghost use Rattle.std.specs.Prelude.{◌≡◌, ◌==◌, ◌&&◌, find, option_copied};
 ghost use Rattle.std.specs.List.{AllByRecursion, position_from};
 ghost use Rattle.slee_state.specs.Profiles.{is_row, row_before};
-ghost use Rattle.sorted_rows.specs.Keys.{is_key};
 ghost use Rattle.text_index.specs.Numbers.{number_of};
 ghost use Rattle.profile_tables.specs.Faults.{is_rival};
-ghost use Rattle.profile_tables.specs.Keeping.{as_kept, in_byte_order, numbered_key, AreFiled};
+ghost use Rattle.profile_tables.specs.Keeping.{as_kept, in_byte_order, AreFiled};
 ghost use Rattle.profile_tables.specs.Unique.{earlier, is_rival_in, AreUnder};
 
 use crate::numbered::NumberedRow;
@@ -131,30 +130,13 @@ pub fn least_rival<'a>(
     least
 }
 
-/// The place of the row of this key among all rows.
-fn place_of(rows: &Leaves<NumberedRow>, first: u64, second: u64, text: &[u8]) -> Option<usize>
-    ensures { result ≡ position_from (λ row. is_key (numbered_key row) (record { first = first; second = second; text = text.now })) 0 rows.now.rows }
-{
-    let count = rows.len();
-    let mut left = count;
-    for row in rows.iter() {
-        if row.number == first
-            && (row.item.table as u64 == second && row.item.row.as_bytes() == text)
-        {
-            return Some(count - left);
-        }
-        left -= 1;
-    }
-    None
-}
-
 /// Where the row stands among those that are kept.
 pub fn place_of_row(rows: &Leaves<NumberedRow>, item: &ProfileRow) -> Option<u64>
     requires { AreFiled rows.now.rows }
     ensures { result ≡ position_from (is_row item.now.table item.now.row) 0 (as_kept rows.now.rows) }
 {
     let name = item.row.as_bytes();
-    match place_of(rows, number_of(name), item.table as u64, name) {
+    match rows.place_of(number_of(name), item.table as u64, name) {
         Some(place) => Some(place as u64),
         None => None,
     }
