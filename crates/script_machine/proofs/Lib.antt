@@ -3,3 +3,4 @@ pub mod KindLemmas
 pub mod NumberLemmas
 pub mod VariableLemmas
 pub mod EffectLemmas
+pub mod FlagLemmas

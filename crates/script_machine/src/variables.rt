@@ -12,7 +12,7 @@ use handler_meaning::FailKind;
 use slee_effect::{Effect, Ref, Val};
 use std::alloc::Global;
 
-fn variable_at(variables: &[Variable], place: usize) -> Option<&Variable>
+pub(crate) fn variable_at(variables: &[Variable], place: usize) -> Option<&Variable>
     ensures { option_copied result ≡ slice_get variables.now place }
 {
     variables.get(place)
@@ -29,7 +29,7 @@ fn removes(entity: Ref, effect: &Effect) -> bool
 }
 
 /// Whether one of these effects removes the entity.
-fn is_removed(entity: Ref, effects: &[Effect]) -> bool
+pub fn is_removed(entity: Ref, effects: &[Effect]) -> bool
     ensures { result ≡ is_removed entity effects.now }
 {
     effects.iter().any(|effect| removes(entity, effect))

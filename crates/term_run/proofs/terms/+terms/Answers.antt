@@ -6,13 +6,13 @@ use Rattle.handler_meaning.specs.Running.{Ending}
 use Rattle.script_machine.specs.Settings.{setting_of}
 use Rattle.handler_meaning.specs.Values.{int, flag}
 use Rattle.script_machine.specs.Agreeing.{Ends, EndsFinding}
-use Rattle.script_machine.specs.Kinds.{NoInt}
+use Rattle.script_machine.specs.Kinds.{NoInt, NoFlag}
 use Rattle.term_run.proofs.ChainLemmas.{chain_eval, linked_stops, linked_step, number_stops, number_step}
 use Rattle.term_run.proofs.terms.+terms.Goals as goal
 
-pub eval-returns-in-Chain-clause-agrees : goal.eval-returns-in-Chain-clause-agrees
-eval-returns-in-Chain-clause-agrees t c =
-    subst (λ (x : Ending Val). Ends x c.eval_chain.new.machine c.eval_chain.result) (sym (chain_eval (setting_of c.args.scene.now) c.args.term.now c.in-Chain.first c.in-Chain.more c.args.machine.now c.in-Chain.is)) (rw (c.deref-in-Chain.ensures, c.deref-in-Chain-2.ensures.value) at c.eval_chain.ensures.agrees)
+pub eval_truth-returns-in-Chain-clause-finds : goal.eval_truth-returns-in-Chain-clause-finds
+eval_truth-returns-in-Chain-clause-finds t c =
+    subst (λ (x : Ending Val). EndsFinding flag NoFlag x c.truth_in_chain.new.machine c.truth_in_chain.result) (sym (chain_eval (setting_of c.args.scene.now) c.args.term.now c.in-Chain.first c.in-Chain.more c.args.machine.now c.in-Chain.is)) (rw (c.deref-in-Chain.ensures, c.deref-in-Chain-2.ensures.value) at c.truth_in_chain.ensures.finds)
 
 pub eval_links-returns-in_err-x-clause-agrees : goal.eval_links-returns-in_err-x-clause-agrees
 eval_links-returns-in_err-x-clause-agrees t c =
