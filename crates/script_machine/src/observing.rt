@@ -7,7 +7,7 @@ ghost use Rattle.script_machine.specs.Asking.{key_asked, Wants, Peeks, noted};
 ghost use Rattle.script_machine.specs.Lending.{standing};
 ghost use Rattle.script_machine.specs.Settings.{setting_of};
 
-use crate::keys::{has_key, kept_answer};
+use crate::keys::{Kept, is_counted, kept_answer};
 use crate::{Asked, Machine, Scene, Stop};
 use handler_meaning::{FailKind, Key, Seen};
 use std::alloc::Global;
@@ -47,8 +47,9 @@ impl Machine {
                 key: None,
             });
         };
-        let seen = kept_answer(scene.known, &asked);
-        if has_key(scene.keys, &asked) || has_key(&self.keys, &asked) {
+        let Kept { seen, place } = kept_answer(scene.known, &asked);
+        // Keys mostly stand in the order in which their answers were asked for.
+        if is_counted(scene.keys, &self.keys, place, &asked) {
             return match seen {
                 None => Err(need(scene.alloc, &asked)),
                 Some(seen) => Ok(Looked {

@@ -1,9 +1,11 @@
 -- How many children stand behind effects, counted where they stand.
-use Rattle.std.specs.Prelude.{ℕ, ◌+◌, Bool, true, false, not, ◌&&◌, List, [], ◌∷◌, ◌++◌, length, bytes_eq}
+use Rattle.std.specs.Prelude.{ℕ, pos, ◌+◌, Bool, true, false, not, ◌&&◌, List, [], ◌∷◌, ◌++◌, length, bytes_eq}
 use Rattle.slee_effect.specs.declared.reference.Ref.{Ref}
 use Rattle.slee_effect.specs.declared.reference.Ref.TheVariants.{Fresh}
 use Rattle.slee_effect.specs.declared.effect.Effect.{Effect}
 use Rattle.slee_effect.specs.declared.effect.Effect.TheVariants as ef
+use Rattle.slee_effect.specs.declared.value.Val.{Val}
+use Rattle.handler_meaning.specs.Values.{int}
 use Rattle.handler_meaning.specs.Running.{Setting, Run, ◌>>=◌, give}
 use Rattle.handler_meaning.specs.Observing as read
 use Rattle.handler_meaning.specs.Overlay.{same_ref, is_removed, entities_by}
@@ -28,7 +30,7 @@ created e relation n [] behind = 0
 created e relation n (x ∷ xs) behind = one_if (creates e relation x && not (is_removed (Fresh n) (xs ++ behind))) + created e relation (n + entities_by x) xs behind
 
 -- how many children of the relation there are
-abbrev pub count_children : Setting → List ℕ → Run ℕ
+abbrev pub count_children : Setting → List ℕ → Run Val
 count_children s relation = do
   refs ← read.children s relation
-  give (length refs)
+  give (int (pos (length refs)))

@@ -1,10 +1,11 @@
 //! How many children of a relation there are. They are counted where they stand.
-ghost use Rattle.std.specs.Prelude.{◌≡◌, ◌≤◌, ◌<◌, ◌+◌, ◌++◌, ◌^◌, length, map};
+ghost use Rattle.std.specs.Prelude.{◌≡◌, ◌≤◌, ◌<◌, ◌+◌, ◌++◌, ◌^◌, length, map, pos};
 ghost use Rattle.std.specs.Option.{option_copied};
 ghost use Rattle.slee_effect.specs.declared.reference.Ref.TheVariants as ref;
 ghost use Rattle.handler_meaning.specs.Answers.{ids_in};
 ghost use Rattle.handler_meaning.specs.Overlay.{overlay, entities_by, children_after};
-ghost use Rattle.script_machine.specs.Agreeing.{Agrees};
+ghost use Rattle.handler_meaning.specs.Values.{int};
+ghost use Rattle.script_machine.specs.Agreeing.{AgreesAs};
 ghost use Rattle.script_machine.specs.Lending.{standing};
 ghost use Rattle.script_machine.specs.Settings.{setting_of};
 ghost use Rattle.script_reading.specs.Counting.{staying, creates, created, count_children};
@@ -78,20 +79,20 @@ fn count_created(
 }
 
 #[tactic(auto, using(crate::proofs::CountingLemmas::children_counted))]
-fn children_counted(machine: &Machine, scene: &Scene, relation: &Name, seen: Option<&Seen>) -> usize
-    ensures { result ≡ length (overlay entities_by (children_after scene.now.me relation.now) (scene.now.effects.now ++ machine.now.effects) (map ref.Known (ids_in (option_copied seen.entry)))) }
+fn children_counted(machine: &Machine, scene: &Scene, relation: &Name, seen: Option<&Seen>) -> i64
+    ensures { result ≡ pos (length (overlay entities_by (children_after scene.now.me relation.now) (scene.now.effects.now ++ machine.now.effects) (map ref.Known (ids_in (option_copied seen.entry))))) }
 {
     let own = machine.effects();
     let made = count_made(Thing::Entity, scene.effects);
     let known = count_staying(ids_in(seen), scene.effects, own);
     let earlier = count_created(scene.me, relation, 0, scene.effects, own);
     let later = count_created(scene.me, relation, made, own, &[]);
-    known + (earlier + later)
+    (known + (earlier + later)) as i64
 }
 
 /// How many children of the relation there are.
-pub fn count_children(machine: &mut Machine, scene: &Scene, relation: &Name) -> Result<usize, Stop>
-    ensures agrees { Agrees (count_children (setting_of scene.now) relation.now) machine.old machine.new result }
+pub fn count_children(machine: &mut Machine, scene: &Scene, relation: &Name) -> Result<i64, Stop>
+    ensures agrees { AgreesAs int (count_children (setting_of scene.now) relation.now) machine.old machine.new result }
     ensures spent { machine.new.left ≤ machine.old.left }
     ensures kept { standing machine.new ≡ standing machine.old }
 {

@@ -10,9 +10,7 @@ ghost use Rattle.script_machine.specs.Lending.{value_lent, value_at, standing};
 ghost use Rattle.script_machine.specs.declared.places.Place.TheVariants as place;
 ghost use Rattle.script_machine.specs.Settings.{setting_of};
 
-use script_machine::{
-    Lent, Machine, Place, Scene, Stop, flag_in, flag_within, int_in, int_within,
-};
+use script_machine::{Lent, Machine, Place, Scene, Stop, flag_in, flag_within, int_in, int_within};
 use script_reading::{count_children, field, now, priority};
 use script_types::Atom;
 use slee_effect::Val;
@@ -32,16 +30,6 @@ fn event_field<'a>(scene: &Scene<'a>, place: usize, kind: Kind) -> Lent<'a>
         None => Lent::Initial(kind),
         Some((_, value)) => Lent::Held(value).fit(kind),
     }
-}
-
-/// How many children of the relation there are.
-fn count(machine: &mut Machine, scene: &Scene, relation: &Name) -> Result<i64, Stop>
-    ensures agrees { AgreesAs int (single (setting_of scene.now) (a.Count relation.now)) machine.old machine.new result }
-    ensures spent { machine.new.left ≤ machine.old.left }
-    ensures kept { standing machine.new ≡ standing machine.old }
-{
-    let children = count_children(machine, scene, relation)?;
-    Ok(children as i64)
 }
 
 /// The priority of the child in this place of the scope.
@@ -89,7 +77,7 @@ pub(crate) fn single<'a, 's: 'a>(
         Atom::Slot(place) => machine.variable_place(*place),
         Atom::Field(name, kind) => field(machine, scene, name, *kind),
         Atom::EventField(place, kind) => Ok(Place::Outside(event_field(scene, *place, *kind))),
-        Atom::Count(relation) => Ok(made_number(count(machine, scene, relation)?)),
+        Atom::Count(relation) => Ok(made_number(count_children(machine, scene, relation)?)),
         Atom::Priority(place) => Ok(made_number(priority_at(machine, scene, *place)?)),
     }
 }

@@ -51,10 +51,7 @@ pub(crate) fn find<'a, 's: 'a>(
             let truth = eval_compared(machine, scene, parts)?;
             Ok(made_flag(truth))
         }
-        Term::Chain(first, more) => {
-            let value = eval_chain(machine, scene, first, more)?;
-            Ok(Place::Made(value))
-        }
+        Term::Chain(first, more) => find_chain(machine, scene, first, more),
     }
 }
 
@@ -195,6 +192,22 @@ fn eval_compared_numbers(
         return Err(Stop::Unchecked);
     };
     machine.compare_numbers(test, x, y)
+}
+
+/// The place of what a chain of operators gives.
+#[cycle(terms)]
+fn find_chain<'a>(
+    machine: &mut Machine,
+    scene: &Scene,
+    first: &(Term, Joint, Term),
+    more: &[(Joint, Term)],
+) -> Result<Place<'a>, Stop>
+    ensures agrees { AgreesAs (value_at (standing machine.new)) (chained (setting_of scene.now) (combine_of first.now) more.now) machine.old machine.new result }
+    ensures spent { machine.new.left ≤ machine.old.left }
+    ensures kept { standing machine.new ≡ standing machine.old }
+{
+    let value = eval_chain(machine, scene, first, more)?;
+    Ok(Place::Made(value))
 }
 
 /// What a chain of operators gives.

@@ -26,6 +26,9 @@ decreases-eval_compared l = 8 * l.machine.now.left
 abbrev pub decreases-eval_compared_numbers : goal.decreases-eval_compared_numbers
 decreases-eval_compared_numbers l = 8 * l.machine.now.left + 5
 
+abbrev pub decreases-find_chain : goal.decreases-find_chain
+decreases-find_chain l = 8 * l.machine.now.left + 3
+
 abbrev pub decreases-eval_chain : goal.decreases-eval_chain
 decreases-eval_chain l = 8 * l.machine.now.left + 2
 
