@@ -4,3 +4,4 @@ pub mod NumberLemmas
 pub mod VariableLemmas
 pub mod EffectLemmas
 pub mod FlagLemmas
+pub mod FoundLemmas

@@ -11,6 +11,7 @@ use handler_meaning::{Key, Seen};
 
 /// Whether a key is that which is asked for.
 #[tactic(auto, using(crate::proofs::KeyLemmas::names_turned, crate::proofs::KeyLemmas::numbers_turned))]
+#[inline(always)]
 pub(crate) fn is_asked(one: &Key, asked: &Asked) -> bool
     ensures is { result ≡ same_key one.now (key_asked asked.now) }
     ensures turned { result ≡ same_key (key_asked asked.now) one.now }
@@ -53,6 +54,7 @@ fn key_at(keys: &[Key], place: usize) -> Option<&Key>
 }
 
 /// The same, where it may well be the key in this place.
+#[inline(always)]
 #[tactic(auto, using(crate::proofs::KeyLemmas::any_there))]
 fn has_key_near(keys: &[Key], place: usize, asked: &Asked) -> bool
     ensures { result ≡ list_any (same_key (key_asked asked.now)) keys.now }
@@ -64,6 +66,7 @@ fn has_key_near(keys: &[Key], place: usize, asked: &Asked) -> bool
 }
 
 /// Whether one of these keys, those before first, is that which is asked for. It may well be the one in this place.
+#[inline(always)]
 #[tactic(auto, using(crate::proofs::KeyLemmas::either_turned))]
 pub(crate) fn is_counted(before: &[Key], own: &[Key], place: usize, asked: &Asked) -> bool
     ensures { result ≡ (list_any (same_key (key_asked asked.now)) before.now || list_any (same_key (key_asked asked.now)) own.now) }
@@ -82,6 +85,7 @@ pub(crate) struct Kept<'a> {
 }
 
 /// The answer that was kept for the key that is asked for.
+#[inline(always)]
 pub(crate) fn kept_answer<'a>(known: &'a [(Key, Seen)], asked: &Asked) -> Kept<'a>
     ensures { option_copied result.seen ≡ kept known.now (key_asked asked.now) }
 {

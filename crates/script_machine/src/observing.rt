@@ -1,5 +1,5 @@
 //! Asking for the state by keys.
-ghost use Rattle.std.specs.Prelude.{◌≡◌, ◌≤◌, option_map};
+ghost use Rattle.std.specs.Prelude.{◌≡◌, ◌≤◌, option_map, Some};
 ghost use Rattle.std.specs.Option.{option_copied};
 ghost use Rattle.handler_meaning.specs.Running.{look};
 ghost use Rattle.script_machine.specs.Agreeing.{AgreesAs};
@@ -89,7 +89,19 @@ impl Machine {
         }
     }
 
+    /// What is known of a key, which is counted where it is new.
+    fn look_first<'a>(&mut self, scene: &Scene<'a>, asked: Asked) -> Result<Option<&'a Seen>, Stop>
+        ensures agrees { AgreesAs option_copied (look (setting_of scene.now) (Some (key_asked asked.entry))) self.old self.new result }
+        ensures spent { self.new.left ≤ self.old.left }
+        ensures kept { standing self.new ≡ standing self.old }
+    {
+        let looked = self.peek(scene, Some(asked))?;
+        self.note(looked)
+    }
+
     /// What is known of a key, which is counted. What is new has no key, and nothing is asked for.
+    #[inline(always)]
+    #[tactic(auto, unfolding(handler_meaning::specs::Running::observe))]
     pub fn look<'a>(
         &mut self,
         scene: &Scene<'a>,
@@ -99,7 +111,13 @@ impl Machine {
         ensures spent { self.new.left ≤ self.old.left }
         ensures kept { standing self.new ≡ standing self.old }
     {
-        let looked = self.peek(scene, asked)?;
-        self.note(looked)
+        let Some(asked) = asked else {
+            return Ok(None);
+        };
+        let Kept { seen, place } = kept_answer(scene.known, &asked);
+        if seen.is_some() && is_counted(scene.keys, &self.keys, place, &asked) {
+            return Ok(seen);
+        }
+        self.look_first(scene, asked)
     }
 }

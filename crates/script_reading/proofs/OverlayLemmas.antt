@@ -9,6 +9,13 @@ use Rattle.slee_effect.specs.declared.value.Val.{Val}
 use Rattle.slee_effect.specs.declared.effect.Effect.{Effect}
 use Rattle.slee_effect.specs.declared.effect.Effect.TheVariants as ef
 use Rattle.handler_meaning.specs.Overlay.{same_ref, overlay, overlay_from, field_after, attr_after, attached_after, named_after, activities_after, entities_by, activities_by}
+use Rattle.slee_value.specs.declared.kind.Kind.{Kind}
+use Rattle.handler_meaning.specs.declared.key.Key.TheVariants as k
+use Rattle.handler_meaning.specs.declared.seen.Seen.{Seen}
+use Rattle.handler_meaning.specs.Answers.{fit, held_in}
+use Rattle.handler_meaning.specs.Observing as read
+use Rattle.handler_meaning.specs.Observing.{key_of}
+use Rattle.handler_meaning.specs.Running.{Setting, State, Ending, Gave, then_run, look}
 use Rattle.script_reading.specs.Done.{done, sets_field, sets_attribute, set_behind, last_set}
 
 plain : {A : Type 0} (makes : Effect → ℕ) (does : ℕ → Effect → A → A) → ((n : ℕ) (e : Effect) (x : A) → does n e x ≡ does 0 e x) → (n : ℕ) (es : List Effect) (x : A) → overlay_from makes does n es x ≡ done (does 0) es x
@@ -90,6 +97,10 @@ field_one who name other last x = refl
 pub field_read : (who : Ref) (name : List ℕ) (xs ys : List Effect) (x : Val) → overlay entities_by (field_after who name) (xs ++ ys) x ≡ unwrap_or (last_set (sets_field who name) ys) (unwrap_or (last_set (sets_field who name) xs) x)
 field_read who name xs ys x = field_laid who name xs ys x ∙ ap (done (field_after who name 0) ys) (set_last (field_after who name 0) (sets_field who name) (field_one who name) xs None x) ∙ set_last (field_after who name 0) (sets_field who name) (field_one who name) ys None (unwrap_or (last_set (sets_field who name) xs) x)
 
+-- a field of the kind that is asked for, where its key was looked for
+pub field_given : (s : Setting) (name : List ℕ) (q : Kind) (old new : State) (seen : Option Seen) (x : Val) → look s (key_of (λ n. k.Field (record { 0 = n }) name) s.me) old ≡ Gave seen new → x ≡ fit q (unwrap_or (last_set (sets_field s.me name) new.effects) (unwrap_or (last_set (sets_field s.me name) s.effects) (held_in q seen))) → read.field s name q old ≡ Gave x new
+field_given s name q old new seen x given is = ap (λ (e : Ending (Option Seen)). then_run e (λ seen st. Gave (fit q (overlay entities_by (field_after s.me name) (s.effects ++ st.effects) (held_in q seen))) st)) given ∙ ap (λ (y : Val). Gave (fit q y) new) (field_read s.me name s.effects new.effects (held_in q seen)) ∙ ap (λ (y : Val). Gave y new) (sym is)
+
 attribute_one : (who : Ref) (name : List ℕ) (e : Effect) (last : Option Val) (x : Val) → attr_after who name 0 e (unwrap_or last x) ≡ unwrap_or (set_behind (sets_attribute who name) e last) x
 attribute_one who name (ef.SetAttr p q r) last x = chosen (same_ref p who && bytes_eq q name) r x last
 attribute_one who name other last x = refl
@@ -97,6 +108,10 @@ attribute_one who name other last x = refl
 -- an attribute behind effects of two lists
 pub attribute_read : (who : Ref) (name : List ℕ) (xs ys : List Effect) (x : Val) → overlay activities_by (attr_after who name) (xs ++ ys) x ≡ unwrap_or (last_set (sets_attribute who name) ys) (unwrap_or (last_set (sets_attribute who name) xs) x)
 attribute_read who name xs ys x = attribute_laid who name xs ys x ∙ ap (done (attr_after who name 0) ys) (set_last (attr_after who name 0) (sets_attribute who name) (attribute_one who name) xs None x) ∙ set_last (attr_after who name 0) (sets_attribute who name) (attribute_one who name) ys None (unwrap_or (last_set (sets_attribute who name) xs) x)
+
+-- an attribute of the kind that is asked for, where its key was looked for
+pub attribute_given : (s : Setting) (key : List ℕ) (q : Kind) (a : Ref) (old new : State) (seen : Option Seen) (x : Val) → look s (key_of (λ n. k.Attr (record { 0 = n }) key) a) old ≡ Gave seen new → x ≡ fit q (unwrap_or (last_set (sets_attribute a key) new.effects) (unwrap_or (last_set (sets_attribute a key) s.effects) (held_in q seen))) → read.attribute s key q a old ≡ Gave x new
+attribute_given s key q a old new seen x given is = ap (λ (e : Ending (Option Seen)). then_run e (λ seen st. Gave (fit q (overlay activities_by (attr_after a key) (s.effects ++ st.effects) (held_in q seen))) st)) given ∙ ap (λ (y : Val). Gave (fit q y) new) (attribute_read a key s.effects new.effects (held_in q seen)) ∙ ap (λ (y : Val). Gave y new) (sym is)
 
 -- the effect in a place is the last one of those up to there
 pub set_there : (sets : Effect → Bool) (es : List Effect) (i : ℕ) (e : Effect) → i < length es → e ≡ get_or es i e → last_set sets (take (suc i) es) ≡ set_behind sets e (last_set sets (take i es))

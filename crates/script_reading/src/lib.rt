@@ -15,7 +15,7 @@ mod things;
 
 pub use activities::{state_of, used, used_active};
 pub use counts::count_children;
-pub use fields::{attribute, field};
+pub use fields::{attribute, attribute_scalar, field, field_scalar};
 pub use lists::{attached_activities, children};
 pub use masks::is_masked;
 pub use numbers::{now, priority};

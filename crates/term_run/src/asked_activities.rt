@@ -3,13 +3,13 @@ ghost use Rattle.std.specs.Prelude.{◌≡◌, ◌≤◌};
 ghost use Rattle.script_types.specs.declared.term.Question.TheVariants as q;
 ghost use Rattle.handler_meaning.specs.Terms.{ask, is_active};
 ghost use Rattle.handler_meaning.specs.Values.{flag};
-ghost use Rattle.script_machine.specs.Agreeing.{AgreesAs};
+ghost use Rattle.script_machine.specs.Agreeing.{AgreesAs, EndsFinding};
 ghost use Rattle.script_machine.specs.Lending.{value_at, standing};
 ghost use Rattle.script_machine.specs.Settings.{setting_of};
 
 use handler_meaning::AcSeen;
-use script_machine::{Machine, Place, Scene, Stop, activity_of};
-use script_reading::{attached, attribute, is_masked, state_of, used};
+use script_machine::{Machine, Place, Scalar, Scene, Stop, activity_of};
+use script_reading::{attached, attribute, attribute_scalar, is_masked, state_of, used};
 use slee_value::{Kind, Text};
 
 fn is_active(seen: Option<AcSeen>) -> bool
@@ -61,6 +61,24 @@ pub(crate) fn ask_attribute<'a>(
     let activity = activity_of(machine.lend(x))?;
     used(machine, scene, activity)?;
     attribute(machine, scene, key, kind, activity)
+}
+
+/// The number or truth value that `attr(a, NAME)` is, if it is one.
+#[tactic(auto, using(script_machine::proofs::KindLemmas::no_activity_stays, script_machine::proofs::KindLemmas::activity_given))]
+pub(crate) fn ask_attribute_scalar<T: Scalar>(
+    machine: &mut Machine,
+    scene: &Scene,
+    key: &Text,
+    kind: Kind,
+    x: &Place,
+) -> Result<Option<T>, Stop>
+    ensures finds { EndsFinding T.value_of T.is_other (ask (setting_of scene.now) (q.Attribute key.now kind) (value_at (standing machine.old) x.now) machine.old) machine.new result }
+    ensures spent { machine.new.left ≤ machine.old.left }
+    ensures kept { standing machine.new ≡ standing machine.old }
+{
+    let activity = activity_of(machine.lend(x))?;
+    used(machine, scene, activity)?;
+    attribute_scalar(machine, scene, key, kind, activity)
 }
 
 /// `masked(TEXT, a)`

@@ -5,13 +5,12 @@ ghost use Rattle.handler_meaning.specs.Values.{int, flag};
 ghost use Rattle.handler_meaning.specs.Terms.{single, or_initial, field_at};
 ghost use Rattle.script_types.specs.declared.term.Atom.TheVariants as a;
 ghost use Rattle.script_machine.specs.Agreeing.{AgreesAs, EndsFinding};
-ghost use Rattle.script_machine.specs.Kinds.{NoInt, NoFlag};
 ghost use Rattle.script_machine.specs.Lending.{value_lent, value_at, standing};
 ghost use Rattle.script_machine.specs.declared.places.Place.TheVariants as place;
 ghost use Rattle.script_machine.specs.Settings.{setting_of};
 
-use script_machine::{Lent, Machine, Place, Scene, Stop, flag_in, flag_within, int_in, int_within};
-use script_reading::{count_children, field, now, priority};
+use script_machine::{Lent, Machine, Place, Scalar, Scene, Stop};
+use script_reading::{count_children, field, field_scalar, now, priority};
 use script_types::Atom;
 use slee_effect::Val;
 use slee_value::{Kind, Name, Value};
@@ -82,58 +81,34 @@ pub(crate) fn single<'a, 's: 'a>(
     }
 }
 
-/// The number in the variable in this place, if it holds one.
-fn slot_number(machine: &Machine, scene: &Scene, place: usize) -> Result<Option<i64>, Stop>
-    ensures { EndsFinding int NoInt (single (setting_of scene.now) (a.Slot place) machine.now) machine.now result }
+/// The number or truth value in the variable in this place, if it holds one.
+#[inline(always)]
+fn slot_scalar<T: Scalar>(machine: &Machine, scene: &Scene, place: usize) -> Result<Option<T>, Stop>
+    ensures { EndsFinding T.value_of T.is_other (single (setting_of scene.now) (a.Slot place) machine.now) machine.now result }
 {
     let value = machine.variable_value(place)?;
-    Ok(int_within(value))
+    Ok(T::within(Lent::Set(value)))
 }
 
-/// The number that a term without parts gives, if it gives one.
-pub(crate) fn single_number(
+/// The number or truth value that a term without parts gives, if it gives one.
+#[inline(always)]
+pub(crate) fn single_scalar<T: Scalar>(
     machine: &mut Machine,
     scene: &Scene,
     atom: &Atom,
-) -> Result<Option<i64>, Stop>
-    ensures finds { EndsFinding int NoInt (single (setting_of scene.now) atom.now machine.old) machine.new result }
+) -> Result<Option<T>, Stop>
+    ensures finds { EndsFinding T.value_of T.is_other (single (setting_of scene.now) atom.now machine.old) machine.new result }
     ensures spent { machine.new.left ≤ machine.old.left }
     ensures kept { standing machine.new ≡ standing machine.old }
 {
     match atom {
-        Atom::Constant(value) => Ok(int_in(value)),
-        Atom::Slot(place) => slot_number(machine, scene, *place),
+        Atom::Constant(value) => Ok(T::within(Lent::Held(value))),
+        Atom::Slot(place) => slot_scalar(machine, scene, *place),
+        Atom::Field(name, kind) => field_scalar(machine, scene, name, *kind),
+        Atom::EventField(place, kind) => Ok(T::within(event_field(scene, *place, *kind))),
         _ => {
             let place = single(machine, scene, atom)?;
-            Ok(machine.lend(&place).number())
-        }
-    }
-}
-
-/// The truth value in the variable in this place, if it holds one.
-fn slot_flag(machine: &Machine, scene: &Scene, place: usize) -> Result<Option<bool>, Stop>
-    ensures { EndsFinding flag NoFlag (single (setting_of scene.now) (a.Slot place) machine.now) machine.now result }
-{
-    let value = machine.variable_value(place)?;
-    Ok(flag_within(value))
-}
-
-/// The truth value that a term without parts gives, if it gives one.
-pub(crate) fn single_flag(
-    machine: &mut Machine,
-    scene: &Scene,
-    atom: &Atom,
-) -> Result<Option<bool>, Stop>
-    ensures finds { EndsFinding flag NoFlag (single (setting_of scene.now) atom.now machine.old) machine.new result }
-    ensures spent { machine.new.left ≤ machine.old.left }
-    ensures kept { standing machine.new ≡ standing machine.old }
-{
-    match atom {
-        Atom::Constant(value) => Ok(flag_in(value)),
-        Atom::Slot(place) => slot_flag(machine, scene, *place),
-        _ => {
-            let place = single(machine, scene, atom)?;
-            Ok(machine.lend(&place).flag())
+            Ok(T::within(machine.lend(&place)))
         }
     }
 }

@@ -3,16 +3,18 @@ ghost use Rattle.std.specs.Prelude.{◌≡◌, ◌≤◌};
 ghost use Rattle.script_types.specs.declared.term.Question.TheVariants as q;
 ghost use Rattle.handler_meaning.specs.Terms.{ask};
 ghost use Rattle.handler_meaning.specs.Values.{int, flag};
-ghost use Rattle.script_machine.specs.Agreeing.{AgreesAs};
+ghost use Rattle.script_machine.specs.Agreeing.{AgreesAs, EndsFinding};
 ghost use Rattle.script_machine.specs.Lending.{value_lent, value_at, standing};
 ghost use Rattle.script_machine.specs.Settings.{setting_of};
 
-use crate::asked_activities::{ask_active, ask_attached, ask_attribute, ask_masked};
+use crate::asked_activities::{
+    ask_active, ask_attached, ask_attribute, ask_attribute_scalar, ask_masked,
+};
 use crate::asked_names::{ask_bound, ask_lookup};
 use crate::asked_rows::{ask_has_profile, ask_profile};
 use crate::asked_timers::ask_has_timer;
 use crate::atoms::{made_flag, made_number};
-use script_machine::{Lent, Machine, Place, Scene, Stop, flag_of, int_of, text_of};
+use script_machine::{Lent, Machine, Place, Scalar, Scene, Stop, flag_of, int_of, text_of};
 use script_types::Question;
 
 /// `not e`
@@ -67,5 +69,25 @@ pub(crate) fn ask<'a>(
         Question::Profile(table, name, kind) => ask_profile(machine, scene, table, name, *kind, x),
         Question::HasProfile(table) => Ok(made_flag(ask_has_profile(machine, scene, table, x)?)),
         Question::HasTimer => Ok(made_flag(ask_has_timer(machine, scene, x)?)),
+    }
+}
+
+/// The number or truth value that is given where something is asked of the value in a place, if it is one.
+pub(crate) fn ask_scalar<T: Scalar>(
+    machine: &mut Machine,
+    scene: &Scene,
+    question: &Question,
+    x: &Place,
+) -> Result<Option<T>, Stop>
+    ensures finds { EndsFinding T.value_of T.is_other (ask (setting_of scene.now) question.now (value_at (standing machine.old) x.now) machine.old) machine.new result }
+    ensures spent { machine.new.left ≤ machine.old.left }
+    ensures kept { standing machine.new ≡ standing machine.old }
+{
+    match question {
+        Question::Attribute(key, kind) => ask_attribute_scalar(machine, scene, key, *kind, x),
+        _ => {
+            let place = ask(machine, scene, question, x)?;
+            Ok(T::within(machine.lend(&place)))
+        }
     }
 }

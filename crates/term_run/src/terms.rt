@@ -9,9 +9,9 @@ ghost use Rattle.script_machine.specs.Lending.{value_at, standing};
 ghost use Rattle.script_machine.specs.Settings.{setting_of};
 ghost use Rattle.term_run.specs.Links.{linked, chained, compared, applied};
 
-use crate::atoms::{made_flag, single, single_flag, single_number};
+use crate::atoms::{made_flag, single, single_scalar};
 use crate::chains::spend;
-use crate::questions::ask;
+use crate::questions::{ask, ask_scalar};
 use script_machine::{
     Lent, Machine, Place, Scene, Stop, flag_within, int_within, is_arithmetic, is_choice,
     is_decided, is_decided_flag, is_of_numbers,
@@ -26,6 +26,9 @@ pub fn eval(machine: &mut Machine, scene: &Scene, term: &Term) -> Result<Val, St
     ensures spent { machine.new.left ≤ machine.old.left }
     ensures kept { standing machine.new ≡ standing machine.old }
 {
+    if let Term::Chain(first, more) = term {
+        return eval_chain(machine, scene, first, more);
+    }
     let place = find(machine, scene, term)?;
     Ok(machine.owned(scene.alloc, place)?)
 }
@@ -69,12 +72,9 @@ pub(crate) fn eval_number(
     match term {
         Term::Single(atom) => {
             machine.tick()?;
-            single_number(machine, scene, atom)
+            single_scalar(machine, scene, atom)
         }
-        Term::Ask(parts) => {
-            let place = find_asked(machine, scene, parts)?;
-            Ok(machine.lend(&place).number())
-        }
+        Term::Ask(parts) => asked_number(machine, scene, parts),
         Term::Compare(parts) => {
             let _ = eval_compared(machine, scene, parts)?;
             Ok(None)
@@ -93,7 +93,7 @@ pub fn eval_truth(machine: &mut Machine, scene: &Scene, term: &Term) -> Result<O
     match term {
         Term::Single(atom) => {
             machine.tick()?;
-            single_flag(machine, scene, atom)
+            single_scalar(machine, scene, atom)
         }
         Term::Ask(parts) => asked_truth(machine, scene, parts),
         Term::Compare(parts) => Ok(Some(eval_compared(machine, scene, parts)?)),
@@ -116,6 +116,23 @@ fn find_asked<'a, 's: 'a>(
     let (question, term) = parts;
     let x = find(machine, scene, term)?;
     ask(machine, scene, question, &x)
+}
+
+/// The number that a question to a term gives, if it gives one.
+#[cycle(terms)]
+fn asked_number(
+    machine: &mut Machine,
+    scene: &Scene,
+    parts: &(Question, Term),
+) -> Result<Option<i64>, Stop>
+    ensures finds { EndsFinding int NoInt (eval (setting_of scene.now) (ask_of parts.now) machine.old) machine.new result }
+    ensures spent { machine.new.left ≤ machine.old.left }
+    ensures kept { standing machine.new ≡ standing machine.old }
+{
+    machine.tick()?;
+    let (question, term) = parts;
+    let x = find(machine, scene, term)?;
+    ask_scalar(machine, scene, question, &x)
 }
 
 /// The truth value that a question to a term gives, if it gives one.
@@ -141,8 +158,7 @@ fn asked_truth(
         }
         _ => {
             let x = find(machine, scene, term)?;
-            let place = ask(machine, scene, question, &x)?;
-            Ok(machine.lend(&place).flag())
+            ask_scalar(machine, scene, question, &x)
         }
     }
 }

@@ -17,6 +17,9 @@ decreases-eval_truth l = 8 * l.machine.now.left + 4
 abbrev pub decreases-find_asked : goal.decreases-find_asked
 decreases-find_asked l = 8 * l.machine.now.left
 
+abbrev pub decreases-asked_number : goal.decreases-asked_number
+decreases-asked_number l = 8 * l.machine.now.left
+
 abbrev pub decreases-asked_truth : goal.decreases-asked_truth
 decreases-asked_truth l = 8 * l.machine.now.left
 
