@@ -36,6 +36,7 @@ pub(crate) fn is_asked(one: &Key, asked: &Asked) -> bool
 }
 
 /// Whether one of these keys is that which is asked for.
+#[inline(never)]
 pub(crate) fn has_key(keys: &[Key], asked: &Asked) -> bool
     ensures { result ≡ list_any (same_key (key_asked asked.now)) keys.now }
 {

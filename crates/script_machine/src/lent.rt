@@ -59,6 +59,7 @@ impl<'a> Lent<'a> {
     }
 
     /// The number that it is, if it is one.
+    #[inline(always)]
     pub fn number(&self) -> Option<i64>
         ensures { Finds int NoInt (value_lent self.now) result }
     {
@@ -71,6 +72,7 @@ impl<'a> Lent<'a> {
     }
 
     /// The truth value that it is, if it is one.
+    #[inline(always)]
     pub fn flag(&self) -> Option<bool>
         ensures { Finds flag NoFlag (value_lent self.now) result }
     {
@@ -83,6 +85,7 @@ impl<'a> Lent<'a> {
     }
 
     /// The text that it is, if it is one.
+    #[inline(always)]
     pub fn text(&self) -> Option<&'a str>
         ensures { Finds (λ t. text t.now) NoText (value_lent self.now) result }
     {

@@ -90,6 +90,7 @@ impl Machine {
     }
 
     /// What is known of a key, which is counted where it is new.
+    #[inline(never)]
     fn look_first<'a>(&mut self, scene: &Scene<'a>, asked: Asked) -> Result<Option<&'a Seen>, Stop>
         ensures agrees { AgreesAs option_copied (look (setting_of scene.now) (Some (key_asked asked.entry))) self.old self.new result }
         ensures spent { self.new.left ≤ self.old.left }

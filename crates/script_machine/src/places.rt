@@ -56,6 +56,7 @@ pub fn set_at(effects: &[Effect], place: usize) -> Lent
 
 impl Machine {
     /// The place of a variable that holds a value.
+    #[inline(always)]
     #[tactic(auto, using(crate::proofs::VariableLemmas::value_found), unfolding(crate::specs::Lending::standing))]
     pub fn variable_place<'a>(&self, place: usize) -> Result<Place<'a>, Stop>
         ensures { AgreesAs (value_at (standing self.now)) (read.value place) self.now self.now result }
@@ -70,6 +71,7 @@ impl Machine {
     }
 
     /// The value that stands in a place.
+    #[inline(always)]
     #[tactic(auto, unfolding(crate::specs::Lending::standing))]
     pub fn lend<'b, 'a: 'b>(&'b self, place: &'b Place<'a>) -> Lent<'b>
         ensures { value_lent result ≡ value_at (standing self.now) place.now }

@@ -87,6 +87,7 @@ fn lend_earlier<'a>(
 }
 
 /// Where the value of a property stands: in the last effect of the transaction that gives it one, or in the answer.
+#[inline(always)]
 #[tactic(auto, unfolding(script_machine::specs::Lending::standing))]
 fn property_place<'a>(
     machine: &Machine,

@@ -3,11 +3,14 @@ use Rattle.std.specs.Prelude.{ℕ, zero, suc, List, [], ◌∷◌, length}
 use Rattle.slee_effect.specs.declared.value.Val.{Val}
 use Rattle.script_types.specs.declared.term.Joint.{Joint}
 use Rattle.script_types.specs.declared.term.Test.{Test}
+use Rattle.script_types.specs.declared.term.Atom.{Atom}
+use Rattle.script_types.specs.declared.term.Question.{Question}
+use Rattle.script_types.specs.declared.term.Question.TheVariants as q
 use Rattle.script_types.specs.declared.checked_term.Term.{Term as TermInMemory}
 use Rattle.script_types.specs.Program.{Term}
 use Rattle.script_types.specs.ProgramOf.{term_of}
 use Rattle.handler_meaning.specs.Running.{Setting, Run, ◌>>=◌, give, tick}
-use Rattle.handler_meaning.specs.Terms.{eval, combine}
+use Rattle.handler_meaning.specs.Terms.{eval, combine, single, ask}
 use Rattle.handler_meaning.specs.Values.{compare, apply}
 
 -- so many units
@@ -43,3 +46,15 @@ abbrev pub applied : Joint → Val → Run Val → Run Val
 applied joint x m = do
   y ← m
   apply joint x y
+
+-- what is asked of what a part gives
+abbrev pub asked : Setting → Question → Term → Run Val
+asked s question a = do
+  x ← eval s a
+  ask s question x
+
+-- how long the text is that a term without parts gives
+abbrev pub measured : Setting → Atom → Run Val
+measured s atom = do
+  x ← single s atom
+  ask s q.Len x

@@ -31,16 +31,6 @@ fn event_field<'a>(scene: &Scene<'a>, place: usize, kind: Kind) -> Lent<'a>
     }
 }
 
-/// The priority of the child in this place of the scope.
-fn priority_at(machine: &mut Machine, scene: &Scene, place: usize) -> Result<i64, Stop>
-    ensures agrees { AgreesAs int (single (setting_of scene.now) (a.Priority place)) machine.old machine.new result }
-    ensures spent { machine.new.left ≤ machine.old.left }
-    ensures kept { standing machine.new ≡ standing machine.old }
-{
-    let child = machine.child(scene, place)?;
-    priority(machine, scene, child)
-}
-
 /// The place of a number that was made.
 pub(crate) fn made_number<'a>(number: i64) -> Place<'a>
     ensures { result ≡ place.Made (int number) }
@@ -55,7 +45,39 @@ pub(crate) fn made_flag<'a>(truth: bool) -> Place<'a>
     Place::Made(Val::Plain(Value::Bool(truth)))
 }
 
+/// The place of the time.
+#[inline(never)]
+fn time_place<'a>(machine: &mut Machine, scene: &Scene) -> Result<Place<'a>, Stop>
+    ensures agrees { AgreesAs (value_at (standing machine.new)) (single (setting_of scene.now) a.Now) machine.old machine.new result }
+    ensures spent { machine.new.left ≤ machine.old.left }
+    ensures kept { standing machine.new ≡ standing machine.old }
+{
+    Ok(made_number(now(machine, scene)?))
+}
+
+/// The place of the count of the children of a relation.
+#[inline(never)]
+fn count_place<'a>(machine: &mut Machine, scene: &Scene, relation: &Name) -> Result<Place<'a>, Stop>
+    ensures agrees { AgreesAs (value_at (standing machine.new)) (single (setting_of scene.now) (a.Count relation.now)) machine.old machine.new result }
+    ensures spent { machine.new.left ≤ machine.old.left }
+    ensures kept { standing machine.new ≡ standing machine.old }
+{
+    Ok(made_number(count_children(machine, scene, relation)?))
+}
+
+/// The place of the priority of the child in this place of the scope.
+#[inline(never)]
+fn priority_place<'a>(machine: &mut Machine, scene: &Scene, place: usize) -> Result<Place<'a>, Stop>
+    ensures agrees { AgreesAs (value_at (standing machine.new)) (single (setting_of scene.now) (a.Priority place)) machine.old machine.new result }
+    ensures spent { machine.new.left ≤ machine.old.left }
+    ensures kept { standing machine.new ≡ standing machine.old }
+{
+    let child = machine.child(scene, place)?;
+    Ok(made_number(priority(machine, scene, child)?))
+}
+
 /// Where that stands which a term without parts gives.
+#[inline(always)]
 pub(crate) fn single<'a, 's: 'a>(
     machine: &mut Machine,
     scene: &Scene<'s>,
@@ -67,7 +89,7 @@ pub(crate) fn single<'a, 's: 'a>(
 {
     match atom {
         Atom::Constant(value) => Ok(Place::Outside(Lent::Held(value))),
-        Atom::Now => Ok(made_number(now(machine, scene)?)),
+        Atom::Now => time_place(machine, scene),
         Atom::Activity => {
             let activity = Value::Activity(scene.arguments.activity);
             Ok(Place::Made(Val::Plain(activity)))
@@ -76,8 +98,8 @@ pub(crate) fn single<'a, 's: 'a>(
         Atom::Slot(place) => machine.variable_place(*place),
         Atom::Field(name, kind) => field(machine, scene, name, *kind),
         Atom::EventField(place, kind) => Ok(Place::Outside(event_field(scene, *place, *kind))),
-        Atom::Count(relation) => Ok(made_number(count_children(machine, scene, relation)?)),
-        Atom::Priority(place) => Ok(made_number(priority_at(machine, scene, *place)?)),
+        Atom::Count(relation) => count_place(machine, scene, relation),
+        Atom::Priority(place) => priority_place(machine, scene, *place),
     }
 }
 
@@ -88,6 +110,21 @@ fn slot_scalar<T: Scalar>(machine: &Machine, scene: &Scene, place: usize) -> Res
 {
     let value = machine.variable_value(place)?;
     Ok(T::within(Lent::Set(value)))
+}
+
+/// The number or truth value that a term without parts gives, if it gives one, read in its place.
+#[inline(never)]
+fn placed_scalar<T: Scalar>(
+    machine: &mut Machine,
+    scene: &Scene,
+    atom: &Atom,
+) -> Result<Option<T>, Stop>
+    ensures finds { EndsFinding T.value_of T.is_other (single (setting_of scene.now) atom.now machine.old) machine.new result }
+    ensures spent { machine.new.left ≤ machine.old.left }
+    ensures kept { standing machine.new ≡ standing machine.old }
+{
+    let place = single(machine, scene, atom)?;
+    Ok(T::within(machine.lend(&place)))
 }
 
 /// The number or truth value that a term without parts gives, if it gives one.
@@ -106,9 +143,6 @@ pub(crate) fn single_scalar<T: Scalar>(
         Atom::Slot(place) => slot_scalar(machine, scene, *place),
         Atom::Field(name, kind) => field_scalar(machine, scene, name, *kind),
         Atom::EventField(place, kind) => Ok(T::within(event_field(scene, *place, *kind))),
-        _ => {
-            let place = single(machine, scene, atom)?;
-            Ok(T::within(machine.lend(&place)))
-        }
+        _ => placed_scalar(machine, scene, atom),
     }
 }

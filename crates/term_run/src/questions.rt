@@ -1,11 +1,13 @@
 //! What is asked of one value.
 ghost use Rattle.std.specs.Prelude.{◌≡◌, ◌≤◌};
+ghost use Rattle.script_types.specs.declared.term.Atom.TheVariants as a;
 ghost use Rattle.script_types.specs.declared.term.Question.TheVariants as q;
 ghost use Rattle.handler_meaning.specs.Terms.{ask};
 ghost use Rattle.handler_meaning.specs.Values.{int, flag};
 ghost use Rattle.script_machine.specs.Agreeing.{AgreesAs, EndsFinding};
 ghost use Rattle.script_machine.specs.Lending.{value_lent, value_at, standing};
 ghost use Rattle.script_machine.specs.Settings.{setting_of};
+ghost use Rattle.term_run.specs.Links.{measured};
 
 use crate::asked_activities::{
     ask_active, ask_attached, ask_attribute, ask_attribute_scalar, ask_masked,
@@ -32,6 +34,14 @@ fn measure(machine: &Machine, scene: &Scene, x: Lent) -> Result<i64, Stop>
 {
     let length = text_of(x)?.len();
     Ok(length as i64)
+}
+
+/// How many bytes the text has that the variable in this place holds.
+pub(crate) fn slot_length(machine: &Machine, scene: &Scene, place: usize) -> Result<i64, Stop>
+    ensures { AgreesAs int (measured (setting_of scene.now) (a.Slot place)) machine.now machine.now result }
+{
+    let value = machine.variable_value(place)?;
+    measure(machine, scene, Lent::Set(value))
 }
 
 /// `-e`

@@ -7,16 +7,16 @@ ghost use Rattle.script_machine.specs.Agreeing.{Agrees, AgreesAs, EndsFinding};
 ghost use Rattle.script_machine.specs.Kinds.{NoInt, NoFlag, is_arithmetic, is_choice, is_of_numbers};
 ghost use Rattle.script_machine.specs.Lending.{value_at, standing};
 ghost use Rattle.script_machine.specs.Settings.{setting_of};
-ghost use Rattle.term_run.specs.Links.{linked, chained, compared, applied};
+ghost use Rattle.term_run.specs.Links.{linked, chained, compared, applied, asked};
 
 use crate::atoms::{made_flag, single, single_scalar};
 use crate::chains::spend;
-use crate::questions::{ask, ask_scalar};
+use crate::questions::{ask, ask_scalar, slot_length};
 use script_machine::{
     Lent, Machine, Place, Scene, Stop, flag_within, int_within, is_arithmetic, is_choice,
     is_decided, is_decided_flag, is_of_numbers,
 };
-use script_types::{Joint, Question, Term, Test};
+use script_types::{Atom, Joint, Question, Term, Test};
 use slee_effect::Val;
 use slee_value::Value;
 
@@ -24,16 +24,25 @@ use slee_value::Value;
 pub fn eval(machine: &mut Machine, scene: &Scene, term: &Term) -> Result<Val, Stop>
     ensures agrees { Agrees (eval (setting_of scene.now) (term_of term.now)) machine.old machine.new result }
     ensures spent { machine.new.left ≤ machine.old.left }
-    ensures kept { standing machine.new ≡ standing machine.old }
 {
-    if let Term::Chain(first, more) = term {
-        return eval_chain(machine, scene, first, more);
+    match term {
+        Term::Chain(first, more) => eval_chain(machine, scene, first, more),
+        _ => eval_found(machine, scene, term),
     }
+}
+
+/// What a term gives, taken from where it stands.
+#[inline(never)]
+fn eval_found(machine: &mut Machine, scene: &Scene, term: &Term) -> Result<Val, Stop>
+    ensures agrees { Agrees (eval (setting_of scene.now) (term_of term.now)) machine.old machine.new result }
+    ensures spent { machine.new.left ≤ machine.old.left }
+{
     let place = find(machine, scene, term)?;
     Ok(machine.owned(scene.alloc, place)?)
 }
 
 /// Where that stands which a term gives.
+#[inline(always)]
 #[cycle(terms)]
 pub(crate) fn find<'a, 's: 'a>(
     machine: &mut Machine,
@@ -50,10 +59,7 @@ pub(crate) fn find<'a, 's: 'a>(
             single(machine, scene, atom)
         }
         Term::Ask(parts) => find_asked(machine, scene, parts),
-        Term::Compare(parts) => {
-            let truth = eval_compared(machine, scene, parts)?;
-            Ok(made_flag(truth))
-        }
+        Term::Compare(parts) => find_compared(machine, scene, parts),
         Term::Chain(first, more) => find_chain(machine, scene, first, more),
     }
 }
@@ -102,6 +108,7 @@ pub fn eval_truth(machine: &mut Machine, scene: &Scene, term: &Term) -> Result<O
 }
 
 /// Where that stands which a question to a term gives.
+#[inline(never)]
 #[cycle(terms)]
 fn find_asked<'a, 's: 'a>(
     machine: &mut Machine,
@@ -119,6 +126,7 @@ fn find_asked<'a, 's: 'a>(
 }
 
 /// The number that a question to a term gives, if it gives one.
+#[inline(never)]
 #[cycle(terms)]
 fn asked_number(
     machine: &mut Machine,
@@ -131,11 +139,35 @@ fn asked_number(
 {
     machine.tick()?;
     let (question, term) = parts;
+    match (question, term) {
+        (Question::Len, Term::Single(Atom::Slot(place))) => {
+            machine.tick()?;
+            let length = slot_length(machine, scene, *place)?;
+            Ok(Some(length))
+        }
+        _ => placed_number(machine, scene, question, term),
+    }
+}
+
+/// The number that a question to a term gives, if it gives one, behind its unit.
+#[inline(never)]
+#[cycle(terms)]
+fn placed_number(
+    machine: &mut Machine,
+    scene: &Scene,
+    question: &Question,
+    term: &Term,
+) -> Result<Option<i64>, Stop>
+    ensures finds { EndsFinding int NoInt (asked (setting_of scene.now) question.now (term_of term.now) machine.old) machine.new result }
+    ensures spent { machine.new.left ≤ machine.old.left }
+    ensures kept { standing machine.new ≡ standing machine.old }
+{
     let x = find(machine, scene, term)?;
     ask_scalar(machine, scene, question, &x)
 }
 
 /// The truth value that a question to a term gives, if it gives one.
+#[inline(never)]
 #[cycle(terms)]
 #[tactic(auto, using(script_machine::proofs::KindLemmas::no_flag_stays))]
 fn asked_truth(
@@ -179,9 +211,26 @@ fn eval_compared(
     if is_of_numbers(*test) {
         return eval_compared_numbers(machine, scene, *test, one, other);
     }
+    eval_compared_values(machine, scene, *test, one, other)
+}
+
+/// What a comparison of two values gives.
+#[inline(never)]
+#[cycle(terms)]
+fn eval_compared_values(
+    machine: &mut Machine,
+    scene: &Scene,
+    test: Test,
+    one: &Term,
+    other: &Term,
+) -> Result<bool, Stop>
+    ensures agrees { AgreesAs flag (compared (setting_of scene.now) test (term_of one.now) (term_of other.now)) machine.old machine.new result }
+    ensures spent { machine.new.left ≤ machine.old.left }
+    ensures kept { standing machine.new ≡ standing machine.old }
+{
     let x = find(machine, scene, one)?;
     let y = find(machine, scene, other)?;
-    machine.compare(*test, machine.lend(&x), machine.lend(&y))
+    machine.compare(test, machine.lend(&x), machine.lend(&y))
 }
 
 /// What a comparison of two numbers gives.
@@ -210,7 +259,24 @@ fn eval_compared_numbers(
     machine.compare_numbers(test, x, y)
 }
 
+/// The place of what a comparison of two terms gives.
+#[inline(never)]
+#[cycle(terms)]
+fn find_compared<'a>(
+    machine: &mut Machine,
+    scene: &Scene,
+    parts: &(Test, Term, Term),
+) -> Result<Place<'a>, Stop>
+    ensures agrees { AgreesAs (value_at (standing machine.new)) (eval (setting_of scene.now) (compare_of parts.now)) machine.old machine.new result }
+    ensures spent { machine.new.left ≤ machine.old.left }
+    ensures kept { standing machine.new ≡ standing machine.old }
+{
+    let truth = eval_compared(machine, scene, parts)?;
+    Ok(made_flag(truth))
+}
+
 /// The place of what a chain of operators gives.
+#[inline(never)]
 #[cycle(terms)]
 fn find_chain<'a>(
     machine: &mut Machine,
@@ -246,6 +312,23 @@ fn eval_chain(
         let truth = truth_chain(machine, scene, first, more)?;
         return Ok(Val::Plain(Value::Bool(truth)));
     }
+    value_chain(machine, scene, first, more)
+}
+
+/// What a chain gives that begins with an operator between values of another kind.
+#[inline(never)]
+#[cycle(terms)]
+fn value_chain(
+    machine: &mut Machine,
+    scene: &Scene,
+    first: &(Term, Joint, Term),
+    more: &[(Joint, Term)],
+) -> Result<Val, Stop>
+    requires { is_choice first.now.1 ≡ false }
+    ensures agrees { Agrees (chained (setting_of scene.now) (combine_of first.now) more.now) machine.old machine.new result }
+    ensures spent { machine.new.left ≤ machine.old.left }
+    ensures kept { standing machine.new ≡ standing machine.old }
+{
     spend(machine, more.len())?;
     let x = eval_pair(machine, scene, first)?;
     eval_links(machine, scene, more, x)
@@ -310,6 +393,7 @@ fn number_chain(
 }
 
 /// What a chain gives that begins with `and` or `or`.
+#[inline(never)]
 #[cycle(terms)]
 fn truth_chain(
     machine: &mut Machine,

@@ -3,7 +3,6 @@ ghost use Rattle.std.specs.Prelude.{◌≡◌, ◌≤◌};
 ghost use Rattle.handler_meaning.specs.Doing.{int_of, text_of, activity_of, timer_of};
 ghost use Rattle.script_types.specs.ProgramOf.{term_of};
 ghost use Rattle.script_machine.specs.Agreeing.{Agrees};
-ghost use Rattle.script_machine.specs.Lending.{standing};
 ghost use Rattle.script_machine.specs.Settings.{setting_of};
 
 use crate::terms::{eval, eval_number, find};
@@ -17,7 +16,6 @@ use slee_value::{Text, Value};
 pub fn eval_int(machine: &mut Machine, scene: &Scene, term: &Term) -> Result<i64, Stop>
     ensures agrees { Agrees (int_of (setting_of scene.now) (term_of term.now)) machine.old machine.new result }
     ensures spent { machine.new.left ≤ machine.old.left }
-    ensures kept { standing machine.new ≡ standing machine.old }
 {
     match eval_number(machine, scene, term)? {
         Some(number) => Ok(number),
@@ -29,7 +27,6 @@ pub fn eval_int(machine: &mut Machine, scene: &Scene, term: &Term) -> Result<i64
 pub fn eval_text(machine: &mut Machine, scene: &Scene, term: &Term) -> Result<Text, Stop>
     ensures agrees { Agrees (text_of (setting_of scene.now) (term_of term.now)) machine.old machine.new result }
     ensures spent { machine.new.left ≤ machine.old.left }
-    ensures kept { standing machine.new ≡ standing machine.old }
 {
     match eval(machine, scene, term)? {
         Val::Plain(Value::Text(text)) => Ok(text),
@@ -42,7 +39,6 @@ pub fn eval_text(machine: &mut Machine, scene: &Scene, term: &Term) -> Result<Te
 pub fn eval_activity(machine: &mut Machine, scene: &Scene, term: &Term) -> Result<Ref, Stop>
     ensures agrees { Agrees (activity_of (setting_of scene.now) (term_of term.now)) machine.old machine.new result }
     ensures spent { machine.new.left ≤ machine.old.left }
-    ensures kept { standing machine.new ≡ standing machine.old }
 {
     let x = find(machine, scene, term)?;
     activity_of(machine.lend(&x))
@@ -53,7 +49,6 @@ pub fn eval_activity(machine: &mut Machine, scene: &Scene, term: &Term) -> Resul
 pub fn eval_timer(machine: &mut Machine, scene: &Scene, term: &Term) -> Result<Ref, Stop>
     ensures agrees { Agrees (timer_of (setting_of scene.now) (term_of term.now)) machine.old machine.new result }
     ensures spent { machine.new.left ≤ machine.old.left }
-    ensures kept { standing machine.new ≡ standing machine.old }
 {
     let x = find(machine, scene, term)?;
     timer_of(machine.lend(&x))

@@ -20,6 +20,9 @@ decreases-find_asked l = 8 * l.machine.now.left
 abbrev pub decreases-asked_number : goal.decreases-asked_number
 decreases-asked_number l = 8 * l.machine.now.left
 
+abbrev pub decreases-placed_number : goal.decreases-placed_number
+decreases-placed_number l = 8 * l.machine.now.left + 5
+
 abbrev pub decreases-asked_truth : goal.decreases-asked_truth
 decreases-asked_truth l = 8 * l.machine.now.left
 
@@ -28,6 +31,12 @@ decreases-eval_compared l = 8 * l.machine.now.left
 
 abbrev pub decreases-eval_compared_numbers : goal.decreases-eval_compared_numbers
 decreases-eval_compared_numbers l = 8 * l.machine.now.left + 5
+
+abbrev pub decreases-eval_compared_values : goal.decreases-eval_compared_values
+decreases-eval_compared_values l = 8 * l.machine.now.left + 5
+
+abbrev pub decreases-find_compared : goal.decreases-find_compared
+decreases-find_compared l = 8 * l.machine.now.left + 1
 
 abbrev pub decreases-find_chain : goal.decreases-find_chain
 decreases-find_chain l = 8 * l.machine.now.left + 3
@@ -43,6 +52,9 @@ decreases-truth_in_chain l = 8 * l.machine.now.left + 3
 
 abbrev pub decreases-number_chain : goal.decreases-number_chain
 decreases-number_chain l = 8 * l.machine.now.left + 1
+
+abbrev pub decreases-value_chain : goal.decreases-value_chain
+decreases-value_chain l = 8 * l.machine.now.left + 1
 
 abbrev pub decreases-truth_chain : goal.decreases-truth_chain
 decreases-truth_chain l = 8 * l.machine.now.left + 1
