@@ -1,16 +1,19 @@
 #!/usr/bin/env python3
 """Times runs of scripts. Outside the gate.
 
-    python3 bench/script_speed.py [NAME..]       all scripts, or these
+    python3 bench/script_speed.py [NAME..]                    all scripts, or these
+    python3 bench/script_speed.py --instructions [NAME..]     the instructions of a run, in millions
 
 Each line is one script, run by the program run_rows: the microseconds of a run, the median of seven. Each is the difference between
 a process that runs it many times and one that runs it not at all, both of which read the deployment and the answers once. A loop goes
 round as often as a run may, which takes some 10,000 units, and is to take at most 200 microseconds; a handler of ten statements is
-to take a few. Build the program first: cd crates/run_rows && rt run < stdin
+to take a few. A busy machine tells times wrong; instructions, counted by valgrind, of ten runs less of none, are the same whatever
+else it does. Build the program first: cd crates/run_rows && rt run < stdin
 """
 import copy
 import json
 import os
+import re
 import resource
 import statistics
 import subprocess
@@ -20,7 +23,7 @@ from meaning_table import DEPLOYMENT
 
 PROGRAM = os.path.join(os.path.dirname(os.path.abspath(__file__)), "..", "crates", "run_rows", "out", "run_rows")
 AT_MOST, TEN_AT_MOST = 200, 5
-TIMES, RUNS = 2_000, 7
+TIMES, RUNS, COUNTED = 2_000, 7, 10
 LOOPS = {
     "arithmetic": "let i = 0; let x = 1; while i < N { x = (x * 7 + i) % 1000003; i = i + 1; }",
     "texts": "let i = 0; let t = \"\"; while i < N { t = \"call \" ++ text(i) ++ \", \"; i = i + 1; }",
@@ -78,10 +81,33 @@ def microseconds(text, times):
     return statistics.median((seconds(text, times) - seconds(text, 0)) / times for _ in range(RUNS)) * 1e6
 
 
+def instructions_of(text, times):
+    words = ["valgrind", "--tool=callgrind", "--callgrind-out-file=/dev/null", PROGRAM, str(times)]
+    told = subprocess.run(words, input=text, capture_output=True, text=True, check=True).stderr
+    return int(re.search(r"Collected : (\d+)", told).group(1))
+
+
+def millions(text):
+    return (instructions_of(text, COUNTED) - instructions_of(text, 0)) / COUNTED / 1e6
+
+
+def count(wanted):
+    """Counts instructions."""
+    for name, loop in LOOPS.items():
+        if not wanted or name in wanted:
+            script, rounds = longest(loop)
+            print(f"{name:20} {rounds:5} rounds  {millions(row(script)):7.2f} million instructions", flush=True)
+    if not wanted or "ten" in wanted:
+        print(f"{'ten statements':20}               {millions(row(' '.join(TEN))):7.4f} million instructions")
+
+
 def main():
     if not os.path.exists(PROGRAM):
         sys.exit("build it first: cd crates/run_rows && rt run < stdin")
     wanted, slow = sys.argv[1:], 0
+    if "--instructions" in wanted:
+        count([name for name in wanted if name != "--instructions"])
+        return 0
     for name, loop in LOOPS.items():
         if wanted and name not in wanted:
             continue

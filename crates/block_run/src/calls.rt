@@ -12,8 +12,7 @@ ghost use Rattle.block_run.specs.Stages.{given, program_of, prepares};
 
 use crate::Stage;
 use handler_meaning::FailKind;
-use script_machine::{Machine, Scene, Stop, Variable};
-use script_reading::initial;
+use script_machine::{Machine, Scene, Stop, Variable, initial};
 use script_types::{BlockSteps, Call, MethodSteps, Term};
 use slee_effect::Ref;
 use slee_value::Kind;

@@ -3,3 +3,5 @@ pub mod KindLemmas
 pub mod NumberLemmas
 pub mod VariableLemmas
 pub mod EffectLemmas
+pub mod FlagLemmas
+pub mod FoundLemmas

@@ -60,6 +60,12 @@ is_arithmetic j.Divide = true
 is_arithmetic j.Remainder = true
 is_arithmetic _ = false
 
+-- operators between truth values
+abbrev pub is_choice : Joint → Bool
+is_choice j.Both = true
+is_choice j.Either = true
+is_choice _ = false
+
 -- comparisons of numbers
 abbrev pub is_of_numbers : Test → Bool
 is_of_numbers (t.Same kind.Int) = true

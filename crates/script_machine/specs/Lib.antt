@@ -3,3 +3,4 @@ pub mod Settings
 pub mod Agreeing
 pub mod Kinds
 pub mod Asking
+pub mod Lending

@@ -2,7 +2,7 @@
 ghost use Rattle.std.specs.Prelude.{◌≡◌, ℤ, pos, ◌+ℤ◌, ◌-ℤ◌, ◌*ℤ◌, int_div, int_rem, neg_ℤ};
 ghost use Rattle.handler_meaning.specs.Values.{int, number, divided, apply};
 ghost use Rattle.script_machine.specs.Agreeing.{AgreesAs};
-ghost use Rattle.script_machine.specs.Kinds.{is_arithmetic};
+ghost use Rattle.script_machine.specs.Kinds.{is_arithmetic, is_choice};
 
 use crate::{Machine, Stop};
 use handler_meaning::FailKind;
@@ -15,6 +15,16 @@ pub fn is_arithmetic(joint: Joint) -> bool
     match joint {
         Joint::Add | Joint::Subtract | Joint::Multiply | Joint::Divide | Joint::Remainder => true,
         Joint::Join | Joint::Both | Joint::Either => false,
+    }
+}
+
+/// Whether an operator is one between truth values.
+pub fn is_choice(joint: Joint) -> bool
+    ensures { result ≡ is_choice joint }
+{
+    match joint {
+        Joint::Both | Joint::Either => true,
+        _ => false,
     }
 }
 

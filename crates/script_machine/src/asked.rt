@@ -16,9 +16,9 @@ pub enum Asked<'a> {
     Attr(ActivityId, &'a Text),
     Attached(EntityId, ActivityId),
     Mask(EntityId, ActivityId),
-    Named(&'a Text),
+    Named(&'a str),
     Timer(TimerId),
-    Profile(&'a Name, &'a Text),
+    Profile(&'a Name, &'a str),
     Now,
     Activities(EntityId),
 }
@@ -36,10 +36,10 @@ impl<'a> Asked<'a> {
             Asked::Attr(activity, name) => Ok(Key::Attr(*activity, name.copy(alloc)?)),
             Asked::Attached(entity, activity) => Ok(Key::Attached(*entity, *activity)),
             Asked::Mask(entity, activity) => Ok(Key::Mask(*entity, *activity)),
-            Asked::Named(name) => Ok(Key::Named(name.copy(alloc)?)),
+            Asked::Named(name) => Ok(Key::Named(Text::from_str(alloc, name)?)),
             Asked::Timer(timer) => Ok(Key::Timer(*timer)),
             Asked::Profile(table, name) => {
-                Ok(Key::Profile(table.copy(alloc)?, name.copy(alloc)?))
+                Ok(Key::Profile(table.copy(alloc)?, Text::from_str(alloc, name)?))
             }
             Asked::Now => Ok(Key::Now),
             Asked::Activities(entity) => Ok(Key::Activities(*entity)),

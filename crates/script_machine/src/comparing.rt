@@ -4,21 +4,33 @@ ghost use Rattle.handler_meaning.specs.Values.{same_values, is_less, compare, de
 ghost use Rattle.handler_meaning.specs.Overlay.{same_ref};
 ghost use Rattle.script_machine.specs.Agreeing.{Agrees, AgreesAs};
 ghost use Rattle.script_machine.specs.Kinds.{is_of_numbers};
+ghost use Rattle.script_machine.specs.Lending.{value_lent};
 
 use crate::kinds::{activity_of, flag_of, int_of, text_of, timer_of};
-use crate::{Machine, Stop};
+use crate::{Lent, Machine, Stop};
 use script_types::{Joint, Scale, Test};
-use slee_effect::{Ref, Val};
-use slee_value::{Kind, Value};
+use slee_effect::Ref;
+use slee_value::Kind;
 use std::cmp::Ordering;
 
 /// Whether the left side of `and` or `or` alone is the whole.
-pub fn is_decided(joint: Joint, x: &Val) -> bool
-    ensures { result ≡ decides joint x.now }
+pub fn is_decided(joint: Joint, x: Lent) -> bool
+    ensures { result ≡ decides joint (value_lent x.entry) }
 {
-    match (joint, x) {
-        (Joint::Both, Val::Plain(Value::Bool(flag))) => !*flag,
-        (Joint::Either, Val::Plain(Value::Bool(flag))) => *flag,
+    match (joint, x.flag()) {
+        (Joint::Both, Some(flag)) => !flag,
+        (Joint::Either, Some(flag)) => flag,
+        _ => false,
+    }
+}
+
+/// The same where the left side is a truth value.
+pub fn is_decided_flag(joint: Joint, x: bool) -> bool
+    ensures { result ≡ decides joint (flag x) }
+{
+    match joint {
+        Joint::Both => !x,
+        Joint::Either => x,
         _ => false,
     }
 }
@@ -61,8 +73,8 @@ fn is_same_flag(x: bool, y: bool) -> bool
 impl Machine {
     /// Whether two values of a type are the same.
     #[tactic(auto, using(crate::proofs::KindLemmas::no_int_stays, crate::proofs::KindLemmas::no_text_stays, crate::proofs::KindLemmas::no_flag_stays, crate::proofs::KindLemmas::no_activity_stays, crate::proofs::KindLemmas::no_timer_stays, crate::proofs::KindLemmas::activity_given, crate::proofs::KindLemmas::timer_given))]
-    fn same_values(&self, kind: Kind, x: &Val, y: &Val) -> Result<bool, Stop>
-        ensures { Agrees (same_values kind x.now y.now) self.now self.now result }
+    fn same_values(&self, kind: Kind, x: Lent, y: Lent) -> Result<bool, Stop>
+        ensures { Agrees (same_values kind (value_lent x.entry) (value_lent y.entry)) self.now self.now result }
     {
         match kind {
             Kind::Int => Ok(int_of(x)? == int_of(y)?),
@@ -75,12 +87,12 @@ impl Machine {
 
     /// Whether one value is below another, texts in byte order.
     #[tactic(auto, using(crate::proofs::KindLemmas::no_int_stays, crate::proofs::KindLemmas::no_text_stays))]
-    fn is_less(&self, scale: Scale, x: &Val, y: &Val) -> Result<bool, Stop>
-        ensures { Agrees (is_less scale x.now y.now) self.now self.now result }
+    fn is_less(&self, scale: Scale, x: Lent, y: Lent) -> Result<bool, Stop>
+        ensures { Agrees (is_less scale (value_lent x.entry) (value_lent y.entry)) self.now self.now result }
     {
         match scale {
             Scale::Int => Ok(int_of(x)? < int_of(y)?),
-            Scale::Text => Ok(text_of(x)?.compare(text_of(y)?) == Ordering::Less),
+            Scale::Text => Ok(text_of(x)?.cmp(text_of(y)?) == Ordering::Less),
         }
     }
 
@@ -119,8 +131,8 @@ impl Machine {
     }
 
     /// A comparison of two values.
-    pub fn compare(&self, test: Test, x: &Val, y: &Val) -> Result<bool, Stop>
-        ensures { AgreesAs flag (compare test x.now y.now) self.now self.now result }
+    pub fn compare(&self, test: Test, x: Lent, y: Lent) -> Result<bool, Stop>
+        ensures { AgreesAs flag (compare test (value_lent x.entry) (value_lent y.entry)) self.now self.now result }
     {
         match test {
             Test::Same(kind) => self.same_values(kind, x, y),

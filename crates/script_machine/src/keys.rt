@@ -1,5 +1,5 @@
 //! Keys: whether one is that which is asked for, whether one was observed, and the answer that was kept for one.
-ghost use Rattle.std.specs.Prelude.{◌≡◌};
+ghost use Rattle.std.specs.Prelude.{◌≡◌, ◌||◌, slice_get};
 ghost use Rattle.std.specs.List.{list_any};
 ghost use Rattle.std.specs.Option.{option_copied};
 ghost use Rattle.handler_meaning.specs.Seeing.{same_key};
@@ -11,6 +11,7 @@ use handler_meaning::{Key, Seen};
 
 /// Whether a key is that which is asked for.
 #[tactic(auto, using(crate::proofs::KeyLemmas::names_turned, crate::proofs::KeyLemmas::numbers_turned))]
+#[inline(always)]
 pub(crate) fn is_asked(one: &Key, asked: &Asked) -> bool
     ensures is { result ≡ same_key one.now (key_asked asked.now) }
     ensures turned { result ≡ same_key (key_asked asked.now) one.now }
@@ -35,6 +36,7 @@ pub(crate) fn is_asked(one: &Key, asked: &Asked) -> bool
 }
 
 /// Whether one of these keys is that which is asked for.
+#[inline(never)]
 pub(crate) fn has_key(keys: &[Key], asked: &Asked) -> bool
     ensures { result ≡ list_any (same_key (key_asked asked.now)) keys.now }
 {
@@ -46,14 +48,59 @@ pub(crate) fn has_key(keys: &[Key], asked: &Asked) -> bool
     false
 }
 
-/// The answer that was kept for the key that is asked for.
-pub(crate) fn kept_answer<'a>(known: &'a [(Key, Seen)], asked: &Asked) -> Option<&'a Seen>
-    ensures { option_copied result ≡ kept known.now (key_asked asked.now) }
+fn key_at(keys: &[Key], place: usize) -> Option<&Key>
+    ensures { option_copied result ≡ slice_get keys.now place }
 {
-    for (key, seen) in known {
+    keys.get(place)
+}
+
+/// The same, where it may well be the key in this place.
+#[inline(always)]
+#[tactic(auto, using(crate::proofs::KeyLemmas::any_there))]
+fn has_key_near(keys: &[Key], place: usize, asked: &Asked) -> bool
+    ensures { result ≡ list_any (same_key (key_asked asked.now)) keys.now }
+{
+    match key_at(keys, place) {
+        Some(key) if is_asked(key, asked) => true,
+        _ => has_key(keys, asked),
+    }
+}
+
+/// Whether one of these keys, those before first, is that which is asked for. It may well be the one in this place.
+#[inline(always)]
+#[tactic(auto, using(crate::proofs::KeyLemmas::either_turned))]
+pub(crate) fn is_counted(before: &[Key], own: &[Key], place: usize, asked: &Asked) -> bool
+    ensures { result ≡ (list_any (same_key (key_asked asked.now)) before.now || list_any (same_key (key_asked asked.now)) own.now) }
+{
+    if place < before.len() {
+        return has_key_near(before, place, asked) || has_key(own, asked);
+    }
+    has_key_near(own, place - before.len(), asked) || has_key(before, asked)
+}
+
+/// What was kept for a key: the answer, if there is one, and how many stand before it.
+#[derive(Debug, Clone, Copy)]
+pub(crate) struct Kept<'a> {
+    pub(crate) seen: Option<&'a Seen>,
+    pub(crate) place: usize,
+}
+
+/// The answer that was kept for the key that is asked for.
+#[inline(always)]
+pub(crate) fn kept_answer<'a>(known: &'a [(Key, Seen)], asked: &Asked) -> Kept<'a>
+    ensures { option_copied result.seen ≡ kept known.now (key_asked asked.now) }
+{
+    'known: for place in 0..known.len() {
+        let (key, seen) = &known[place];
         if is_asked(key, asked) {
-            return Some(seen);
+            return Kept {
+                seen: Some(seen),
+                place,
+            };
         }
     }
-    None
+    Kept {
+        seen: None,
+        place: known.len(),
+    }
 }

@@ -2,10 +2,11 @@
 ghost use Rattle.handler_meaning.specs.Values.{int, text, flag, activity_value};
 ghost use Rattle.slee_effect.specs.declared.value.Val.TheVariants.{Plain};
 ghost use Rattle.script_machine.specs.Kinds.{Reads, Finds, NoInt, NoText, NoFlag, NoActivity, NoTimer, timer_value};
+ghost use Rattle.script_machine.specs.Lending.{value_lent};
 
-use crate::Stop;
+use crate::{Lent, Stop};
 use slee_effect::{Ref, Val};
-use slee_value::{ActivityId, Text, TimerId, Value};
+use slee_value::{ActivityId, Kind, TimerId, Value};
 
 /// The number in a value, if it is one.
 pub fn int_in(value: &Value) -> Option<i64>
@@ -67,38 +68,8 @@ pub fn flag_within(value: &Val) -> Option<bool>
     }
 }
 
-/// The number that a value is.
-pub fn int_of(value: &Val) -> Result<i64, Stop>
-    ensures { Reads int NoInt value.now result }
-{
-    match value {
-        Val::Plain(Value::Int(number)) => Ok(*number),
-        _ => Err(Stop::Unchecked),
-    }
-}
-
-/// The text that a value is.
-pub fn text_of(value: &Val) -> Result<&Text, Stop>
-    ensures { Reads (λ t. text t.now) NoText value.now result }
-{
-    match value {
-        Val::Plain(Value::Text(text)) => Ok(text),
-        _ => Err(Stop::Unchecked),
-    }
-}
-
-/// The truth value that a value is.
-pub fn flag_of(value: &Val) -> Result<bool, Stop>
-    ensures { Reads flag NoFlag value.now result }
-{
-    match value {
-        Val::Plain(Value::Bool(flag)) => Ok(*flag),
-        _ => Err(Stop::Unchecked),
-    }
-}
-
-/// The activity that a value is.
-pub fn activity_of(value: &Val) -> Result<Ref, Stop>
+/// The activity in a value of a run.
+fn activity_within(value: &Val) -> Result<Ref, Stop>
     ensures { Reads activity_value NoActivity value.now result }
 {
     match value {
@@ -108,13 +79,87 @@ pub fn activity_of(value: &Val) -> Result<Ref, Stop>
     }
 }
 
-/// The timer that a value is.
-pub fn timer_of(value: &Val) -> Result<Ref, Stop>
+/// The activity in a value.
+fn activity_in(value: &Value) -> Result<Ref, Stop>
+    ensures { Reads activity_value NoActivity (Plain value.now) result }
+{
+    match value {
+        Value::Activity(ActivityId(number)) => Ok(Ref::Known(*number)),
+        _ => Err(Stop::Unchecked),
+    }
+}
+
+/// The timer in a value of a run.
+fn timer_within(value: &Val) -> Result<Ref, Stop>
     ensures { Reads timer_value NoTimer value.now result }
 {
     match value {
         Val::Plain(Value::Timer(TimerId(number))) => Ok(Ref::Known(*number)),
         Val::NewTimer(number) => Ok(Ref::Fresh(*number)),
         _ => Err(Stop::Unchecked),
+    }
+}
+
+/// The timer in a value.
+fn timer_in(value: &Value) -> Result<Ref, Stop>
+    ensures { Reads timer_value NoTimer (Plain value.now) result }
+{
+    match value {
+        Value::Timer(TimerId(number)) => Ok(Ref::Known(*number)),
+        _ => Err(Stop::Unchecked),
+    }
+}
+
+/// The number that a value is.
+pub fn int_of(value: Lent) -> Result<i64, Stop>
+    ensures { Reads int NoInt (value_lent value.entry) result }
+{
+    match value.number() {
+        Some(number) => Ok(number),
+        None => Err(Stop::Unchecked),
+    }
+}
+
+/// The text that a value is.
+pub fn text_of(value: Lent) -> Result<&str, Stop>
+    ensures { Reads (λ t. text t.now) NoText (value_lent value.entry) result }
+{
+    match value.text() {
+        Some(text) => Ok(text),
+        None => Err(Stop::Unchecked),
+    }
+}
+
+/// The truth value that a value is.
+pub fn flag_of(value: Lent) -> Result<bool, Stop>
+    ensures { Reads flag NoFlag (value_lent value.entry) result }
+{
+    match value.flag() {
+        Some(flag) => Ok(flag),
+        None => Err(Stop::Unchecked),
+    }
+}
+
+/// The activity that a value is.
+pub fn activity_of(value: Lent) -> Result<Ref, Stop>
+    ensures { Reads activity_value NoActivity (value_lent value.entry) result }
+{
+    match value {
+        Lent::Set(value) => activity_within(value),
+        Lent::Held(value) => activity_in(value),
+        Lent::Initial(Kind::Activity) => Ok(Ref::Known(0)),
+        Lent::Text(_) | Lent::Initial(_) => Err(Stop::Unchecked),
+    }
+}
+
+/// The timer that a value is.
+pub fn timer_of(value: Lent) -> Result<Ref, Stop>
+    ensures { Reads timer_value NoTimer (value_lent value.entry) result }
+{
+    match value {
+        Lent::Set(value) => timer_within(value),
+        Lent::Held(value) => timer_in(value),
+        Lent::Initial(Kind::Timer) => Ok(Ref::Known(0)),
+        Lent::Text(_) | Lent::Initial(_) => Err(Stop::Unchecked),
     }
 }

@@ -9,27 +9,34 @@ mod effects;
 mod frames;
 mod keys;
 mod kinds;
+mod lent;
 mod machine;
 mod observing;
 mod operators;
+mod places;
+mod scalars;
 mod scene;
 mod stop;
 mod texts;
 mod variable;
 mod variables;
 
-pub use arithmetic::is_arithmetic;
+pub use arithmetic::{is_arithmetic, is_choice};
 pub use asked::Asked;
-pub use comparing::{is_decided, is_of_numbers, is_same_ref};
+pub use comparing::{is_decided, is_decided_flag, is_of_numbers, is_same_ref};
 pub use effects::{EFFECT_BYTES_LIMIT, EFFECT_LIMIT};
 pub use frames::Finished;
 pub use kinds::{
     activity_of, flag_in, flag_of, flag_within, int_in, int_of, int_within, text_in, text_of,
     text_within, timer_of,
 };
+pub use lent::{Lent, initial, is_of};
 pub use machine::{Machine, UNIT_LIMIT};
-pub use observing::KEY_LIMIT;
+pub use observing::{KEY_LIMIT, Looked};
+pub use places::{Place, set_at};
+pub use scalars::Scalar;
 pub use scene::Scene;
 pub use stop::Stop;
 pub use texts::TEXT_LIMIT;
 pub use variable::Variable;
+pub use variables::is_removed;

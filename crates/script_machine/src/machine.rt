@@ -3,6 +3,7 @@ ghost use Rattle.std.specs.Prelude.{◌≡◌, ◌≤◌, ◌+◌, OnOk, OnErr, 
 ghost use Rattle.handler_meaning.specs.Running.{tick, declare, assign};
 ghost use Rattle.handler_meaning.specs.Meaning.{start};
 ghost use Rattle.script_machine.specs.Agreeing.{Agrees};
+ghost use Rattle.script_machine.specs.Lending.{standing};
 
 use crate::{Stop, Variable};
 use handler_meaning::{FailKind, Key};
@@ -52,10 +53,12 @@ impl Machine {
     }
 
     /// Spends one unit.
+    #[tactic(auto, unfolding(crate::specs::Lending::standing))]
     pub fn tick(&mut self) -> Result<(), Stop>
         ensures agrees { Agrees tick self.old self.new result }
         ensures less { OnOk result (self.new.left + 1 ≡ self.old.left) }
         ensures spent { self.new.left ≤ self.old.left }
+        ensures kept { standing self.new ≡ standing self.old }
     {
         if self.left == 0 {
             return Err(Stop::Broken(FailKind::Budget));

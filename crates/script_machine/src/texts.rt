@@ -4,9 +4,10 @@ ghost use Rattle.std.specs.Fmt.{signed_decimal};
 ghost use Rattle.handler_meaning.specs.Values.{two_texts, joined, text_of_int, text_of_bool, with_text, int, text};
 ghost use Rattle.handler_meaning.specs.Running.{give};
 ghost use Rattle.script_machine.specs.Agreeing.{Agrees, AgreesAs};
+ghost use Rattle.script_machine.specs.Lending.{value_lent};
 
 use crate::kinds::{flag_of, int_of, text_of};
-use crate::{Machine, Stop};
+use crate::{Lent, Machine, Stop};
 use handler_meaning::FailKind;
 use slee_effect::Val;
 use slee_value::{NoMemory, Text, Value};
@@ -23,7 +24,7 @@ fn decimal(alloc: Global, n: i64) -> Result<Text, NoMemory>
 
 impl Machine {
     /// Two texts as one.
-    pub fn joined(&self, alloc: Global, m: &str, n: &str) -> Result<Text, Stop>
+    fn joined(&self, alloc: Global, m: &str, n: &str) -> Result<Text, Stop>
         ensures { AgreesAs text (joined m.now n.now) self.now self.now result }
     {
         if m.len() > TEXT_LIMIT || n.len() > TEXT_LIMIT - m.len() {
@@ -37,19 +38,19 @@ impl Machine {
 
     /// Two values as one text, which are to be texts.
     #[tactic(auto, using(crate::proofs::KindLemmas::no_text_stays))]
-    pub(crate) fn joined_values(&self, alloc: Global, x: &Val, y: &Val) -> Result<Val, Stop>
-        ensures { Agrees (two_texts joined x.now y.now) self.now self.now result }
+    pub(crate) fn joined_values(&self, alloc: Global, x: Lent, y: Lent) -> Result<Val, Stop>
+        ensures { Agrees (two_texts joined (value_lent x.entry) (value_lent y.entry)) self.now self.now result }
     {
         let m = text_of(x)?;
         let n = text_of(y)?;
-        let whole = self.joined(alloc, m.as_str(), n.as_str())?;
+        let whole = self.joined(alloc, m, n)?;
         Ok(Val::Plain(Value::Text(whole)))
     }
 
     /// A number as text.
     #[tactic(auto, using(crate::proofs::KindLemmas::no_int_stays))]
-    pub fn text_of_int(&self, alloc: Global, x: &Val) -> Result<Val, Stop>
-        ensures { Agrees (text_of_int x.now) self.now self.now result }
+    pub fn text_of_int(&self, alloc: Global, x: Lent) -> Result<Val, Stop>
+        ensures { Agrees (text_of_int (value_lent x.entry)) self.now self.now result }
     {
         let n = int_of(x)?;
         Ok(Val::Plain(Value::Text(decimal(alloc, n)?)))
@@ -57,8 +58,8 @@ impl Machine {
 
     /// A truth value as text.
     #[tactic(auto, using(crate::proofs::KindLemmas::no_flag_stays))]
-    pub fn text_of_bool(&self, alloc: Global, x: &Val) -> Result<Val, Stop>
-        ensures { Agrees (text_of_bool x.now) self.now self.now result }
+    pub fn text_of_bool(&self, alloc: Global, x: Lent) -> Result<Val, Stop>
+        ensures { Agrees (text_of_bool (value_lent x.entry)) self.now self.now result }
     {
         let word = if flag_of(x)? { "true" } else { "false" };
         Ok(Val::Plain(Value::Text(Text::from_str(alloc, word)?)))

@@ -10,9 +10,8 @@ use crate::comparing::is_same_ref;
 use crate::{Machine, Scene, Stop, Variable};
 use handler_meaning::FailKind;
 use slee_effect::{Effect, Ref, Val};
-use std::alloc::Global;
 
-fn variable_at(variables: &[Variable], place: usize) -> Option<&Variable>
+pub(crate) fn variable_at(variables: &[Variable], place: usize) -> Option<&Variable>
     ensures { option_copied result ≡ slice_get variables.now place }
 {
     variables.get(place)
@@ -29,7 +28,7 @@ fn removes(entity: Ref, effect: &Effect) -> bool
 }
 
 /// Whether one of these effects removes the entity.
-fn is_removed(entity: Ref, effects: &[Effect]) -> bool
+pub fn is_removed(entity: Ref, effects: &[Effect]) -> bool
     ensures { result ≡ is_removed entity effects.now }
 {
     effects.iter().any(|effect| removes(entity, effect))
@@ -48,13 +47,6 @@ impl Machine {
             Some(value) => Ok(value),
             None => Err(Stop::Unchecked),
         }
-    }
-
-    /// The value of the variable in this place.
-    pub fn value(&self, alloc: Global, place: usize) -> Result<Val, Stop>
-        ensures { Agrees (read.value place) self.now self.now result }
-    {
-        Ok(self.variable_value(place)?.copy(alloc)?)
     }
 
     /// The child for which the variable in this place stands, which is gone where this run removed it.

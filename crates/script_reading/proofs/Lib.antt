@@ -1,3 +1,4 @@
 pub mod OverlayLemmas
 pub mod CountLemmas
 pub mod MaskLemmas
+pub mod CountingLemmas

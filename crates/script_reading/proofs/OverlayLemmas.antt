@@ -1,12 +1,22 @@
 -- Effects done in order, where it doesn't matter how many things were made before.
-use Rattle.std.proofs.Common.{◌≡◌, ℕ, ◌+◌, Bool, true, false, ◌&&◌, cond, List, [], ◌∷◌, ◌++◌, Option, Some, None, refl, ap, ◌∙◌}
-use Rattle.std.specs.Prelude.{bytes_eq, unwrap_or}
+use Rattle.std.proofs.Common.{◌≡◌, ◌<◌, ℕ, suc, ◌+◌, ◌-◌, Bool, true, false, ◌&&◌, cond, List, [], ◌∷◌, ◌++◌, length, take, get_or, Option, Some, None, refl, sym, ap, ◌∙◌, arith}
+use Rattle.std.proofs.Math.Seq.{take-suc}
+use Rattle.std.proofs.lemmas.Option.{slice_get_read}
+use Rattle.script_machine.specs.Lending.{set_by}
+use Rattle.std.specs.Prelude.{bytes_eq, unwrap_or, slice_get}
 use Rattle.slee_effect.specs.declared.reference.Ref.{Ref}
 use Rattle.slee_effect.specs.declared.value.Val.{Val}
 use Rattle.slee_effect.specs.declared.effect.Effect.{Effect}
 use Rattle.slee_effect.specs.declared.effect.Effect.TheVariants as ef
 use Rattle.handler_meaning.specs.Overlay.{same_ref, overlay, overlay_from, field_after, attr_after, attached_after, named_after, activities_after, entities_by, activities_by}
-use Rattle.script_reading.specs.Done.{done, field_set, attribute_set}
+use Rattle.slee_value.specs.declared.kind.Kind.{Kind}
+use Rattle.handler_meaning.specs.declared.key.Key.TheVariants as k
+use Rattle.handler_meaning.specs.declared.seen.Seen.{Seen}
+use Rattle.handler_meaning.specs.Answers.{fit, held_in}
+use Rattle.handler_meaning.specs.Observing as read
+use Rattle.handler_meaning.specs.Observing.{key_of}
+use Rattle.handler_meaning.specs.Running.{Setting, State, Ending, Gave, then_run, look}
+use Rattle.script_reading.specs.Done.{done, sets_field, sets_attribute, set_behind, last_set}
 
 plain : {A : Type 0} (makes : Effect → ℕ) (does : ℕ → Effect → A → A) → ((n : ℕ) (e : Effect) (x : A) → does n e x ≡ does 0 e x) → (n : ℕ) (es : List Effect) (x : A) → overlay_from makes does n es x ≡ done (does 0) es x
 plain makes does same n [] x = refl
@@ -75,25 +85,59 @@ chosen true value x last = refl
 chosen false value x last = refl
 
 -- what effects make of a value is that which they set last, or the value itself
-set_last : (does : Effect → Val → Val) (sets : Effect → Option Val → Option Val) → ((e : Effect) (last : Option Val) (x : Val) → does e (unwrap_or last x) ≡ unwrap_or (sets e last) x) → (es : List Effect) (last : Option Val) (x : Val) → done does es (unwrap_or last x) ≡ unwrap_or (done sets es last) x
+set_last : (does : Effect → Val → Val) (sets : Effect → Bool) → ((e : Effect) (last : Option Val) (x : Val) → does e (unwrap_or last x) ≡ unwrap_or (set_behind sets e last) x) → (es : List Effect) (last : Option Val) (x : Val) → done does es (unwrap_or last x) ≡ unwrap_or (done (set_behind sets) es last) x
 set_last does sets one [] last x = refl
-set_last does sets one (e ∷ es) last x = ap (done does es) (one e last x) ∙ set_last does sets one es (sets e last) x
+set_last does sets one (e ∷ es) last x = ap (done does es) (one e last x) ∙ set_last does sets one es (set_behind sets e last) x
 
-field_one : (who : Ref) (name : List ℕ) (e : Effect) (last : Option Val) (x : Val) → field_after who name 0 e (unwrap_or last x) ≡ unwrap_or (field_set who name e last) x
+field_one : (who : Ref) (name : List ℕ) (e : Effect) (last : Option Val) (x : Val) → field_after who name 0 e (unwrap_or last x) ≡ unwrap_or (set_behind (sets_field who name) e last) x
 field_one who name (ef.SetField p q r) last x = chosen (same_ref p who && bytes_eq q name) r x last
 field_one who name other last x = refl
 
 -- a field behind effects of two lists
-pub field_read : (who : Ref) (name : List ℕ) (xs ys : List Effect) (x : Val) → overlay entities_by (field_after who name) (xs ++ ys) x ≡ unwrap_or (done (field_set who name) ys None) (unwrap_or (done (field_set who name) xs None) x)
-field_read who name xs ys x = field_laid who name xs ys x ∙ ap (done (field_after who name 0) ys) (set_last (field_after who name 0) (field_set who name) (field_one who name) xs None x) ∙ set_last (field_after who name 0) (field_set who name) (field_one who name) ys None (unwrap_or (done (field_set who name) xs None) x)
+pub field_read : (who : Ref) (name : List ℕ) (xs ys : List Effect) (x : Val) → overlay entities_by (field_after who name) (xs ++ ys) x ≡ unwrap_or (last_set (sets_field who name) ys) (unwrap_or (last_set (sets_field who name) xs) x)
+field_read who name xs ys x = field_laid who name xs ys x ∙ ap (done (field_after who name 0) ys) (set_last (field_after who name 0) (sets_field who name) (field_one who name) xs None x) ∙ set_last (field_after who name 0) (sets_field who name) (field_one who name) ys None (unwrap_or (last_set (sets_field who name) xs) x)
 
-attribute_one : (who : Ref) (name : List ℕ) (e : Effect) (last : Option Val) (x : Val) → attr_after who name 0 e (unwrap_or last x) ≡ unwrap_or (attribute_set who name e last) x
+-- a field of the kind that is asked for, where its key was looked for
+pub field_given : (s : Setting) (name : List ℕ) (q : Kind) (old new : State) (seen : Option Seen) (x : Val) → look s (key_of (λ n. k.Field (record { 0 = n }) name) s.me) old ≡ Gave seen new → x ≡ fit q (unwrap_or (last_set (sets_field s.me name) new.effects) (unwrap_or (last_set (sets_field s.me name) s.effects) (held_in q seen))) → read.field s name q old ≡ Gave x new
+field_given s name q old new seen x given is = ap (λ (e : Ending (Option Seen)). then_run e (λ seen st. Gave (fit q (overlay entities_by (field_after s.me name) (s.effects ++ st.effects) (held_in q seen))) st)) given ∙ ap (λ (y : Val). Gave (fit q y) new) (field_read s.me name s.effects new.effects (held_in q seen)) ∙ ap (λ (y : Val). Gave y new) (sym is)
+
+attribute_one : (who : Ref) (name : List ℕ) (e : Effect) (last : Option Val) (x : Val) → attr_after who name 0 e (unwrap_or last x) ≡ unwrap_or (set_behind (sets_attribute who name) e last) x
 attribute_one who name (ef.SetAttr p q r) last x = chosen (same_ref p who && bytes_eq q name) r x last
 attribute_one who name other last x = refl
 
 -- an attribute behind effects of two lists
-pub attribute_read : (who : Ref) (name : List ℕ) (xs ys : List Effect) (x : Val) → overlay activities_by (attr_after who name) (xs ++ ys) x ≡ unwrap_or (done (attribute_set who name) ys None) (unwrap_or (done (attribute_set who name) xs None) x)
-attribute_read who name xs ys x = attribute_laid who name xs ys x ∙ ap (done (attr_after who name 0) ys) (set_last (attr_after who name 0) (attribute_set who name) (attribute_one who name) xs None x) ∙ set_last (attr_after who name 0) (attribute_set who name) (attribute_one who name) ys None (unwrap_or (done (attribute_set who name) xs None) x)
+pub attribute_read : (who : Ref) (name : List ℕ) (xs ys : List Effect) (x : Val) → overlay activities_by (attr_after who name) (xs ++ ys) x ≡ unwrap_or (last_set (sets_attribute who name) ys) (unwrap_or (last_set (sets_attribute who name) xs) x)
+attribute_read who name xs ys x = attribute_laid who name xs ys x ∙ ap (done (attr_after who name 0) ys) (set_last (attr_after who name 0) (sets_attribute who name) (attribute_one who name) xs None x) ∙ set_last (attr_after who name 0) (sets_attribute who name) (attribute_one who name) ys None (unwrap_or (last_set (sets_attribute who name) xs) x)
+
+-- an attribute of the kind that is asked for, where its key was looked for
+pub attribute_given : (s : Setting) (key : List ℕ) (q : Kind) (a : Ref) (old new : State) (seen : Option Seen) (x : Val) → look s (key_of (λ n. k.Attr (record { 0 = n }) key) a) old ≡ Gave seen new → x ≡ fit q (unwrap_or (last_set (sets_attribute a key) new.effects) (unwrap_or (last_set (sets_attribute a key) s.effects) (held_in q seen))) → read.attribute s key q a old ≡ Gave x new
+attribute_given s key q a old new seen x given is = ap (λ (e : Ending (Option Seen)). then_run e (λ seen st. Gave (fit q (overlay activities_by (attr_after a key) (s.effects ++ st.effects) (held_in q seen))) st)) given ∙ ap (λ (y : Val). Gave (fit q y) new) (attribute_read a key s.effects new.effects (held_in q seen)) ∙ ap (λ (y : Val). Gave y new) (sym is)
+
+-- the effect in a place is the last one of those up to there
+pub set_there : (sets : Effect → Bool) (es : List Effect) (i : ℕ) (e : Effect) → i < length es → e ≡ get_or es i e → last_set sets (take (suc i) es) ≡ set_behind sets e (last_set sets (take i es))
+set_there sets es i e lt is = ap (λ (xs : List Effect). last_set sets xs) (take-suc es i e lt) ∙ behind (set_behind sets) (take i es) (get_or es i e ∷ []) None ∙ ap (λ (y : Effect). set_behind sets y (last_set sets (take i es))) (sym is)
+
+-- looking from the last effect on, at an effect that sets it
+pub set_found : (sets : Effect → Bool) (es : List Effect) (behind : ℕ) (e : Effect) (total : Option Val) → behind < length es → e ≡ get_or es (length es - 1 - behind) e → last_set sets (take (length es - behind) es) ≡ total → sets e ≡ true → Some (set_by (slice_get es (length es - 1 - behind))) ≡ total
+set_found sets es k e total lt is inv yes_sets =
+    let place : ℕ = length es - 1 - k in
+    let inside : place < length es = omega (arith, lt) in
+    let there : slice_get es place ≡ Some e = slice_get_read es (length es) place e refl inside is in
+    let z : suc place ≡ length es - k = omega (arith, lt) in
+    let step : last_set sets (take (length es - k) es) ≡ set_behind sets e (last_set sets (take place es)) = ap (λ (n : ℕ). last_set sets (take n es)) (sym z) ∙ set_there sets es place e inside is in
+    let given : set_behind sets e (last_set sets (take place es)) ≡ Some (set_by (Some e)) = ap (λ (b : Bool). cond b (Some (set_by (Some e))) (last_set sets (take place es))) yes_sets in
+    ap (λ (x : Option Effect). Some (set_by x)) there ∙ sym given ∙ sym step ∙ inv
+
+-- and at one that doesn't
+pub set_passed : (sets : Effect → Bool) (es : List Effect) (behind : ℕ) (e : Effect) (total : Option Val) → behind < length es → e ≡ get_or es (length es - 1 - behind) e → last_set sets (take (length es - behind) es) ≡ total → sets e ≡ false → last_set sets (take (length es - (behind + 1)) es) ≡ total
+set_passed sets es k e total lt is inv no_sets =
+    let place : ℕ = length es - 1 - k in
+    let inside : place < length es = omega (arith, lt) in
+    let z : suc place ≡ length es - k = omega (arith, lt) in
+    let w : length es - (k + 1) ≡ place = omega (arith, lt) in
+    let step : last_set sets (take (length es - k) es) ≡ set_behind sets e (last_set sets (take place es)) = ap (λ (n : ℕ). last_set sets (take n es)) (sym z) ∙ set_there sets es place e inside is in
+    let given : set_behind sets e (last_set sets (take place es)) ≡ last_set sets (take place es) = ap (λ (b : Bool). cond b (Some (set_by (Some e))) (last_set sets (take place es))) no_sets in
+    ap (λ (n : ℕ). last_set sets (take n es)) w ∙ sym given ∙ sym step ∙ inv
 
 attached_same : (who on : Ref) (n : ℕ) (eff : Effect) (x : Bool) → attached_after who on n eff x ≡ attached_after who on 0 eff x
 attached_same who on n (ef.SetField p q r) x = refl

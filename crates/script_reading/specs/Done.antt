@@ -1,20 +1,34 @@
 -- Effects done in order, where it doesn't matter how many things they make.
-use Rattle.std.specs.Prelude.{ℕ, ◌&&◌, List, [], ◌∷◌, Option, Some, bytes_eq, if◌then◌else◌}
+use Rattle.std.specs.Prelude.{ℕ, Bool, false, ◌&&◌, List, [], ◌∷◌, Option, Some, None, bytes_eq, if◌then◌else◌}
 use Rattle.slee_effect.specs.declared.reference.Ref.{Ref}
 use Rattle.slee_effect.specs.declared.value.Val.{Val}
 use Rattle.slee_effect.specs.declared.effect.Effect.{Effect}
 use Rattle.slee_effect.specs.declared.effect.Effect.TheVariants as ef
 use Rattle.handler_meaning.specs.Overlay.{same_ref}
+use Rattle.script_machine.specs.Lending.{set_by}
+use Rattle.script_reading.specs.declared.fields.Property.{Property}
+use Rattle.script_reading.specs.declared.fields.Property.TheVariants as property
 
 abbrev pub done : {A : Type 0} → (Effect → A → A) → List Effect → A → A
 done does [] x = x
 done does (e ∷ es) x = done does es (does e x)
 
--- the value to which a field or an attribute was last set, behind one effect more
-abbrev pub field_set : Ref → List ℕ → Effect → Option Val → Option Val
-field_set e name (ef.SetField entity other value) last = if same_ref entity e && bytes_eq other name then Some value else last
-field_set e name other last = last
+-- whether an effect gives a value to a field or an attribute
+abbrev pub sets_field : Ref → List ℕ → Effect → Bool
+sets_field e name (ef.SetField entity other value) = same_ref entity e && bytes_eq other name
+sets_field e name other = false
 
-abbrev pub attribute_set : Ref → List ℕ → Effect → Option Val → Option Val
-attribute_set a key (ef.SetAttr activity other value) last = if same_ref activity a && bytes_eq other key then Some value else last
-attribute_set a key other last = last
+abbrev pub sets_attribute : Ref → List ℕ → Effect → Bool
+sets_attribute a key (ef.SetAttr activity other value) = same_ref activity a && bytes_eq other key
+sets_attribute a key other = false
+
+abbrev pub sets_property : Property → Effect → Bool
+sets_property (property.Field e name) effect = sets_field e name.now effect
+sets_property (property.Attribute a key) effect = sets_attribute a key.now effect
+
+-- the value that was set last, behind one effect more, and behind all
+abbrev pub set_behind : (Effect → Bool) → Effect → Option Val → Option Val
+set_behind sets e last = if sets e then Some (set_by (Some e)) else last
+
+abbrev pub last_set : (Effect → Bool) → List Effect → Option Val
+last_set sets es = done (set_behind sets) es None

@@ -2,4 +2,4 @@ pub mod Things
 pub mod Done
 pub mod Masked
 pub mod Rows
-pub mod Lending
+pub mod Counting

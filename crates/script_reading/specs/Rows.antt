@@ -1,19 +1,24 @@
--- What is asked of a row of a profile table.
-use Rattle.std.specs.Prelude.{ℕ, List, is_some}
+-- What is asked of a row of a profile table, whose name is a value that has to be a text.
+use Rattle.std.specs.Prelude.{ℕ, List, Option, is_some}
 use Rattle.slee_value.specs.declared.kind.Kind.{Kind}
+use Rattle.slee_value.specs.declared.value.Value.{Value}
 use Rattle.slee_effect.specs.declared.value.Val.{Val}
 use Rattle.handler_meaning.specs.Running.{Setting, Run, ◌>>=◌, give}
 use Rattle.handler_meaning.specs.Terms.{row, of_row}
-use Rattle.handler_meaning.specs.Values.{flag}
+use Rattle.handler_meaning.specs.Values.{flag, with_text}
+
+-- the row itself
+abbrev pub row_of : Setting → List ℕ → Val → Run (Option (List (List ℕ × Value)))
+row_of s table x = with_text x (row s table)
 
 -- the value of a row's attribute, which has to be of the kind
-abbrev pub profile_value : Setting → List ℕ → List ℕ → List ℕ → Kind → Run Val
-profile_value s table key name kind = do
-  found ← row s table key
+abbrev pub profile_value : Setting → List ℕ → Val → List ℕ → Kind → Run Val
+profile_value s table x name kind = do
+  found ← row_of s table x
   of_row name kind found
 
 -- whether the row is there
-abbrev pub has_profile : Setting → List ℕ → List ℕ → Run Val
-has_profile s table key = do
-  found ← row s table key
+abbrev pub has_profile : Setting → List ℕ → Val → Run Val
+has_profile s table x = do
+  found ← row_of s table x
   give (flag (is_some found))

@@ -6,6 +6,7 @@ ghost use Rattle.handler_meaning.specs.Observing.{key_of};
 ghost use Rattle.handler_meaning.specs.declared.key.Key.TheVariants as k;
 ghost use Rattle.script_machine.specs.Agreeing.{Agrees};
 ghost use Rattle.script_machine.specs.Asking.{key_asked};
+ghost use Rattle.script_machine.specs.Lending.{standing};
 ghost use Rattle.script_machine.specs.Settings.{setting_of};
 
 use crate::answers::activity_in;
@@ -81,6 +82,7 @@ fn state_key(activity: Ref) -> Option<Asked<'static>>
 pub fn state_of(machine: &mut Machine, scene: &Scene, activity: Ref) -> Result<Option<AcSeen>, Stop>
     ensures agrees { Agrees (read.state_of (setting_of scene.now) activity) machine.old machine.new result }
     ensures spent { machine.new.left ≤ machine.old.left }
+    ensures kept { standing machine.new ≡ standing machine.old }
 {
     let seen = machine.look(scene, state_key(activity))?;
     Ok(state_laid(machine, scene, activity, activity_in(seen)))
@@ -90,6 +92,7 @@ pub fn state_of(machine: &mut Machine, scene: &Scene, activity: Ref) -> Result<O
 pub fn used(machine: &mut Machine, scene: &Scene, activity: Ref) -> Result<AcSeen, Stop>
     ensures agrees { Agrees (read.used (setting_of scene.now) activity) machine.old machine.new result }
     ensures spent { machine.new.left ≤ machine.old.left }
+    ensures kept { standing machine.new ≡ standing machine.old }
 {
     match state_of(machine, scene, activity)? {
         Some(seen) => Ok(seen),
@@ -101,6 +104,7 @@ pub fn used(machine: &mut Machine, scene: &Scene, activity: Ref) -> Result<AcSee
 pub fn used_active(machine: &mut Machine, scene: &Scene, activity: Ref) -> Result<AcSeen, Stop>
     ensures agrees { Agrees (read.used_active (setting_of scene.now) activity) machine.old machine.new result }
     ensures spent { machine.new.left ≤ machine.old.left }
+    ensures kept { standing machine.new ≡ standing machine.old }
 {
     let seen = used(machine, scene, activity)?;
     if seen.ending {

@@ -45,6 +45,16 @@ pub(crate) fn refers_in(seen: Option<&Seen>) -> Option<Ref>
     }
 }
 
+/// The numbers of the things of an answer, in its order.
+pub(crate) fn ids_in<'a>(seen: Option<&'a Seen>) -> &'a [u64]
+    ensures { result.now ≡ ids_in (option_copied seen.entry) }
+{
+    match seen {
+        Some(Seen::Ids(ids)) => ids.as_slice(),
+        _ => &[],
+    }
+}
+
 /// The things of an answer, in its order.
 pub(crate) fn known_in(alloc: Global, seen: Option<&Seen>) -> Result<Vec<Ref>, NoMemory>
     ensures { IfOk result (λ refs. refs.items ≡ map ref.Known (ids_in (option_copied seen.entry))) }

@@ -1,63 +1,127 @@
 //! Fields and attributes, with effects done to them.
-ghost use Rattle.std.specs.Prelude.{◌≡◌, ◌≤◌, ◌++◌, option_map, None};
-ghost use Rattle.handler_meaning.specs.Overlay.{field_after, attr_after, overlay, entities_by, activities_by};
+ghost use Rattle.std.specs.Prelude.{◌≡◌, ◌≤◌, option_map, unwrap_or, slice_get};
 ghost use Rattle.std.specs.Option.{option_copied};
-ghost use Rattle.handler_meaning.specs.Answers.{fit, held_in};
-ghost use Rattle.handler_meaning.specs.Values.{int, flag};
+ghost use Rattle.handler_meaning.specs.Answers.{fit, held_in, initial};
 ghost use Rattle.handler_meaning.specs.Observing as read;
 ghost use Rattle.handler_meaning.specs.Observing.{key_of};
 ghost use Rattle.handler_meaning.specs.declared.key.Key.TheVariants as k;
-ghost use Rattle.script_machine.specs.Agreeing.{Agrees, EndsFinding};
+ghost use Rattle.script_machine.specs.Agreeing.{AgreesAs, EndsFinding};
 ghost use Rattle.script_machine.specs.Asking.{key_asked};
-ghost use Rattle.script_machine.specs.Kinds.{NoInt, NoFlag};
+ghost use Rattle.script_machine.specs.Lending.{value_lent, value_at, standing, set_by};
 ghost use Rattle.script_machine.specs.Settings.{setting_of};
-ghost use Rattle.script_reading.specs.Done.{done, field_set, attribute_set};
-ghost use Rattle.script_reading.specs.Lending.{value_lent};
+ghost use Rattle.script_reading.specs.Done.{sets_property, last_set};
 
-use crate::values::Lent;
 use handler_meaning::Seen;
-use script_machine::{Asked, Machine, Scene, Stop, is_same_ref};
-use slee_effect::{Effect, Ref, Val};
+use script_machine::{Asked, Lent, Machine, Place, Scalar, Scene, Stop, is_same_ref, set_at};
+use slee_effect::{Effect, Ref};
 use slee_value::{ActivityId, EntityId, Kind, Name, Text};
 
-/// The last value that effects give to a field, if they give it one.
-fn last_set_field<'a>(entity: Ref, name: &Name, effects: &'a [Effect]) -> Option<&'a Val>
-    ensures { option_copied result ≡ done (field_set entity name.now) effects.now None }
-{
-    let mut last = None;
-    for effect in effects {
-        if let Effect::SetField {
-            entity: other,
-            name: field,
-            value,
-        } = effect
-        {
-            if is_same_ref(*other, entity) && field.as_bytes() == name.as_bytes() {
-                last = Some(value);
-            }
-        }
-    }
-    last
+/// A field of an entity, or an attribute of an activity.
+#[derive(Debug, Clone, Copy)]
+pub(crate) enum Property<'a> {
+    Field(Ref, &'a Name),
+    Attribute(Ref, &'a Text),
 }
 
-/// The last value that effects give to an attribute, if they give it one.
-fn last_set_attribute<'a>(activity: Ref, key: &Text, effects: &'a [Effect]) -> Option<&'a Val>
-    ensures { option_copied result ≡ done (attribute_set activity key.now) effects.now None }
+/// Whether an effect gives a value to the property.
+#[inline(always)]
+fn sets_property(property: Property, effect: &Effect) -> bool
+    ensures { result ≡ sets_property property.entry effect.now }
 {
-    let mut last = None;
-    for effect in effects {
-        if let Effect::SetAttr {
-            activity: other,
-            key: attribute,
-            value,
-        } = effect
-        {
-            if is_same_ref(*other, activity) && attribute.as_bytes() == key.as_bytes() {
-                last = Some(value);
-            }
+    match (property, effect) {
+        (
+            Property::Field(entity, name),
+            Effect::SetField {
+                entity: other,
+                name: field,
+                ..
+            },
+        ) => { is_same_ref(*other, entity) && field.as_bytes() == name.as_bytes() }
+        (
+            Property::Attribute(activity, key),
+            Effect::SetAttr {
+                activity: other,
+                key: attribute,
+                ..
+            },
+        ) => is_same_ref(*other, activity) && attribute.as_bytes() == key.as_bytes(),
+        _ => false,
+    }
+}
+
+/// The place of the last effect that gives a value to the property.
+#[inline(always)]
+fn last_set(property: Property, effects: &[Effect]) -> Option<usize>
+    ensures { option_map (λ i. set_by (slice_get effects.now i)) result ≡ last_set (sets_property property.entry) effects.now }
+{
+    'effects: for behind in 0..effects.len() {
+        let place = effects.len() - 1 - behind;
+        if sets_property(property, &effects[place]) {
+            return Some(place);
         }
     }
-    last
+    None
+}
+
+fn initial_of<'a>(kind: Kind) -> Lent<'a>
+    ensures { value_lent result ≡ initial kind }
+{
+    Lent::Initial(kind)
+}
+
+/// The value of a property that stands outside the machine: in the last effect before the run that gives it one, or in the
+/// answer.
+#[inline(always)]
+fn lend_earlier<'a>(
+    scene: &Scene<'a>,
+    property: Property,
+    kind: Kind,
+    seen: Option<&'a Seen>,
+) -> Lent<'a>
+    ensures { value_lent result ≡ fit kind (unwrap_or (last_set (sets_property property.entry) scene.now.effects.now) (held_in kind (option_copied seen.entry))) }
+{
+    match last_set(property, scene.effects) {
+        Some(place) => set_at(scene.effects, place).fit(kind),
+        None => Lent::held_in(kind, seen).fit(kind),
+    }
+}
+
+/// Where the value of a property stands: in the last effect of the transaction that gives it one, or in the answer.
+#[inline(always)]
+#[tactic(auto, unfolding(script_machine::specs::Lending::standing))]
+fn property_place<'a>(
+    machine: &Machine,
+    scene: &Scene<'a>,
+    property: Property,
+    kind: Kind,
+    seen: Option<&'a Seen>,
+) -> Place<'a>
+    ensures { value_at (standing machine.now) result ≡ fit kind (unwrap_or (last_set (sets_property property.entry) machine.now.effects) (unwrap_or (last_set (sets_property property.entry) scene.now.effects.now) (held_in kind (option_copied seen.entry)))) }
+{
+    let Some(place) = last_set(property, machine.effects()) else {
+        return Place::Outside(lend_earlier(scene, property, kind, seen));
+    };
+    if set_at(machine.effects(), place).is_of(kind) {
+        return Place::Effect(place);
+    }
+    Place::Outside(initial_of(kind))
+}
+
+/// The value of a property, lent where it stands.
+#[inline(always)]
+fn lend_property<'a, 's: 'a>(
+    machine: &'a Machine,
+    scene: &Scene<'s>,
+    property: Property,
+    kind: Kind,
+    seen: Option<&'s Seen>,
+) -> Lent<'a>
+    ensures { value_lent result ≡ fit kind (unwrap_or (last_set (sets_property property.entry) machine.now.effects) (unwrap_or (last_set (sets_property property.entry) scene.now.effects.now) (held_in kind (option_copied seen.entry)))) }
+{
+    match last_set(property, machine.effects()) {
+        Some(place) => set_at(machine.effects(), place).fit(kind),
+        None => lend_earlier(scene, property, kind, seen),
+    }
 }
 
 fn field_key(entity: Ref, name: &Name) -> Option<Asked>
@@ -78,115 +142,74 @@ fn attribute_key(activity: Ref, key: &Text) -> Option<Asked>
     }
 }
 
-/// The last value that the effects of the transaction give to a field, or that of the answer.
+/// Where the entity's field of this name stands, of the type that the script has there.
 #[tactic(auto, using(crate::proofs::OverlayLemmas::field_read))]
-fn lend_field<'a, 's: 'a>(
-    machine: &'a Machine,
-    scene: &Scene<'s>,
+pub fn field<'a>(
+    machine: &mut Machine,
+    scene: &Scene<'a>,
     name: &Name,
     kind: Kind,
-    seen: Option<&'a Seen>,
-) -> Lent<'a>
-    ensures { value_lent result ≡ fit kind (overlay entities_by (field_after scene.now.me name.now) (scene.now.effects.now ++ machine.now.effects) (held_in kind (option_copied seen.entry))) }
-{
-    if let Some(value) = last_set_field(scene.me, name, machine.effects()) {
-        return Lent::Set(value).fit(kind);
-    }
-    if let Some(value) = last_set_field(scene.me, name, scene.effects) {
-        return Lent::Set(value).fit(kind);
-    }
-    Lent::held_in(kind, seen).fit(kind)
-}
-
-/// The entity's field of this name, of the type that the script has there.
-pub fn field(machine: &mut Machine, scene: &Scene, name: &Name, kind: Kind) -> Result<Val, Stop>
-    ensures agrees { Agrees (read.field (setting_of scene.now) name.now kind) machine.old machine.new result }
+) -> Result<Place<'a>, Stop>
+    ensures agrees { AgreesAs (value_at (standing machine.new)) (read.field (setting_of scene.now) name.now kind) machine.old machine.new result }
     ensures spent { machine.new.left ≤ machine.old.left }
+    ensures kept { standing machine.new ≡ standing machine.old }
 {
     let seen = machine.look(scene, field_key(scene.me, name))?;
-    let lent = lend_field(machine, scene, name, kind, seen);
-    Ok(lent.copy(scene.alloc)?)
+    let property = Property::Field(scene.me, name);
+    Ok(property_place(machine, scene, property, kind, seen))
 }
 
-/// The number in the entity's field, if it is one.
-pub fn field_number(
+/// The number or truth value in the entity's field of this name, if it is one.
+#[tactic(auto, using(crate::proofs::OverlayLemmas::field_read))]
+pub fn field_scalar<T: Scalar>(
     machine: &mut Machine,
     scene: &Scene,
     name: &Name,
     kind: Kind,
-) -> Result<Option<i64>, Stop>
-    ensures finds { EndsFinding int NoInt (read.field (setting_of scene.now) name.now kind machine.old) machine.new result }
+) -> Result<Option<T>, Stop>
+    ensures finds { EndsFinding T.value_of T.is_other (read.field (setting_of scene.now) name.now kind machine.old) machine.new result }
     ensures spent { machine.new.left ≤ machine.old.left }
+    ensures kept { standing machine.new ≡ standing machine.old }
 {
     let seen = machine.look(scene, field_key(scene.me, name))?;
-    let lent = lend_field(machine, scene, name, kind, seen);
-    Ok(lent.number())
+    let property = Property::Field(scene.me, name);
+    let lent = lend_property(machine, scene, property, kind, seen);
+    Ok(T::within(lent))
 }
 
-/// The truth value in the entity's field, if it is one.
-pub fn field_flag(
-    machine: &mut Machine,
-    scene: &Scene,
-    name: &Name,
-    kind: Kind,
-) -> Result<Option<bool>, Stop>
-    ensures finds { EndsFinding flag NoFlag (read.field (setting_of scene.now) name.now kind machine.old) machine.new result }
-    ensures spent { machine.new.left ≤ machine.old.left }
-{
-    let seen = machine.look(scene, field_key(scene.me, name))?;
-    let lent = lend_field(machine, scene, name, kind, seen);
-    Ok(lent.flag())
-}
-
-/// The last value that the effects of the transaction give to an attribute, or that of the answer.
+/// Where the activity's attribute of this key stands, of the type that the script has there.
 #[tactic(auto, using(crate::proofs::OverlayLemmas::attribute_read))]
-fn lend_attribute<'a, 's: 'a>(
-    machine: &'a Machine,
-    scene: &Scene<'s>,
+pub fn attribute<'a>(
+    machine: &mut Machine,
+    scene: &Scene<'a>,
     key: &Text,
     kind: Kind,
     activity: Ref,
-    seen: Option<&'a Seen>,
-) -> Lent<'a>
-    ensures { value_lent result ≡ fit kind (overlay activities_by (attr_after activity key.now) (scene.now.effects.now ++ machine.now.effects) (held_in kind (option_copied seen.entry))) }
+) -> Result<Place<'a>, Stop>
+    ensures agrees { AgreesAs (value_at (standing machine.new)) (read.attribute (setting_of scene.now) key.now kind activity) machine.old machine.new result }
+    ensures spent { machine.new.left ≤ machine.old.left }
+    ensures kept { standing machine.new ≡ standing machine.old }
 {
-    if let Some(value) = last_set_attribute(activity, key, machine.effects()) {
-        return Lent::Set(value).fit(kind);
-    }
-    if let Some(value) = last_set_attribute(activity, key, scene.effects) {
-        return Lent::Set(value).fit(kind);
-    }
-    Lent::held_in(kind, seen).fit(kind)
+    let seen = machine.look(scene, attribute_key(activity, key))?;
+    let property = Property::Attribute(activity, key);
+    Ok(property_place(machine, scene, property, kind, seen))
 }
 
-/// The activity's attribute of this key, of the type that the script has there.
-pub fn attribute(
+/// The number or truth value in the activity's attribute of this key, if it is one.
+#[tactic(auto, using(crate::proofs::OverlayLemmas::attribute_read))]
+pub fn attribute_scalar<T: Scalar>(
     machine: &mut Machine,
     scene: &Scene,
     key: &Text,
     kind: Kind,
     activity: Ref,
-) -> Result<Val, Stop>
-    ensures agrees { Agrees (read.attribute (setting_of scene.now) key.now kind activity) machine.old machine.new result }
+) -> Result<Option<T>, Stop>
+    ensures finds { EndsFinding T.value_of T.is_other (read.attribute (setting_of scene.now) key.now kind activity machine.old) machine.new result }
     ensures spent { machine.new.left ≤ machine.old.left }
+    ensures kept { standing machine.new ≡ standing machine.old }
 {
     let seen = machine.look(scene, attribute_key(activity, key))?;
-    let lent = lend_attribute(machine, scene, key, kind, activity, seen);
-    Ok(lent.copy(scene.alloc)?)
-}
-
-/// The number in the activity's attribute, if it is one.
-pub fn attribute_number(
-    machine: &mut Machine,
-    scene: &Scene,
-    key: &Text,
-    kind: Kind,
-    activity: Ref,
-) -> Result<Option<i64>, Stop>
-    ensures finds { EndsFinding int NoInt (read.attribute (setting_of scene.now) key.now kind activity machine.old) machine.new result }
-    ensures spent { machine.new.left ≤ machine.old.left }
-{
-    let seen = machine.look(scene, attribute_key(activity, key))?;
-    let lent = lend_attribute(machine, scene, key, kind, activity, seen);
-    Ok(lent.number())
+    let property = Property::Attribute(activity, key);
+    let lent = lend_property(machine, scene, property, kind, seen);
+    Ok(T::within(lent))
 }

@@ -3,6 +3,7 @@
 
 mod activities;
 mod answers;
+mod counts;
 mod fields;
 mod lists;
 mod masks;
@@ -11,14 +12,13 @@ mod refs;
 mod rows;
 mod standing;
 mod things;
-mod values;
 
 pub use activities::{state_of, used, used_active};
-pub use fields::{attribute, attribute_number, field, field_flag, field_number};
+pub use counts::count_children;
+pub use fields::{attribute, attribute_scalar, field, field_scalar};
 pub use lists::{attached_activities, children};
 pub use masks::is_masked;
 pub use numbers::{now, priority};
 pub use rows::{has_profile, profile_value};
-pub use standing::{attached, named, timer};
+pub use standing::{attached, named, named_in, timer};
 pub use things::{Thing, count_made, made_by, next_number};
-pub use values::{Lent, initial, is_of};

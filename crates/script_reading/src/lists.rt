@@ -9,6 +9,7 @@ ghost use Rattle.handler_meaning.specs.Observing.{key_of};
 ghost use Rattle.handler_meaning.specs.declared.key.Key.TheVariants as k;
 ghost use Rattle.script_machine.specs.Agreeing.{AgreesAs};
 ghost use Rattle.script_machine.specs.Asking.{key_asked};
+ghost use Rattle.script_machine.specs.Lending.{standing};
 ghost use Rattle.script_machine.specs.Settings.{setting_of};
 ghost use Rattle.script_reading.specs.Done.{done};
 
@@ -81,7 +82,7 @@ fn children_laid(
     Ok(refs)
 }
 
-fn children_key(entity: Ref, relation: &Name) -> Option<Asked>
+pub(crate) fn children_key(entity: Ref, relation: &Name) -> Option<Asked>
     ensures { option_map key_asked result ≡ key_of (λ n. k.Children (record { 0 = n }) relation.now) entity }
 {
     match entity {
@@ -94,6 +95,7 @@ fn children_key(entity: Ref, relation: &Name) -> Option<Asked>
 pub fn children(machine: &mut Machine, scene: &Scene, relation: &Name) -> Result<Vec<Ref>, Stop>
     ensures agrees { AgreesAs (λ refs. refs.items) (read.children (setting_of scene.now) relation.now) machine.old machine.new result }
     ensures spent { machine.new.left ≤ machine.old.left }
+    ensures kept { standing machine.new ≡ standing machine.old }
 {
     let seen = machine.look(scene, children_key(scene.me, relation))?;
     Ok(children_laid(machine, scene, relation, seen)?)
@@ -154,6 +156,7 @@ fn activities_key(entity: Ref) -> Option<Asked<'static>>
 pub fn attached_activities(machine: &mut Machine, scene: &Scene) -> Result<Vec<Ref>, Stop>
     ensures agrees { AgreesAs (λ refs. refs.items) (read.activities (setting_of scene.now)) machine.old machine.new result }
     ensures spent { machine.new.left ≤ machine.old.left }
+    ensures kept { standing machine.new ≡ standing machine.old }
 {
     let seen = machine.look(scene, activities_key(scene.me))?;
     Ok(activities_laid(machine, scene, seen)?)

@@ -9,6 +9,7 @@ ghost use Rattle.handler_meaning.specs.Values.{flag};
 ghost use Rattle.handler_meaning.specs.declared.key.Key.TheVariants as k;
 ghost use Rattle.script_machine.specs.Agreeing.{AgreesAs};
 ghost use Rattle.script_machine.specs.Asking.{key_asked};
+ghost use Rattle.script_machine.specs.Lending.{standing};
 ghost use Rattle.script_machine.specs.Settings.{setting_of};
 ghost use Rattle.script_reading.specs.Done.{done};
 ghost use Rattle.script_reading.specs.Masked.{masked, mask_in, mask_after};
@@ -135,6 +136,7 @@ pub fn is_masked(
 ) -> Result<bool, Stop>
     ensures agrees { AgreesAs flag (masked (setting_of scene.now) event.now activity) machine.old machine.new result }
     ensures spent { machine.new.left ≤ machine.old.left }
+    ensures kept { standing machine.new ≡ standing machine.old }
 {
     let seen = machine.look(scene, mask_key(scene.me, activity))?;
     match mask_laid(machine, scene, event, activity, seen) {

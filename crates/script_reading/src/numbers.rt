@@ -6,6 +6,7 @@ ghost use Rattle.handler_meaning.specs.Observing.{key_of};
 ghost use Rattle.handler_meaning.specs.declared.key.Key.TheVariants as k;
 ghost use Rattle.script_machine.specs.Agreeing.{Agrees};
 ghost use Rattle.script_machine.specs.Asking.{key_asked};
+ghost use Rattle.script_machine.specs.Lending.{standing};
 ghost use Rattle.script_machine.specs.Settings.{setting_of};
 
 use crate::answers::number_in;
@@ -18,6 +19,7 @@ use slee_value::EntityId;
 pub fn now(machine: &mut Machine, scene: &Scene) -> Result<i64, Stop>
     ensures agrees { Agrees (read.now (setting_of scene.now)) machine.old machine.new result }
     ensures spent { machine.new.left ≤ machine.old.left }
+    ensures kept { standing machine.new ≡ standing machine.old }
 {
     let seen = machine.look(scene, Some(Asked::Now))?;
     Ok(number_in(seen))
@@ -77,6 +79,7 @@ fn priority_key(entity: Ref) -> Option<Asked<'static>>
 pub fn priority(machine: &mut Machine, scene: &Scene, entity: Ref) -> Result<i64, Stop>
     ensures agrees { Agrees (read.priority (setting_of scene.now) entity) machine.old machine.new result }
     ensures spent { machine.new.left ≤ machine.old.left }
+    ensures kept { standing machine.new ≡ standing machine.old }
 {
     let seen = machine.look(scene, priority_key(entity))?;
     Ok(priority_laid(machine, scene, entity, number_in(seen)))

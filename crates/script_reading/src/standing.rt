@@ -3,15 +3,17 @@ ghost use Rattle.std.specs.Prelude.{◌≡◌, ◌≤◌, ◌<◌, ◌+◌, ◌+
 ghost use Rattle.handler_meaning.specs.Overlay.{overlay, overlay_from, activities_by, timers_by, attached_after, named_after, timer_after, stands_on};
 ghost use Rattle.handler_meaning.specs.Observing as read;
 ghost use Rattle.handler_meaning.specs.Observing.{key_of, key_of_two};
+ghost use Rattle.handler_meaning.specs.Values.{with_text};
 ghost use Rattle.handler_meaning.specs.declared.key.Key.TheVariants as k;
 ghost use Rattle.script_machine.specs.Agreeing.{Agrees};
 ghost use Rattle.script_machine.specs.Asking.{key_asked};
+ghost use Rattle.script_machine.specs.Lending.{standing, value_at};
 ghost use Rattle.script_machine.specs.Settings.{setting_of};
 ghost use Rattle.script_reading.specs.Done.{done};
 
 use crate::answers::{flag_in, refers_in};
 use crate::things::{Thing, count_made, made_by};
-use script_machine::{Asked, Machine, Scene, Stop, is_same_ref};
+use script_machine::{Asked, Machine, Place, Scene, Stop, is_same_ref, text_of};
 use slee_effect::{Effect, Ref};
 use slee_value::{ActivityId, EntityId, Text, TimerId};
 
@@ -59,13 +61,14 @@ fn attached_laid(machine: &Machine, scene: &Scene, activity: Ref, first: bool) -
 pub fn attached(machine: &mut Machine, scene: &Scene, activity: Ref) -> Result<bool, Stop>
     ensures agrees { Agrees (read.attached (setting_of scene.now) activity) machine.old machine.new result }
     ensures spent { machine.new.left ≤ machine.old.left }
+    ensures kept { standing machine.new ≡ standing machine.old }
 {
     let seen = machine.look(scene, attached_key(scene.me, activity))?;
     Ok(attached_laid(machine, scene, activity, flag_in(seen)))
 }
 
 /// The activity for which a name stands behind effects.
-fn named_over(name: &Text, effects: &[Effect], first: Option<Ref>) -> Option<Ref>
+fn named_over(name: &str, effects: &[Effect], first: Option<Ref>) -> Option<Ref>
     ensures { result ≡ done (named_after name.now 0) effects.now first }
 {
     let mut current = first;
@@ -83,7 +86,7 @@ fn named_over(name: &Text, effects: &[Effect], first: Option<Ref>) -> Option<Ref
 }
 
 #[tactic(auto, using(crate::proofs::OverlayLemmas::named_laid))]
-fn named_laid(machine: &Machine, scene: &Scene, name: &Text, first: Option<Ref>) -> Option<Ref>
+fn named_laid(machine: &Machine, scene: &Scene, name: &str, first: Option<Ref>) -> Option<Ref>
     ensures { result ≡ overlay activities_by (named_after name.now) (scene.now.effects.now ++ machine.now.effects) first }
 {
     let first = named_over(name, scene.effects, first);
@@ -94,9 +97,25 @@ fn named_laid(machine: &Machine, scene: &Scene, name: &Text, first: Option<Ref>)
 pub fn named(machine: &mut Machine, scene: &Scene, name: &Text) -> Result<Option<Ref>, Stop>
     ensures agrees { Agrees (read.named (setting_of scene.now) name.now) machine.old machine.new result }
     ensures spent { machine.new.left ≤ machine.old.left }
+    ensures kept { standing machine.new ≡ standing machine.old }
 {
+    let name = name.as_str();
     let seen = machine.look(scene, Some(Asked::Named(name)))?;
     Ok(named_laid(machine, scene, name, refers_in(seen)))
+}
+
+/// The activity for which the text in this place stands.
+#[tactic(auto, using(script_machine::proofs::KindLemmas::no_text_stays))]
+pub fn named_in(machine: &mut Machine, scene: &Scene, place: &Place) -> Result<Option<Ref>, Stop>
+    ensures agrees { Agrees (with_text (value_at (standing machine.old) place.now) (read.named (setting_of scene.now))) machine.old machine.new result }
+    ensures spent { machine.new.left ≤ machine.old.left }
+    ensures kept { standing machine.new ≡ standing machine.old }
+{
+    let name = text_of(machine.lend(place))?;
+    let looked = machine.peek(scene, Some(Asked::Named(name)))?;
+    let activity = named_laid(machine, scene, name, refers_in(looked.seen));
+    machine.note(looked)?;
+    Ok(activity)
 }
 
 fn stands_on(activity: Ref, place: Option<Ref>) -> bool
@@ -158,6 +177,7 @@ fn timer_key(timer: Ref) -> Option<Asked<'static>>
 pub fn timer(machine: &mut Machine, scene: &Scene, timer: Ref) -> Result<Option<Ref>, Stop>
     ensures agrees { Agrees (read.timer (setting_of scene.now) timer) machine.old machine.new result }
     ensures spent { machine.new.left ≤ machine.old.left }
+    ensures kept { standing machine.new ≡ standing machine.old }
 {
     let seen = machine.look(scene, timer_key(timer))?;
     Ok(timer_laid(machine, scene, timer, refers_in(seen)))

@@ -1,11 +1,9 @@
 -- Parts of a run one behind another.
-use Rattle.std.proofs.Common.{◌≡◌, Option, Some, None, Ok, refl, ap, ◌∙◌}
-use Rattle.slee_effect.specs.declared.value.Val.{Val}
+use Rattle.std.proofs.Common.{◌≡◌, refl, ap}
 use Rattle.handler_meaning.specs.Running.{State, Ending, Gave, Broke, Needs, Stays, Run, then_run, give}
 use Rattle.script_machine.specs.declared.stop.Stop.{Stop}
 use Rattle.script_machine.specs.declared.stop.Stop.TheVariants as stop
-use Rattle.script_machine.specs.Agreeing.{Stops, EndsFinding}
-use Rattle.script_machine.specs.Kinds.{Finds}
+use Rattle.script_machine.specs.Agreeing.{Stops}
 
 -- what stops a part stops the whole
 pub stops_then : {A B : Type 0} (m : Ending A) (g : A → Run B) (new : State) (e : Stop) → Stops m new e → Stops (then_run m g) new e
@@ -26,8 +24,3 @@ assoc (Gave x st) g h = refl
 assoc (Broke kind text st) g h = refl
 assoc (Needs key) g h = refl
 assoc Stays g h = refl
-
--- what was found in a value that a part gives
-pub found_there : {A : Type 0} (value_of : A → Val) (other : Val → Type 0) (x : Val) (ending : Ending Val) (new : State) (found : Option A) → ending ≡ Gave x new → Finds value_of other x found → EndsFinding value_of other ending new (Ok found)
-found_there value_of other x ending new (Some n) given is = given ∙ ap (λ (y : Val). Gave y new) is
-found_there value_of other x ending new None given not = (x, (not, given))

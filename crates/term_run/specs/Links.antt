@@ -1,12 +1,11 @@
 -- A chain of operators as it runs: the units of its operators first, then its operands from left to right.
 use Rattle.std.specs.Prelude.{ℕ, zero, suc, List, [], ◌∷◌, length}
 use Rattle.slee_effect.specs.declared.value.Val.{Val}
-use Rattle.script_types.specs.declared.term.Atom.{Atom}
 use Rattle.script_types.specs.declared.term.Joint.{Joint}
-use Rattle.script_types.specs.declared.term.Joint.TheVariants as j
+use Rattle.script_types.specs.declared.term.Test.{Test}
+use Rattle.script_types.specs.declared.term.Atom.{Atom}
 use Rattle.script_types.specs.declared.term.Question.{Question}
 use Rattle.script_types.specs.declared.term.Question.TheVariants as q
-use Rattle.script_types.specs.declared.term.Test.{Test}
 use Rattle.script_types.specs.declared.checked_term.Term.{Term as TermInMemory}
 use Rattle.script_types.specs.Program.{Term}
 use Rattle.script_types.specs.ProgramOf.{term_of}
@@ -35,23 +34,12 @@ chained s a more = do
   x ← eval s a
   linked s more x
 
--- a question or a comparison behind its unit
-abbrev pub asked : Setting → Question → Term → Run Val
-asked s question a = do
-  x ← eval s a
-  ask s question x
-
+-- a comparison behind its unit
 abbrev pub compared : Setting → Test → Term → Term → Run Val
 compared s test a b = do
   x ← eval s a
   y ← eval s b
   compare test x y
-
--- how long the text is that a term without parts gives
-abbrev pub measured : Setting → Atom → Run Val
-measured s atom = do
-  x ← single s atom
-  ask s q.Len x
 
 -- an operator between a value and what a part gives
 abbrev pub applied : Joint → Val → Run Val → Run Val
@@ -59,8 +47,14 @@ applied joint x m = do
   y ← m
   apply joint x y
 
--- two texts as one, of which a part gives the first
-abbrev pub joined_pair : Run Val → Run Val → Run Val
-joined_pair m n = do
-  x ← m
-  applied j.Join x n
+-- what is asked of what a part gives
+abbrev pub asked : Setting → Question → Term → Run Val
+asked s question a = do
+  x ← eval s a
+  ask s question x
+
+-- how long the text is that a term without parts gives
+abbrev pub measured : Setting → Atom → Run Val
+measured s atom = do
+  x ← single s atom
+  ask s q.Len x

@@ -2,13 +2,14 @@
 ghost use Rattle.std.specs.Prelude.{◌≡◌, ◌≤◌};
 ghost use Rattle.script_types.specs.declared.term.Question.TheVariants as q;
 ghost use Rattle.handler_meaning.specs.Terms.{ask};
-ghost use Rattle.handler_meaning.specs.Values.{activity_value};
-ghost use Rattle.script_machine.specs.Agreeing.{Agrees};
+ghost use Rattle.handler_meaning.specs.Values.{activity_value, flag};
+ghost use Rattle.script_machine.specs.Agreeing.{Agrees, AgreesAs};
+ghost use Rattle.script_machine.specs.Lending.{value_at, standing};
 ghost use Rattle.script_machine.specs.Settings.{setting_of};
 
 use handler_meaning::FailKind;
-use script_machine::{Machine, Scene, Stop, text_of};
-use script_reading::named;
+use script_machine::{Machine, Place, Scene, Stop};
+use script_reading::named_in;
 use slee_effect::{Ref, Val};
 use slee_value::{ActivityId, Value};
 
@@ -23,24 +24,24 @@ pub fn activity_value(activity: Ref) -> Val
 }
 
 /// `bound(e)`
-#[tactic(auto, using(script_machine::proofs::KindLemmas::no_text_stays))]
-pub(crate) fn ask_bound(machine: &mut Machine, scene: &Scene, x: &Val) -> Result<Val, Stop>
-    ensures agrees { Agrees (ask (setting_of scene.now) q.Bound x.now) machine.old machine.new result }
+#[tactic(auto, using(crate::proofs::AskedLemmas::bound_asked))]
+pub(crate) fn ask_bound(machine: &mut Machine, scene: &Scene, x: &Place) -> Result<bool, Stop>
+    ensures agrees { AgreesAs flag (ask (setting_of scene.now) q.Bound (value_at (standing machine.old) x.now)) machine.old machine.new result }
     ensures spent { machine.new.left ≤ machine.old.left }
+    ensures kept { standing machine.new ≡ standing machine.old }
 {
-    let name = text_of(x)?;
-    let activity = named(machine, scene, name)?;
-    Ok(Val::Plain(Value::Bool(activity.is_some())))
+    let activity = named_in(machine, scene, x)?;
+    Ok(activity.is_some())
 }
 
 /// `lookup(e)`
-#[tactic(auto, using(script_machine::proofs::KindLemmas::no_text_stays))]
-pub(crate) fn ask_lookup(machine: &mut Machine, scene: &Scene, x: &Val) -> Result<Val, Stop>
-    ensures agrees { Agrees (ask (setting_of scene.now) q.Lookup x.now) machine.old machine.new result }
+#[tactic(auto, using(crate::proofs::AskedLemmas::lookup_asked))]
+pub(crate) fn ask_lookup(machine: &mut Machine, scene: &Scene, x: &Place) -> Result<Val, Stop>
+    ensures agrees { Agrees (ask (setting_of scene.now) q.Lookup (value_at (standing machine.old) x.now)) machine.old machine.new result }
     ensures spent { machine.new.left ≤ machine.old.left }
+    ensures kept { standing machine.new ≡ standing machine.old }
 {
-    let name = text_of(x)?;
-    match named(machine, scene, name)? {
+    match named_in(machine, scene, x)? {
         None => Err(Stop::Broken(FailKind::Unbound)),
         Some(activity) => Ok(activity_value(activity)),
     }

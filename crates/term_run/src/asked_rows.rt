@@ -2,43 +2,43 @@
 ghost use Rattle.std.specs.Prelude.{◌≡◌, ◌≤◌};
 ghost use Rattle.script_types.specs.declared.term.Question.TheVariants as q;
 ghost use Rattle.handler_meaning.specs.Terms.{ask};
-ghost use Rattle.script_machine.specs.Agreeing.{Agrees};
+ghost use Rattle.handler_meaning.specs.Values.{flag};
+ghost use Rattle.script_machine.specs.Agreeing.{AgreesAs};
+ghost use Rattle.script_machine.specs.Lending.{value_at, standing};
 ghost use Rattle.script_machine.specs.Settings.{setting_of};
 
-use script_machine::{Machine, Scene, Stop, text_of};
+use script_machine::{Machine, Place, Scene, Stop};
 use script_reading::{has_profile, profile_value};
-use slee_effect::Val;
-use slee_value::{Kind, Name, Value};
+use slee_value::{Kind, Name};
 
 /// `profile(NAME, e, NAME)`
-#[tactic(auto, using(script_machine::proofs::KindLemmas::no_text_stays))]
-pub(crate) fn ask_profile(
+#[tactic(auto, using(crate::proofs::AskedLemmas::profile_asked))]
+pub(crate) fn ask_profile<'a>(
     machine: &mut Machine,
-    scene: &Scene,
+    scene: &Scene<'a>,
     table: &Name,
     name: &Name,
     kind: Kind,
-    x: &Val,
-) -> Result<Val, Stop>
-    ensures agrees { Agrees (ask (setting_of scene.now) (q.Profile table.now name.now kind) x.now) machine.old machine.new result }
+    x: &Place,
+) -> Result<Place<'a>, Stop>
+    ensures agrees { AgreesAs (value_at (standing machine.new)) (ask (setting_of scene.now) (q.Profile table.now name.now kind) (value_at (standing machine.old) x.now)) machine.old machine.new result }
     ensures spent { machine.new.left ≤ machine.old.left }
+    ensures kept { standing machine.new ≡ standing machine.old }
 {
-    let key = text_of(x)?;
-    profile_value(machine, scene, table, key, name, kind)
+    profile_value(machine, scene, table, x, name, kind)
 }
 
 /// `has_profile(NAME, e)`
-#[tactic(auto, using(script_machine::proofs::KindLemmas::no_text_stays))]
+#[tactic(auto, using(crate::proofs::AskedLemmas::has_profile_asked))]
 pub(crate) fn ask_has_profile(
     machine: &mut Machine,
     scene: &Scene,
     table: &Name,
-    x: &Val,
-) -> Result<Val, Stop>
-    ensures agrees { Agrees (ask (setting_of scene.now) (q.HasProfile table.now) x.now) machine.old machine.new result }
+    x: &Place,
+) -> Result<bool, Stop>
+    ensures agrees { AgreesAs flag (ask (setting_of scene.now) (q.HasProfile table.now) (value_at (standing machine.old) x.now)) machine.old machine.new result }
     ensures spent { machine.new.left ≤ machine.old.left }
+    ensures kept { standing machine.new ≡ standing machine.old }
 {
-    let key = text_of(x)?;
-    let is_there = has_profile(machine, scene, table, key)?;
-    Ok(Val::Plain(Value::Bool(is_there)))
+    has_profile(machine, scene, table, x)
 }

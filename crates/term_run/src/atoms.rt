@@ -1,19 +1,16 @@
 //! Terms without parts.
 ghost use Rattle.std.specs.Prelude.{◌≡◌, ◌≤◌, slice_get};
 ghost use Rattle.std.specs.Option.{option_copied};
-ghost use Rattle.handler_meaning.specs.Values.{int, flag, apply};
-ghost use Rattle.handler_meaning.specs.Terms.{single, ask, or_initial, field_at};
+ghost use Rattle.handler_meaning.specs.Values.{int, flag};
+ghost use Rattle.handler_meaning.specs.Terms.{single, or_initial, field_at};
 ghost use Rattle.script_types.specs.declared.term.Atom.TheVariants as a;
-ghost use Rattle.script_types.specs.declared.term.Joint.TheVariants as j;
-ghost use Rattle.script_types.specs.declared.term.Question.TheVariants as q;
-ghost use Rattle.script_machine.specs.Agreeing.{Agrees, AgreesAs, EndsFinding};
-ghost use Rattle.script_machine.specs.Kinds.{NoInt, NoFlag};
+ghost use Rattle.script_machine.specs.Agreeing.{AgreesAs, EndsFinding};
+ghost use Rattle.script_machine.specs.Lending.{value_lent, value_at, standing};
+ghost use Rattle.script_machine.specs.declared.places.Place.TheVariants as place;
 ghost use Rattle.script_machine.specs.Settings.{setting_of};
-ghost use Rattle.script_reading.specs.Lending.{value_lent};
-ghost use Rattle.term_run.specs.Links.{measured, applied};
 
-use script_machine::{Machine, Scene, Stop, flag_in, flag_within, int_in, int_within, text_of};
-use script_reading::{Lent, children, field, field_flag, field_number, now, priority};
+use script_machine::{Lent, Machine, Place, Scalar, Scene, Stop};
+use script_reading::{count_children, field, field_scalar, now, priority};
 use script_types::Atom;
 use slee_effect::Val;
 use slee_value::{Kind, Name, Value};
@@ -34,173 +31,118 @@ fn event_field<'a>(scene: &Scene<'a>, place: usize, kind: Kind) -> Lent<'a>
     }
 }
 
-/// How many children of the relation there are.
-fn count(machine: &mut Machine, scene: &Scene, relation: &Name) -> Result<Val, Stop>
-    ensures agrees { Agrees (single (setting_of scene.now) (a.Count relation.now)) machine.old machine.new result }
-    ensures spent { machine.new.left ≤ machine.old.left }
+/// The place of a number that was made.
+pub(crate) fn made_number<'a>(number: i64) -> Place<'a>
+    ensures { result ≡ place.Made (int number) }
 {
-    let refs = children(machine, scene, relation)?;
-    Ok(Val::Plain(Value::Int(refs.len() as i64)))
+    Place::Made(Val::Plain(Value::Int(number)))
 }
 
-/// The priority of the child in this place of the scope.
-fn priority_at(machine: &mut Machine, scene: &Scene, place: usize) -> Result<Val, Stop>
-    ensures agrees { Agrees (single (setting_of scene.now) (a.Priority place)) machine.old machine.new result }
+/// The place of a truth value that was made.
+pub(crate) fn made_flag<'a>(truth: bool) -> Place<'a>
+    ensures { result ≡ place.Made (flag truth) }
+{
+    Place::Made(Val::Plain(Value::Bool(truth)))
+}
+
+/// The place of the time.
+#[inline(never)]
+fn time_place<'a>(machine: &mut Machine, scene: &Scene) -> Result<Place<'a>, Stop>
+    ensures agrees { AgreesAs (value_at (standing machine.new)) (single (setting_of scene.now) a.Now) machine.old machine.new result }
     ensures spent { machine.new.left ≤ machine.old.left }
+    ensures kept { standing machine.new ≡ standing machine.old }
+{
+    Ok(made_number(now(machine, scene)?))
+}
+
+/// The place of the count of the children of a relation.
+#[inline(never)]
+fn count_place<'a>(machine: &mut Machine, scene: &Scene, relation: &Name) -> Result<Place<'a>, Stop>
+    ensures agrees { AgreesAs (value_at (standing machine.new)) (single (setting_of scene.now) (a.Count relation.now)) machine.old machine.new result }
+    ensures spent { machine.new.left ≤ machine.old.left }
+    ensures kept { standing machine.new ≡ standing machine.old }
+{
+    Ok(made_number(count_children(machine, scene, relation)?))
+}
+
+/// The place of the priority of the child in this place of the scope.
+#[inline(never)]
+fn priority_place<'a>(machine: &mut Machine, scene: &Scene, place: usize) -> Result<Place<'a>, Stop>
+    ensures agrees { AgreesAs (value_at (standing machine.new)) (single (setting_of scene.now) (a.Priority place)) machine.old machine.new result }
+    ensures spent { machine.new.left ≤ machine.old.left }
+    ensures kept { standing machine.new ≡ standing machine.old }
 {
     let child = machine.child(scene, place)?;
-    let number = priority(machine, scene, child)?;
-    Ok(Val::Plain(Value::Int(number)))
+    Ok(made_number(priority(machine, scene, child)?))
 }
 
-/// What a term without parts gives.
-pub(crate) fn single(machine: &mut Machine, scene: &Scene, atom: &Atom) -> Result<Val, Stop>
-    ensures agrees { Agrees (single (setting_of scene.now) atom.now) machine.old machine.new result }
+/// Where that stands which a term without parts gives.
+#[inline(always)]
+pub(crate) fn single<'a, 's: 'a>(
+    machine: &mut Machine,
+    scene: &Scene<'s>,
+    atom: &'a Atom,
+) -> Result<Place<'a>, Stop>
+    ensures agrees { AgreesAs (value_at (standing machine.new)) (single (setting_of scene.now) atom.now) machine.old machine.new result }
     ensures spent { machine.new.left ≤ machine.old.left }
+    ensures kept { standing machine.new ≡ standing machine.old }
 {
     match atom {
-        Atom::Constant(value) => Ok(Val::Plain(value.copy(scene.alloc)?)),
-        Atom::Now => Ok(Val::Plain(Value::Int(now(machine, scene)?))),
-        Atom::Activity => Ok(Val::Plain(Value::Activity(scene.arguments.activity))),
-        Atom::Failure => Ok(Val::Plain(Value::Text(scene.arguments.failure.copy(scene.alloc)?))),
-        Atom::Slot(place) => machine.value(scene.alloc, *place),
+        Atom::Constant(value) => Ok(Place::Outside(Lent::Held(value))),
+        Atom::Now => time_place(machine, scene),
+        Atom::Activity => {
+            let activity = Value::Activity(scene.arguments.activity);
+            Ok(Place::Made(Val::Plain(activity)))
+        }
+        Atom::Failure => Ok(Place::Outside(Lent::Text(&scene.arguments.failure))),
+        Atom::Slot(place) => machine.variable_place(*place),
         Atom::Field(name, kind) => field(machine, scene, name, *kind),
-        Atom::EventField(place, kind) => {
-            Ok(event_field(scene, *place, *kind).copy(scene.alloc)?)
-        }
-        Atom::Count(relation) => count(machine, scene, relation),
-        Atom::Priority(place) => priority_at(machine, scene, *place),
+        Atom::EventField(place, kind) => Ok(Place::Outside(event_field(scene, *place, *kind))),
+        Atom::Count(relation) => count_place(machine, scene, relation),
+        Atom::Priority(place) => priority_place(machine, scene, *place),
     }
 }
 
-/// The number in the variable in this place, if it holds one.
-fn slot_number(machine: &Machine, scene: &Scene, place: usize) -> Result<Option<i64>, Stop>
-    ensures { EndsFinding int NoInt (single (setting_of scene.now) (a.Slot place) machine.now) machine.now result }
+/// The number or truth value in the variable in this place, if it holds one.
+#[inline(always)]
+fn slot_scalar<T: Scalar>(machine: &Machine, scene: &Scene, place: usize) -> Result<Option<T>, Stop>
+    ensures { EndsFinding T.value_of T.is_other (single (setting_of scene.now) (a.Slot place) machine.now) machine.now result }
 {
     let value = machine.variable_value(place)?;
-    Ok(int_within(value))
+    Ok(T::within(Lent::Set(value)))
 }
 
-/// The number that a term without parts gives, if it gives one.
-pub(crate) fn single_number(
+/// The number or truth value that a term without parts gives, if it gives one, read in its place.
+#[inline(never)]
+fn placed_scalar<T: Scalar>(
     machine: &mut Machine,
     scene: &Scene,
     atom: &Atom,
-) -> Result<Option<i64>, Stop>
-    ensures finds { EndsFinding int NoInt (single (setting_of scene.now) atom.now machine.old) machine.new result }
+) -> Result<Option<T>, Stop>
+    ensures finds { EndsFinding T.value_of T.is_other (single (setting_of scene.now) atom.now machine.old) machine.new result }
     ensures spent { machine.new.left ≤ machine.old.left }
+    ensures kept { standing machine.new ≡ standing machine.old }
 {
-    match atom {
-        Atom::Constant(value) => Ok(int_in(value)),
-        Atom::Slot(place) => slot_number(machine, scene, *place),
-        Atom::Field(name, kind) => field_number(machine, scene, name, *kind),
-        Atom::EventField(place, kind) => Ok(event_field(scene, *place, *kind).number()),
-        _ => {
-            let x = single(machine, scene, atom)?;
-            Ok(int_within(&x))
-        }
-    }
+    let place = single(machine, scene, atom)?;
+    Ok(T::within(machine.lend(&place)))
 }
 
-/// The truth value in the variable in this place, if it holds one.
-fn slot_flag(machine: &Machine, scene: &Scene, place: usize) -> Result<Option<bool>, Stop>
-    ensures { EndsFinding flag NoFlag (single (setting_of scene.now) (a.Slot place) machine.now) machine.now result }
-{
-    let value = machine.variable_value(place)?;
-    Ok(flag_within(value))
-}
-
-/// The truth value that a term without parts gives, if it gives one.
-pub(crate) fn single_flag(
+/// The number or truth value that a term without parts gives, if it gives one.
+#[inline(always)]
+pub(crate) fn single_scalar<T: Scalar>(
     machine: &mut Machine,
     scene: &Scene,
     atom: &Atom,
-) -> Result<Option<bool>, Stop>
-    ensures finds { EndsFinding flag NoFlag (single (setting_of scene.now) atom.now machine.old) machine.new result }
+) -> Result<Option<T>, Stop>
+    ensures finds { EndsFinding T.value_of T.is_other (single (setting_of scene.now) atom.now machine.old) machine.new result }
     ensures spent { machine.new.left ≤ machine.old.left }
+    ensures kept { standing machine.new ≡ standing machine.old }
 {
     match atom {
-        Atom::Constant(value) => Ok(flag_in(value)),
-        Atom::Slot(place) => slot_flag(machine, scene, *place),
-        Atom::Field(name, kind) => field_flag(machine, scene, name, *kind),
-        Atom::EventField(place, kind) => Ok(event_field(scene, *place, *kind).flag()),
-        _ => {
-            let x = single(machine, scene, atom)?;
-            Ok(flag_within(&x))
-        }
-    }
-}
-
-/// How many bytes a value has that is a text.
-#[tactic(auto, using(script_machine::proofs::KindLemmas::no_text_stays))]
-fn length_in(machine: &Machine, scene: &Scene, value: &Val) -> Result<i64, Stop>
-    ensures { AgreesAs int (ask (setting_of scene.now) q.Len value.now) machine.now machine.now result }
-{
-    let length = text_of(value)?.as_bytes().len();
-    Ok(length as i64)
-}
-
-/// How many bytes the text has that the variable in this place holds.
-fn slot_length(machine: &Machine, scene: &Scene, place: usize) -> Result<i64, Stop>
-    ensures { AgreesAs int (measured (setting_of scene.now) (a.Slot place)) machine.now machine.now result }
-{
-    let value = machine.variable_value(place)?;
-    length_in(machine, scene, value)
-}
-
-/// How many bytes the text has that a term without parts gives.
-pub(crate) fn single_length(machine: &mut Machine, scene: &Scene, atom: &Atom) -> Result<i64, Stop>
-    ensures agrees { AgreesAs int (measured (setting_of scene.now) atom.now) machine.old machine.new result }
-    ensures spent { machine.new.left ≤ machine.old.left }
-{
-    match atom {
-        Atom::Slot(place) => slot_length(machine, scene, *place),
-        _ => {
-            let x = single(machine, scene, atom)?;
-            length_in(machine, scene, &x)
-        }
-    }
-}
-
-/// Two values as one text, which are to be texts.
-#[tactic(auto, using(script_machine::proofs::KindLemmas::no_text_stays))]
-pub(crate) fn join(machine: &Machine, scene: &Scene, x: Lent, y: Lent) -> Result<Val, Stop>
-    ensures { Agrees (apply j.Join (value_lent x.entry) (value_lent y.entry)) machine.now machine.now result }
-{
-    let Some(m) = x.text() else {
-        return Err(Stop::Unchecked);
-    };
-    let Some(n) = y.text() else {
-        return Err(Stop::Unchecked);
-    };
-    let whole = machine.joined(scene.alloc, m, n)?;
-    Ok(Val::Plain(Value::Text(whole)))
-}
-
-/// A text with that behind it which the variable in this place holds.
-fn join_slot(machine: &Machine, scene: &Scene, x: Lent, place: usize) -> Result<Val, Stop>
-    ensures { Agrees (applied j.Join (value_lent x.entry) (single (setting_of scene.now) (a.Slot place))) machine.now machine.now result }
-{
-    let y = machine.variable_value(place)?;
-    join(machine, scene, x, Lent::Set(y))
-}
-
-/// A text with that behind it which a term without parts gives.
-pub(crate) fn join_single(
-    machine: &mut Machine,
-    scene: &Scene,
-    x: Lent,
-    atom: &Atom,
-) -> Result<Val, Stop>
-    ensures agrees { Agrees (applied j.Join (value_lent x.entry) (single (setting_of scene.now) atom.now)) machine.old machine.new result }
-    ensures spent { machine.new.left ≤ machine.old.left }
-{
-    match atom {
-        Atom::Constant(value) => join(machine, scene, x, Lent::Held(value)),
-        Atom::Slot(place) => join_slot(machine, scene, x, *place),
-        _ => {
-            let y = single(machine, scene, atom)?;
-            join(machine, scene, x, Lent::Set(&y))
-        }
+        Atom::Constant(value) => Ok(T::within(Lent::Held(value))),
+        Atom::Slot(place) => slot_scalar(machine, scene, *place),
+        Atom::Field(name, kind) => field_scalar(machine, scene, name, *kind),
+        Atom::EventField(place, kind) => Ok(T::within(event_field(scene, *place, *kind))),
+        _ => placed_scalar(machine, scene, atom),
     }
 }

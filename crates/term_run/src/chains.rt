@@ -1,6 +1,7 @@
 //! Units of the operators of a chain.
 ghost use Rattle.std.specs.Prelude.{◌≡◌, ◌≤◌};
 ghost use Rattle.script_machine.specs.Agreeing.{Agrees};
+ghost use Rattle.script_machine.specs.Lending.{standing};
 ghost use Rattle.term_run.specs.Links.{spend};
 
 use script_machine::{Machine, Stop};
@@ -9,6 +10,7 @@ use script_machine::{Machine, Stop};
 pub(crate) fn spend(machine: &mut Machine, units: usize) -> Result<(), Stop>
     ensures agrees { Agrees (spend units) machine.old machine.new result }
     ensures spent { machine.new.left ≤ machine.old.left }
+    ensures kept { standing machine.new ≡ standing machine.old }
 {
     'units: for _unit in 0..units {
         machine.tick()?;

@@ -1,69 +1,103 @@
 //! What is asked of one value.
 ghost use Rattle.std.specs.Prelude.{◌≡◌, ◌≤◌};
+ghost use Rattle.script_types.specs.declared.term.Atom.TheVariants as a;
 ghost use Rattle.script_types.specs.declared.term.Question.TheVariants as q;
 ghost use Rattle.handler_meaning.specs.Terms.{ask};
-ghost use Rattle.script_machine.specs.Agreeing.{Agrees};
+ghost use Rattle.handler_meaning.specs.Values.{int, flag};
+ghost use Rattle.script_machine.specs.Agreeing.{AgreesAs, EndsFinding};
+ghost use Rattle.script_machine.specs.Lending.{value_lent, value_at, standing};
 ghost use Rattle.script_machine.specs.Settings.{setting_of};
+ghost use Rattle.term_run.specs.Links.{measured};
 
-use crate::asked_activities::{ask_active, ask_attached, ask_attribute, ask_masked};
+use crate::asked_activities::{
+    ask_active, ask_attached, ask_attribute, ask_attribute_scalar, ask_masked,
+};
 use crate::asked_names::{ask_bound, ask_lookup};
 use crate::asked_rows::{ask_has_profile, ask_profile};
 use crate::asked_timers::ask_has_timer;
-use script_machine::{Machine, Scene, Stop, flag_of, int_of, text_of};
+use crate::atoms::{made_flag, made_number};
+use script_machine::{Lent, Machine, Place, Scalar, Scene, Stop, flag_of, int_of, text_of};
 use script_types::Question;
-use slee_effect::Val;
-use slee_value::Value;
 
 /// `not e`
 #[tactic(auto, using(script_machine::proofs::KindLemmas::no_flag_stays))]
-fn negate(machine: &Machine, scene: &Scene, x: &Val) -> Result<Val, Stop>
-    ensures { Agrees (ask (setting_of scene.now) q.Not x.now) machine.now machine.now result }
+fn negate(machine: &Machine, scene: &Scene, x: Lent) -> Result<bool, Stop>
+    ensures { AgreesAs flag (ask (setting_of scene.now) q.Not (value_lent x.entry)) machine.now machine.now result }
 {
-    Ok(Val::Plain(Value::Bool(!flag_of(x)?)))
+    Ok(!flag_of(x)?)
 }
 
 /// `len(e)`
 #[tactic(auto, using(script_machine::proofs::KindLemmas::no_text_stays))]
-fn measure(machine: &Machine, scene: &Scene, x: &Val) -> Result<Val, Stop>
-    ensures { Agrees (ask (setting_of scene.now) q.Len x.now) machine.now machine.now result }
+fn measure(machine: &Machine, scene: &Scene, x: Lent) -> Result<i64, Stop>
+    ensures { AgreesAs int (ask (setting_of scene.now) q.Len (value_lent x.entry)) machine.now machine.now result }
 {
-    let length = text_of(x)?.as_bytes().len();
-    Ok(Val::Plain(Value::Int(length as i64)))
+    let length = text_of(x)?.len();
+    Ok(length as i64)
+}
+
+/// How many bytes the text has that the variable in this place holds.
+pub(crate) fn slot_length(machine: &Machine, scene: &Scene, place: usize) -> Result<i64, Stop>
+    ensures { AgreesAs int (measured (setting_of scene.now) (a.Slot place)) machine.now machine.now result }
+{
+    let value = machine.variable_value(place)?;
+    measure(machine, scene, Lent::Set(value))
 }
 
 /// `-e`
 #[tactic(auto, using(script_machine::proofs::KindLemmas::no_int_stays))]
-fn negative(machine: &Machine, scene: &Scene, x: &Val) -> Result<Val, Stop>
-    ensures { Agrees (ask (setting_of scene.now) q.Negative x.now) machine.now machine.now result }
+fn negative(machine: &Machine, scene: &Scene, x: Lent) -> Result<i64, Stop>
+    ensures { AgreesAs int (ask (setting_of scene.now) q.Negative (value_lent x.entry)) machine.now machine.now result }
 {
-    let n = machine.negative(int_of(x)?)?;
-    Ok(Val::Plain(Value::Int(n)))
+    machine.negative(int_of(x)?)
 }
 
-/// What is asked of a value.
-pub(crate) fn ask(
+/// Where that stands which is asked of the value in a place.
+pub(crate) fn ask<'a>(
+    machine: &mut Machine,
+    scene: &Scene<'a>,
+    question: &Question,
+    x: &Place,
+) -> Result<Place<'a>, Stop>
+    ensures agrees { AgreesAs (value_at (standing machine.new)) (ask (setting_of scene.now) question.now (value_at (standing machine.old) x.now)) machine.old machine.new result }
+    ensures spent { machine.new.left ≤ machine.old.left }
+    ensures kept { standing machine.new ≡ standing machine.old }
+{
+    let alloc = scene.alloc;
+    match question {
+        Question::Negative => Ok(made_number(negative(machine, scene, machine.lend(x))?)),
+        Question::Not => Ok(made_flag(negate(machine, scene, machine.lend(x))?)),
+        Question::TextOfInt => Ok(Place::Made(machine.text_of_int(alloc, machine.lend(x))?)),
+        Question::TextOfBool => Ok(Place::Made(machine.text_of_bool(alloc, machine.lend(x))?)),
+        Question::Len => Ok(made_number(measure(machine, scene, machine.lend(x))?)),
+        Question::Active => Ok(made_flag(ask_active(machine, scene, x)?)),
+        Question::Attached => Ok(made_flag(ask_attached(machine, scene, x)?)),
+        Question::Masked(event) => Ok(made_flag(ask_masked(machine, scene, event, x)?)),
+        Question::Attribute(key, kind) => ask_attribute(machine, scene, key, *kind, x),
+        Question::Bound => Ok(made_flag(ask_bound(machine, scene, x)?)),
+        Question::Lookup => Ok(Place::Made(ask_lookup(machine, scene, x)?)),
+        Question::Profile(table, name, kind) => ask_profile(machine, scene, table, name, *kind, x),
+        Question::HasProfile(table) => Ok(made_flag(ask_has_profile(machine, scene, table, x)?)),
+        Question::HasTimer => Ok(made_flag(ask_has_timer(machine, scene, x)?)),
+    }
+}
+
+/// The number or truth value that is given where something is asked of the value in a place, if it is one.
+pub(crate) fn ask_scalar<T: Scalar>(
     machine: &mut Machine,
     scene: &Scene,
     question: &Question,
-    x: &Val,
-) -> Result<Val, Stop>
-    ensures agrees { Agrees (ask (setting_of scene.now) question.now x.now) machine.old machine.new result }
+    x: &Place,
+) -> Result<Option<T>, Stop>
+    ensures finds { EndsFinding T.value_of T.is_other (ask (setting_of scene.now) question.now (value_at (standing machine.old) x.now) machine.old) machine.new result }
     ensures spent { machine.new.left ≤ machine.old.left }
+    ensures kept { standing machine.new ≡ standing machine.old }
 {
     match question {
-        Question::Negative => negative(machine, scene, x),
-        Question::Not => negate(machine, scene, x),
-        Question::TextOfInt => machine.text_of_int(scene.alloc, x),
-        Question::TextOfBool => machine.text_of_bool(scene.alloc, x),
-        Question::Len => measure(machine, scene, x),
-        Question::Active => ask_active(machine, scene, x),
-        Question::Attached => ask_attached(machine, scene, x),
-        Question::Masked(event) => ask_masked(machine, scene, event, x),
-        Question::Attribute(key, kind) => ask_attribute(machine, scene, key, *kind, x),
-        Question::Bound => ask_bound(machine, scene, x),
-        Question::Lookup => ask_lookup(machine, scene, x),
-        Question::Profile(table, name, kind) => ask_profile(machine, scene, table, name, *kind, x),
-        Question::HasProfile(table) => ask_has_profile(machine, scene, table, x),
-        Question::HasTimer => ask_has_timer(machine, scene, x),
+        Question::Attribute(key, kind) => ask_attribute_scalar(machine, scene, key, *kind, x),
+        _ => {
+            let place = ask(machine, scene, question, x)?;
+            Ok(T::within(machine.lend(&place)))
+        }
     }
 }

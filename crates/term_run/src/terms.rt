@@ -1,47 +1,66 @@
-//! Terms with all that stands in them. A term's unit is spent before its parts. Numbers and truth values go their own ways, on which nothing is copied.
-ghost use Rattle.std.specs.Prelude.{◌≡◌, ◌≤◌, ◌<◌, OnOk, true};
+//! Terms with all that stands in them. A term's unit is spent before its parts. A value is lent where it stands, and numbers and truth values go ways of their own.
+ghost use Rattle.std.specs.Prelude.{◌≡◌, ◌≤◌, ◌<◌, OnOk, true, false};
 ghost use Rattle.handler_meaning.specs.Terms.{eval};
-ghost use Rattle.handler_meaning.specs.Observing as read;
 ghost use Rattle.handler_meaning.specs.Values.{int, flag};
 ghost use Rattle.script_types.specs.ProgramOf.{term_of, ask_of, compare_of, combine_of};
-ghost use Rattle.script_types.specs.declared.term.Joint.TheVariants as j;
-ghost use Rattle.script_types.specs.declared.term.Question.TheVariants as q;
 ghost use Rattle.script_machine.specs.Agreeing.{Agrees, AgreesAs, EndsFinding};
-ghost use Rattle.script_machine.specs.Kinds.{NoInt, NoFlag, is_arithmetic, is_of_numbers};
+ghost use Rattle.script_machine.specs.Kinds.{NoInt, NoFlag, is_arithmetic, is_choice, is_of_numbers};
+ghost use Rattle.script_machine.specs.Lending.{value_at, standing};
 ghost use Rattle.script_machine.specs.Settings.{setting_of};
-ghost use Rattle.script_reading.specs.Lending.{value_lent};
-ghost use Rattle.term_run.specs.Links.{linked, chained, asked, compared, applied, joined_pair};
+ghost use Rattle.term_run.specs.Links.{linked, chained, compared, applied, asked};
 
-use crate::asked_activities::ask_attribute_number;
-use crate::atoms::{join, join_single, single, single_flag, single_length, single_number};
+use crate::atoms::{made_flag, single, single_scalar};
 use crate::chains::spend;
-use crate::questions::ask;
+use crate::questions::{ask, ask_scalar, slot_length};
 use script_machine::{
-    Machine, Scene, Stop, flag_within, int_within, is_arithmetic, is_decided, is_of_numbers,
-    text_of,
+    Lent, Machine, Place, Scene, Stop, flag_within, int_within, is_arithmetic, is_choice,
+    is_decided, is_decided_flag, is_of_numbers,
 };
-use script_reading::Lent;
 use script_types::{Atom, Joint, Question, Term, Test};
 use slee_effect::Val;
 use slee_value::Value;
 
 /// What a term gives.
-#[cycle(terms)]
 pub fn eval(machine: &mut Machine, scene: &Scene, term: &Term) -> Result<Val, Stop>
     ensures agrees { Agrees (eval (setting_of scene.now) (term_of term.now)) machine.old machine.new result }
     ensures spent { machine.new.left ≤ machine.old.left }
+{
+    match term {
+        Term::Chain(first, more) => eval_chain(machine, scene, first, more),
+        _ => eval_found(machine, scene, term),
+    }
+}
+
+/// What a term gives, taken from where it stands.
+#[inline(never)]
+fn eval_found(machine: &mut Machine, scene: &Scene, term: &Term) -> Result<Val, Stop>
+    ensures agrees { Agrees (eval (setting_of scene.now) (term_of term.now)) machine.old machine.new result }
+    ensures spent { machine.new.left ≤ machine.old.left }
+{
+    let place = find(machine, scene, term)?;
+    Ok(machine.owned(scene.alloc, place)?)
+}
+
+/// Where that stands which a term gives.
+#[inline(always)]
+#[cycle(terms)]
+pub(crate) fn find<'a, 's: 'a>(
+    machine: &mut Machine,
+    scene: &Scene<'s>,
+    term: &'a Term,
+) -> Result<Place<'a>, Stop>
+    ensures agrees { AgreesAs (value_at (standing machine.new)) (eval (setting_of scene.now) (term_of term.now)) machine.old machine.new result }
+    ensures spent { machine.new.left ≤ machine.old.left }
+    ensures kept { standing machine.new ≡ standing machine.old }
 {
     match term {
         Term::Single(atom) => {
             machine.tick()?;
             single(machine, scene, atom)
         }
-        Term::Ask(parts) => eval_asked(machine, scene, parts),
-        Term::Compare(parts) => {
-            let flag = eval_compared(machine, scene, parts)?;
-            Ok(Val::Plain(Value::Bool(flag)))
-        }
-        Term::Chain(first, more) => eval_chain(machine, scene, first, more),
+        Term::Ask(parts) => find_asked(machine, scene, parts),
+        Term::Compare(parts) => find_compared(machine, scene, parts),
+        Term::Chain(first, more) => find_chain(machine, scene, first, more),
     }
 }
 
@@ -54,11 +73,12 @@ pub(crate) fn eval_number(
 ) -> Result<Option<i64>, Stop>
     ensures finds { EndsFinding int NoInt (eval (setting_of scene.now) (term_of term.now) machine.old) machine.new result }
     ensures spent { machine.new.left ≤ machine.old.left }
+    ensures kept { standing machine.new ≡ standing machine.old }
 {
     match term {
         Term::Single(atom) => {
             machine.tick()?;
-            single_number(machine, scene, atom)
+            single_scalar(machine, scene, atom)
         }
         Term::Ask(parts) => asked_number(machine, scene, parts),
         Term::Compare(parts) => {
@@ -70,36 +90,43 @@ pub(crate) fn eval_number(
 }
 
 /// The truth value that a term gives, if it gives one.
+#[cycle(terms)]
 pub fn eval_truth(machine: &mut Machine, scene: &Scene, term: &Term) -> Result<Option<bool>, Stop>
     ensures finds { EndsFinding flag NoFlag (eval (setting_of scene.now) (term_of term.now) machine.old) machine.new result }
     ensures spent { machine.new.left ≤ machine.old.left }
+    ensures kept { standing machine.new ≡ standing machine.old }
 {
     match term {
         Term::Single(atom) => {
             machine.tick()?;
-            single_flag(machine, scene, atom)
+            single_scalar(machine, scene, atom)
         }
+        Term::Ask(parts) => asked_truth(machine, scene, parts),
         Term::Compare(parts) => Ok(Some(eval_compared(machine, scene, parts)?)),
-        Term::Ask(_) | Term::Chain(_, _) => {
-            let x = eval(machine, scene, term)?;
-            Ok(flag_within(&x))
-        }
+        Term::Chain(first, more) => truth_in_chain(machine, scene, first, more),
     }
 }
 
-/// What a question to a term gives.
+/// Where that stands which a question to a term gives.
+#[inline(never)]
 #[cycle(terms)]
-fn eval_asked(machine: &mut Machine, scene: &Scene, parts: &(Question, Term)) -> Result<Val, Stop>
-    ensures agrees { Agrees (eval (setting_of scene.now) (ask_of parts.now)) machine.old machine.new result }
+fn find_asked<'a, 's: 'a>(
+    machine: &mut Machine,
+    scene: &Scene<'s>,
+    parts: &'a (Question, Term),
+) -> Result<Place<'a>, Stop>
+    ensures agrees { AgreesAs (value_at (standing machine.new)) (eval (setting_of scene.now) (ask_of parts.now)) machine.old machine.new result }
     ensures spent { machine.new.left ≤ machine.old.left }
+    ensures kept { standing machine.new ≡ standing machine.old }
 {
     machine.tick()?;
     let (question, term) = parts;
-    let x = eval(machine, scene, term)?;
+    let x = find(machine, scene, term)?;
     ask(machine, scene, question, &x)
 }
 
 /// The number that a question to a term gives, if it gives one.
+#[inline(never)]
 #[cycle(terms)]
 fn asked_number(
     machine: &mut Machine,
@@ -108,38 +135,62 @@ fn asked_number(
 ) -> Result<Option<i64>, Stop>
     ensures finds { EndsFinding int NoInt (eval (setting_of scene.now) (ask_of parts.now) machine.old) machine.new result }
     ensures spent { machine.new.left ≤ machine.old.left }
+    ensures kept { standing machine.new ≡ standing machine.old }
+{
+    machine.tick()?;
+    let (question, term) = parts;
+    match (question, term) {
+        (Question::Len, Term::Single(Atom::Slot(place))) => {
+            machine.tick()?;
+            let length = slot_length(machine, scene, *place)?;
+            Ok(Some(length))
+        }
+        _ => placed_number(machine, scene, question, term),
+    }
+}
+
+/// The number that a question to a term gives, if it gives one, behind its unit.
+#[inline(never)]
+#[cycle(terms)]
+fn placed_number(
+    machine: &mut Machine,
+    scene: &Scene,
+    question: &Question,
+    term: &Term,
+) -> Result<Option<i64>, Stop>
+    ensures finds { EndsFinding int NoInt (asked (setting_of scene.now) question.now (term_of term.now) machine.old) machine.new result }
+    ensures spent { machine.new.left ≤ machine.old.left }
+    ensures kept { standing machine.new ≡ standing machine.old }
+{
+    let x = find(machine, scene, term)?;
+    ask_scalar(machine, scene, question, &x)
+}
+
+/// The truth value that a question to a term gives, if it gives one.
+#[inline(never)]
+#[cycle(terms)]
+#[tactic(auto, using(script_machine::proofs::KindLemmas::no_flag_stays))]
+fn asked_truth(
+    machine: &mut Machine,
+    scene: &Scene,
+    parts: &(Question, Term),
+) -> Result<Option<bool>, Stop>
+    ensures finds { EndsFinding flag NoFlag (eval (setting_of scene.now) (ask_of parts.now) machine.old) machine.new result }
+    ensures spent { machine.new.left ≤ machine.old.left }
+    ensures kept { standing machine.new ≡ standing machine.old }
 {
     machine.tick()?;
     let (question, term) = parts;
     match question {
-        Question::Len => Ok(Some(eval_length(machine, scene, term)?)),
-        Question::Attribute(key, kind) => {
-            let x = eval(machine, scene, term)?;
-            ask_attribute_number(machine, scene, key, *kind, &x)
+        Question::Not => {
+            let Some(truth) = eval_truth(machine, scene, term)? else {
+                return Err(Stop::Unchecked);
+            };
+            Ok(Some(!truth))
         }
         _ => {
-            let x = eval(machine, scene, term)?;
-            let y = ask(machine, scene, question, &x)?;
-            Ok(int_within(&y))
-        }
-    }
-}
-
-/// How many bytes the text has that a term gives.
-#[cycle(terms)]
-fn eval_length(machine: &mut Machine, scene: &Scene, term: &Term) -> Result<i64, Stop>
-    ensures agrees { AgreesAs int (asked (setting_of scene.now) q.Len (term_of term.now)) machine.old machine.new result }
-    ensures spent { machine.new.left ≤ machine.old.left }
-{
-    match term {
-        Term::Single(atom) => {
-            machine.tick()?;
-            single_length(machine, scene, atom)
-        }
-        _ => {
-            let x = eval(machine, scene, term)?;
-            let length = text_of(&x)?.as_bytes().len();
-            Ok(length as i64)
+            let x = find(machine, scene, term)?;
+            ask_scalar(machine, scene, question, &x)
         }
     }
 }
@@ -153,15 +204,33 @@ fn eval_compared(
 ) -> Result<bool, Stop>
     ensures agrees { AgreesAs flag (eval (setting_of scene.now) (compare_of parts.now)) machine.old machine.new result }
     ensures spent { machine.new.left ≤ machine.old.left }
+    ensures kept { standing machine.new ≡ standing machine.old }
 {
     machine.tick()?;
     let (test, one, other) = parts;
     if is_of_numbers(*test) {
         return eval_compared_numbers(machine, scene, *test, one, other);
     }
-    let x = eval(machine, scene, one)?;
-    let y = eval(machine, scene, other)?;
-    machine.compare(*test, &x, &y)
+    eval_compared_values(machine, scene, *test, one, other)
+}
+
+/// What a comparison of two values gives.
+#[inline(never)]
+#[cycle(terms)]
+fn eval_compared_values(
+    machine: &mut Machine,
+    scene: &Scene,
+    test: Test,
+    one: &Term,
+    other: &Term,
+) -> Result<bool, Stop>
+    ensures agrees { AgreesAs flag (compared (setting_of scene.now) test (term_of one.now) (term_of other.now)) machine.old machine.new result }
+    ensures spent { machine.new.left ≤ machine.old.left }
+    ensures kept { standing machine.new ≡ standing machine.old }
+{
+    let x = find(machine, scene, one)?;
+    let y = find(machine, scene, other)?;
+    machine.compare(test, machine.lend(&x), machine.lend(&y))
 }
 
 /// What a comparison of two numbers gives.
@@ -177,6 +246,7 @@ fn eval_compared_numbers(
     requires { is_of_numbers test ≡ true }
     ensures agrees { AgreesAs flag (compared (setting_of scene.now) test (term_of one.now) (term_of other.now)) machine.old machine.new result }
     ensures spent { machine.new.left ≤ machine.old.left }
+    ensures kept { standing machine.new ≡ standing machine.old }
 {
     let x = eval_number(machine, scene, one)?;
     let y = eval_number(machine, scene, other)?;
@@ -189,6 +259,39 @@ fn eval_compared_numbers(
     machine.compare_numbers(test, x, y)
 }
 
+/// The place of what a comparison of two terms gives.
+#[inline(never)]
+#[cycle(terms)]
+fn find_compared<'a>(
+    machine: &mut Machine,
+    scene: &Scene,
+    parts: &(Test, Term, Term),
+) -> Result<Place<'a>, Stop>
+    ensures agrees { AgreesAs (value_at (standing machine.new)) (eval (setting_of scene.now) (compare_of parts.now)) machine.old machine.new result }
+    ensures spent { machine.new.left ≤ machine.old.left }
+    ensures kept { standing machine.new ≡ standing machine.old }
+{
+    let truth = eval_compared(machine, scene, parts)?;
+    Ok(made_flag(truth))
+}
+
+/// The place of what a chain of operators gives.
+#[inline(never)]
+#[cycle(terms)]
+fn find_chain<'a>(
+    machine: &mut Machine,
+    scene: &Scene,
+    first: &(Term, Joint, Term),
+    more: &[(Joint, Term)],
+) -> Result<Place<'a>, Stop>
+    ensures agrees { AgreesAs (value_at (standing machine.new)) (chained (setting_of scene.now) (combine_of first.now) more.now) machine.old machine.new result }
+    ensures spent { machine.new.left ≤ machine.old.left }
+    ensures kept { standing machine.new ≡ standing machine.old }
+{
+    let value = eval_chain(machine, scene, first, more)?;
+    Ok(Place::Made(value))
+}
+
 /// What a chain of operators gives.
 #[cycle(terms)]
 fn eval_chain(
@@ -199,11 +302,33 @@ fn eval_chain(
 ) -> Result<Val, Stop>
     ensures agrees { Agrees (chained (setting_of scene.now) (combine_of first.now) more.now) machine.old machine.new result }
     ensures spent { machine.new.left ≤ machine.old.left }
+    ensures kept { standing machine.new ≡ standing machine.old }
 {
     if is_arithmetic(first.1) {
         let n = number_chain(machine, scene, first, more)?;
         return Ok(Val::Plain(Value::Int(n)));
     }
+    if is_choice(first.1) {
+        let truth = truth_chain(machine, scene, first, more)?;
+        return Ok(Val::Plain(Value::Bool(truth)));
+    }
+    value_chain(machine, scene, first, more)
+}
+
+/// What a chain gives that begins with an operator between values of another kind.
+#[inline(never)]
+#[cycle(terms)]
+fn value_chain(
+    machine: &mut Machine,
+    scene: &Scene,
+    first: &(Term, Joint, Term),
+    more: &[(Joint, Term)],
+) -> Result<Val, Stop>
+    requires { is_choice first.now.1 ≡ false }
+    ensures agrees { Agrees (chained (setting_of scene.now) (combine_of first.now) more.now) machine.old machine.new result }
+    ensures spent { machine.new.left ≤ machine.old.left }
+    ensures kept { standing machine.new ≡ standing machine.old }
+{
     spend(machine, more.len())?;
     let x = eval_pair(machine, scene, first)?;
     eval_links(machine, scene, more, x)
@@ -219,6 +344,7 @@ fn number_in_chain(
 ) -> Result<Option<i64>, Stop>
     ensures finds { EndsFinding int NoInt (chained (setting_of scene.now) (combine_of first.now) more.now machine.old) machine.new result }
     ensures spent { machine.new.left ≤ machine.old.left }
+    ensures kept { standing machine.new ≡ standing machine.old }
 {
     if is_arithmetic(first.1) {
         let n = number_chain(machine, scene, first, more)?;
@@ -226,6 +352,26 @@ fn number_in_chain(
     }
     let x = eval_chain(machine, scene, first, more)?;
     Ok(int_within(&x))
+}
+
+/// The truth value that a chain of operators gives, if it gives one.
+#[cycle(terms)]
+fn truth_in_chain(
+    machine: &mut Machine,
+    scene: &Scene,
+    first: &(Term, Joint, Term),
+    more: &[(Joint, Term)],
+) -> Result<Option<bool>, Stop>
+    ensures finds { EndsFinding flag NoFlag (chained (setting_of scene.now) (combine_of first.now) more.now machine.old) machine.new result }
+    ensures spent { machine.new.left ≤ machine.old.left }
+    ensures kept { standing machine.new ≡ standing machine.old }
+{
+    if is_choice(first.1) {
+        let truth = truth_chain(machine, scene, first, more)?;
+        return Ok(Some(truth));
+    }
+    let x = eval_chain(machine, scene, first, more)?;
+    Ok(flag_within(&x))
 }
 
 /// What a chain gives that begins with an operator between numbers.
@@ -239,95 +385,47 @@ fn number_chain(
     requires { is_arithmetic first.now.1 ≡ true }
     ensures agrees { AgreesAs int (chained (setting_of scene.now) (combine_of first.now) more.now) machine.old machine.new result }
     ensures spent { machine.new.left ≤ machine.old.left }
+    ensures kept { standing machine.new ≡ standing machine.old }
 {
     spend(machine, more.len())?;
     let x = number_pair(machine, scene, first)?;
     number_links(machine, scene, more, x)
 }
 
-/// What the first operator of a chain gives, between its two operands.
+/// What a chain gives that begins with `and` or `or`.
+#[inline(never)]
 #[cycle(terms)]
+fn truth_chain(
+    machine: &mut Machine,
+    scene: &Scene,
+    first: &(Term, Joint, Term),
+    more: &[(Joint, Term)],
+) -> Result<bool, Stop>
+    requires { is_choice first.now.1 ≡ true }
+    ensures agrees { AgreesAs flag (chained (setting_of scene.now) (combine_of first.now) more.now) machine.old machine.new result }
+    ensures spent { machine.new.left ≤ machine.old.left }
+    ensures kept { standing machine.new ≡ standing machine.old }
+{
+    spend(machine, more.len())?;
+    let x = truth_pair(machine, scene, first)?;
+    truth_links(machine, scene, more, x)
+}
+
+/// What the first operator of a chain gives, which is one between values of another kind.
+#[cycle(terms)]
+#[tactic(auto, using(script_machine::proofs::FlagLemmas::never_decided))]
 fn eval_pair(machine: &mut Machine, scene: &Scene, parts: &(Term, Joint, Term)) -> Result<Val, Stop>
+    requires { is_choice parts.now.1 ≡ false }
     ensures agrees { Agrees (eval (setting_of scene.now) (combine_of parts.now)) machine.old machine.new result }
     ensures spent { machine.new.left ≤ machine.old.left }
+    ensures kept { standing machine.new ≡ standing machine.old }
     ensures less { OnOk result (machine.new.left < machine.old.left) }
 {
     machine.tick()?;
     let (one, joint, other) = parts;
-    if let Joint::Join = joint {
-        return join_pair(machine, scene, one, other);
-    }
-    let x = eval(machine, scene, one)?;
-    if is_decided(*joint, &x) {
-        return Ok(x);
-    }
-    let y = eval(machine, scene, other)?;
-    machine.apply(scene.alloc, *joint, &x, &y)
-}
-
-/// Two texts as one, the first of which is only read where it stands in the program.
-#[cycle(terms)]
-fn join_pair(machine: &mut Machine, scene: &Scene, one: &Term, other: &Term) -> Result<Val, Stop>
-    ensures agrees { Agrees (joined_pair (eval (setting_of scene.now) (term_of one.now)) (eval (setting_of scene.now) (term_of other.now))) machine.old machine.new result }
-    ensures spent { machine.new.left ≤ machine.old.left }
-{
-    match one {
-        Term::Single(Atom::Constant(value)) => {
-            machine.tick()?;
-            join_behind(machine, scene, Lent::Held(value), other)
-        }
-        Term::Single(Atom::Slot(place)) => {
-            machine.tick()?;
-            join_to_slot(machine, scene, *place, other)
-        }
-        _ => {
-            let x = eval(machine, scene, one)?;
-            join_behind(machine, scene, Lent::Set(&x), other)
-        }
-    }
-}
-
-/// A variable's text with that behind it which a term gives. It is copied only where the term isn't a constant.
-#[cycle(terms)]
-fn join_to_slot(
-    machine: &mut Machine,
-    scene: &Scene,
-    place: usize,
-    term: &Term,
-) -> Result<Val, Stop>
-    ensures agrees { Agrees (joined_pair (read.value place) (eval (setting_of scene.now) (term_of term.now))) machine.old machine.new result }
-    ensures spent { machine.new.left ≤ machine.old.left }
-{
-    match term {
-        Term::Single(Atom::Constant(value)) => {
-            let _ = machine.variable_value(place)?;
-            machine.tick()?;
-            let x = machine.variable_value(place)?;
-            join(machine, scene, Lent::Set(x), Lent::Held(value))
-        }
-        _ => {
-            let x = machine.value(scene.alloc, place)?;
-            join_behind(machine, scene, Lent::Set(&x), term)
-        }
-    }
-}
-
-/// A text with that behind it which a term gives.
-#[cycle(terms)]
-fn join_behind(machine: &mut Machine, scene: &Scene, x: Lent, term: &Term) -> Result<Val, Stop>
-    ensures agrees { Agrees (applied j.Join (value_lent x.entry) (eval (setting_of scene.now) (term_of term.now))) machine.old machine.new result }
-    ensures spent { machine.new.left ≤ machine.old.left }
-{
-    match term {
-        Term::Single(atom) => {
-            machine.tick()?;
-            join_single(machine, scene, x, atom)
-        }
-        _ => {
-            let y = eval(machine, scene, term)?;
-            join(machine, scene, x, Lent::Set(&y))
-        }
-    }
+    let x = find(machine, scene, one)?;
+    let y = find(machine, scene, other)?;
+    machine.apply(scene.alloc, *joint, machine.lend(&x), machine.lend(&y))
 }
 
 /// An operator between a value and what a term gives.
@@ -341,12 +439,10 @@ fn apply_to(
 ) -> Result<Val, Stop>
     ensures agrees { Agrees (applied joint x.now (eval (setting_of scene.now) (term_of term.now))) machine.old machine.new result }
     ensures spent { machine.new.left ≤ machine.old.left }
+    ensures kept { standing machine.new ≡ standing machine.old }
 {
-    if let Joint::Join = joint {
-        return join_behind(machine, scene, Lent::Set(x), term);
-    }
-    let y = eval(machine, scene, term)?;
-    machine.apply(scene.alloc, joint, x, &y)
+    let y = find(machine, scene, term)?;
+    machine.apply(scene.alloc, joint, Lent::Set(x), machine.lend(&y))
 }
 
 /// What the first operator of a chain gives, which is one between numbers.
@@ -359,6 +455,7 @@ fn number_pair(
     requires { is_arithmetic parts.now.1 ≡ true }
     ensures agrees { AgreesAs int (eval (setting_of scene.now) (combine_of parts.now)) machine.old machine.new result }
     ensures spent { machine.new.left ≤ machine.old.left }
+    ensures kept { standing machine.new ≡ standing machine.old }
     ensures less { OnOk result (machine.new.left < machine.old.left) }
 {
     machine.tick()?;
@@ -374,6 +471,52 @@ fn number_pair(
     machine.calculate(*joint, x, y)
 }
 
+/// What the first operator of a chain gives, which is `and` or `or`.
+#[cycle(terms)]
+#[tactic(auto, using(script_machine::proofs::FlagLemmas::left_unchosen))]
+fn truth_pair(
+    machine: &mut Machine,
+    scene: &Scene,
+    parts: &(Term, Joint, Term),
+) -> Result<bool, Stop>
+    requires { is_choice parts.now.1 ≡ true }
+    ensures agrees { AgreesAs flag (eval (setting_of scene.now) (combine_of parts.now)) machine.old machine.new result }
+    ensures spent { machine.new.left ≤ machine.old.left }
+    ensures kept { standing machine.new ≡ standing machine.old }
+    ensures less { OnOk result (machine.new.left < machine.old.left) }
+{
+    machine.tick()?;
+    let (one, joint, other) = parts;
+    let Some(x) = eval_truth(machine, scene, one)? else {
+        let _ = eval_truth(machine, scene, other)?;
+        return Err(Stop::Unchecked);
+    };
+    if is_decided_flag(*joint, x) {
+        return Ok(x);
+    }
+    choose(machine, scene, *joint, x, other)
+}
+
+/// An operator between a truth value and what a term gives.
+#[cycle(terms)]
+#[tactic(auto, using(script_machine::proofs::FlagLemmas::right_unchosen))]
+fn choose(
+    machine: &mut Machine,
+    scene: &Scene,
+    joint: Joint,
+    x: bool,
+    term: &Term,
+) -> Result<bool, Stop>
+    ensures agrees { AgreesAs flag (applied joint (flag x) (eval (setting_of scene.now) (term_of term.now))) machine.old machine.new result }
+    ensures spent { machine.new.left ≤ machine.old.left }
+    ensures kept { standing machine.new ≡ standing machine.old }
+{
+    let Some(y) = eval_truth(machine, scene, term)? else {
+        return Err(Stop::Unchecked);
+    };
+    machine.choose(joint, x, y)
+}
+
 /// What stands behind a value, joined to it from left to right.
 #[cycle(terms)]
 fn eval_links(
@@ -384,10 +527,11 @@ fn eval_links(
 ) -> Result<Val, Stop>
     ensures agrees { Agrees (linked (setting_of scene.now) links.now first) machine.old machine.new result }
     ensures spent { machine.new.left ≤ machine.old.left }
+    ensures kept { standing machine.new ≡ standing machine.old }
 {
     let mut x = first;
     'links: for (joint, term) in links {
-        if is_decided(*joint, &x) {
+        if is_decided(*joint, Lent::Set(&x)) {
             continue;
         }
         x = apply_to(machine, scene, *joint, &x, term)?;
@@ -405,6 +549,7 @@ fn number_links(
 ) -> Result<i64, Stop>
     ensures agrees { AgreesAs int (linked (setting_of scene.now) links.now (int first)) machine.old machine.new result }
     ensures spent { machine.new.left ≤ machine.old.left }
+    ensures kept { standing machine.new ≡ standing machine.old }
 {
     let mut x = first;
     'links: for (joint, term) in links {
@@ -412,6 +557,28 @@ fn number_links(
             return Err(Stop::Unchecked);
         };
         x = machine.calculate(*joint, x, y)?;
+    }
+    Ok(x)
+}
+
+/// What stands behind a truth value, joined to it from left to right.
+#[cycle(terms)]
+fn truth_links(
+    machine: &mut Machine,
+    scene: &Scene,
+    links: &[(Joint, Term)],
+    first: bool,
+) -> Result<bool, Stop>
+    ensures agrees { AgreesAs flag (linked (setting_of scene.now) links.now (flag first)) machine.old machine.new result }
+    ensures spent { machine.new.left ≤ machine.old.left }
+    ensures kept { standing machine.new ≡ standing machine.old }
+{
+    let mut x = first;
+    'links: for (joint, term) in links {
+        if is_decided_flag(*joint, x) {
+            continue;
+        }
+        x = choose(machine, scene, *joint, x, term)?;
     }
     Ok(x)
 }

@@ -5,7 +5,7 @@ ghost use Rattle.script_types.specs.ProgramOf.{term_of};
 ghost use Rattle.script_machine.specs.Agreeing.{Agrees};
 ghost use Rattle.script_machine.specs.Settings.{setting_of};
 
-use crate::terms::{eval, eval_number};
+use crate::terms::{eval, eval_number, find};
 use script_machine::{Machine, Scene, Stop, activity_of, timer_of};
 use script_types::Term;
 use slee_effect::{Ref, Val};
@@ -40,8 +40,8 @@ pub fn eval_activity(machine: &mut Machine, scene: &Scene, term: &Term) -> Resul
     ensures agrees { Agrees (activity_of (setting_of scene.now) (term_of term.now)) machine.old machine.new result }
     ensures spent { machine.new.left ≤ machine.old.left }
 {
-    let x = eval(machine, scene, term)?;
-    activity_of(&x)
+    let x = find(machine, scene, term)?;
+    activity_of(machine.lend(&x))
 }
 
 /// What a term gives that is a timer.
@@ -50,6 +50,6 @@ pub fn eval_timer(machine: &mut Machine, scene: &Scene, term: &Term) -> Result<R
     ensures agrees { Agrees (timer_of (setting_of scene.now) (term_of term.now)) machine.old machine.new result }
     ensures spent { machine.new.left ≤ machine.old.left }
 {
-    let x = eval(machine, scene, term)?;
-    timer_of(&x)
+    let x = find(machine, scene, term)?;
+    timer_of(machine.lend(&x))
 }

@@ -1,18 +1,23 @@
-use Rattle.std.proofs.Common.{rules, ◌≡◌, sym, subst, arith, to_z, of_z, w64}
+use Rattle.std.proofs.Common.{rules, ◌≡◌, ◌∙◌, sym, subst, arith, to_z, of_z, w64}
 use Rattle.std.proofs.lemmas.Result.{err_from_is_err_and}
 use Rattle.std.proofs.lemmas.Int.{to_z-of_z}
 use Rattle.slee_effect.specs.declared.value.Val.{Val}
 use Rattle.handler_meaning.specs.Running.{Ending}
 use Rattle.script_machine.specs.Settings.{setting_of}
 use Rattle.handler_meaning.specs.Values.{int, flag}
-use Rattle.script_machine.specs.Agreeing.{Ends, EndsFinding}
-use Rattle.script_machine.specs.Kinds.{NoInt}
+use Rattle.script_machine.specs.Agreeing.{EndsAs, EndsFinding}
+use Rattle.script_machine.specs.Lending.{value_at, standing}
+use Rattle.script_machine.specs.Kinds.{NoInt, NoFlag}
 use Rattle.term_run.proofs.ChainLemmas.{chain_eval, linked_stops, linked_step, number_stops, number_step}
 use Rattle.term_run.proofs.terms.+terms.Goals as goal
 
-pub eval-returns-in-Chain-clause-agrees : goal.eval-returns-in-Chain-clause-agrees
-eval-returns-in-Chain-clause-agrees t c =
-    subst (λ (x : Ending Val). Ends x c.eval_chain.new.machine c.eval_chain.result) (sym (chain_eval (setting_of c.args.scene.now) c.args.term.now c.in-Chain.first c.in-Chain.more c.args.machine.now c.in-Chain.is)) (rw (c.deref-in-Chain.ensures, c.deref-in-Chain-2.ensures.value) at c.eval_chain.ensures.agrees)
+pub find-returns-in-Chain-clause-agrees : goal.find-returns-in-Chain-clause-agrees
+find-returns-in-Chain-clause-agrees t c =
+    subst (λ (x : Ending Val). EndsAs (value_at (standing c.find_chain.new.machine)) x c.find_chain.new.machine c.find_chain.result) (sym (chain_eval (setting_of c.args.scene.now) c.args.term.now c.in-Chain.first c.in-Chain.more c.args.machine.now c.in-Chain.is)) (rw (c.deref-in-Chain.ensures, c.deref-in-Chain-2.ensures.value) at c.find_chain.ensures.agrees)
+
+pub eval_truth-returns-in-Chain-clause-finds : goal.eval_truth-returns-in-Chain-clause-finds
+eval_truth-returns-in-Chain-clause-finds t c =
+    subst (λ (x : Ending Val). EndsFinding flag NoFlag x c.truth_in_chain.new.machine c.truth_in_chain.result) (sym (chain_eval (setting_of c.args.scene.now) c.args.term.now c.in-Chain.first c.in-Chain.more c.args.machine.now c.in-Chain.is)) (rw (c.deref-in-Chain.ensures, c.deref-in-Chain-2.ensures.value) at c.truth_in_chain.ensures.finds)
 
 pub eval_links-returns-in_err-x-clause-agrees : goal.eval_links-returns-in_err-x-clause-agrees
 eval_links-returns-in_err-x-clause-agrees t c =
@@ -21,7 +26,7 @@ eval_links-returns-in_err-x-clause-agrees t c =
 
 pub eval_links-links-preserved : goal.eval_links-links-preserved
 eval_links-links-preserved t c =
-    (linked_step (setting_of c.args.scene.now) c.args.links.now c.links.joint-index c.links-item.result c.links.x c.in_ok-x.x c.links.machine c.apply_to.new.machine _ c.links-test.true c.links-item.is c.links.invariant.0 (sym c.if-is_decided.ensures) c.in_ok-x.ensures.agrees, omega (arith, c.in_ok-x.ensures.spent, c.links.invariant.1))
+    (linked_step (setting_of c.args.scene.now) c.args.links.now c.links.joint-index c.links-item.result c.links.x c.in_ok-x.x c.links.machine c.apply_to.new.machine _ c.links-test.true c.links-item.is c.links.invariant.0 (sym c.if-is_decided.ensures) c.in_ok-x.ensures.agrees, omega (arith, c.in_ok-x.ensures.spent, c.links.invariant.1), c.in_ok-x.ensures.kept ∙ c.links.invariant.2)
 
 pub eval_number-returns-in_ok-eval_compared-in-Compare-clause-finds : goal.eval_number-returns-in_ok-eval_compared-in-Compare-clause-finds
 eval_number-returns-in_ok-eval_compared-in-Compare-clause-finds t c = (flag c.in_ok-eval_compared-in-Compare.field-0, (tt, search rules))
@@ -42,4 +47,4 @@ number_links-links-preserved t c =
     let given = rw c.in-Some.is at c.in_ok-y.ensures.finds in
     let z : to_z w64 (of_z w64 c.in_ok-x.x) ≡ c.in_ok-x.x = search rules in
     let so_far = rw c.links.x-is at c.links.invariant.0 in
-    (rw z (number_step (setting_of c.args.scene.now) c.args.links.now c.links.joint-index c.links-item.result c.links.x c.links.machine _ c.links-test.true c.links-item.is so_far (int c.in-Some.y) (int c.in_ok-x.x) c.eval_number.new.machine c.eval_number.new.machine given (rw (c.links.x-is, to_z-of_z w64 c.in-Some.y (search rules)) at c.in_ok-x.ensures)), omega (arith, c.in_ok-y.ensures.spent, c.links.invariant.1))
+    (rw z (number_step (setting_of c.args.scene.now) c.args.links.now c.links.joint-index c.links-item.result c.links.x c.links.machine _ c.links-test.true c.links-item.is so_far (int c.in-Some.y) (int c.in_ok-x.x) c.eval_number.new.machine c.eval_number.new.machine given (rw (c.links.x-is, to_z-of_z w64 c.in-Some.y (search rules)) at c.in_ok-x.ensures)), omega (arith, c.in_ok-y.ensures.spent, c.links.invariant.1), c.in_ok-y.ensures.kept ∙ c.links.invariant.2)

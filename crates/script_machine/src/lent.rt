@@ -1,13 +1,13 @@
-//! Values as they are kept and as a script reads them.
+//! Values that are lent where they stand.
 ghost use Rattle.std.specs.Prelude.{◌≡◌, IfOk};
 ghost use Rattle.std.specs.Option.{option_copied};
 ghost use Rattle.handler_meaning.specs.Answers.{initial, is_of, fit, held_in};
 ghost use Rattle.handler_meaning.specs.Values.{int, flag, text};
 ghost use Rattle.script_machine.specs.Kinds.{Finds, NoInt, NoFlag, NoText};
-ghost use Rattle.script_reading.specs.Lending.{value_lent};
+ghost use Rattle.script_machine.specs.Lending.{value_lent};
 
+use crate::kinds::{flag_in, flag_within, int_in, int_within, text_in, text_within};
 use handler_meaning::Seen;
-use script_machine::{flag_in, flag_within, int_in, int_within, text_in, text_within};
 use slee_effect::Val;
 use slee_value::{ActivityId, Kind, NoMemory, Text, TimerId, Value};
 use std::alloc::Global;
@@ -15,17 +15,19 @@ use std::alloc::Global;
 /// A value that is lent where it stands.
 #[derive(Debug, Clone, Copy)]
 pub enum Lent<'a> {
-    /// That which an effect gives.
+    /// That of a variable or an effect, or one that was made.
     Set(&'a Val),
-    /// That of an answer or of an event.
+    /// That of the code, an answer or an event.
     Held(&'a Value),
+    /// A text of the arguments.
+    Text(&'a Text),
     /// The initial value of a type.
     Initial(Kind),
 }
 
 impl<'a> Lent<'a> {
     /// The value of a field or an attribute in an answer.
-    pub(crate) fn held_in(kind: Kind, seen: Option<&'a Seen>) -> Lent<'a>
+    pub fn held_in(kind: Kind, seen: Option<&'a Seen>) -> Lent<'a>
         ensures { value_lent result ≡ held_in kind (option_copied seen.entry) }
     {
         match seen {
@@ -35,12 +37,13 @@ impl<'a> Lent<'a> {
     }
 
     /// Whether it is of the type.
-    fn is_of(&self, kind: Kind) -> bool
+    pub fn is_of(&self, kind: Kind) -> bool
         ensures { result ≡ is_of kind (value_lent self.now) }
     {
         match self {
             Lent::Set(value) => is_of(kind, value),
             Lent::Held(value) => value.kind() == kind,
+            Lent::Text(_) => kind == Kind::Text,
             Lent::Initial(own) => *own == kind,
         }
     }
@@ -56,6 +59,7 @@ impl<'a> Lent<'a> {
     }
 
     /// The number that it is, if it is one.
+    #[inline(always)]
     pub fn number(&self) -> Option<i64>
         ensures { Finds int NoInt (value_lent self.now) result }
     {
@@ -63,11 +67,12 @@ impl<'a> Lent<'a> {
             Lent::Set(value) => int_within(value),
             Lent::Held(value) => int_in(value),
             Lent::Initial(Kind::Int) => Some(0),
-            Lent::Initial(_) => None,
+            Lent::Text(_) | Lent::Initial(_) => None,
         }
     }
 
     /// The truth value that it is, if it is one.
+    #[inline(always)]
     pub fn flag(&self) -> Option<bool>
         ensures { Finds flag NoFlag (value_lent self.now) result }
     {
@@ -75,17 +80,19 @@ impl<'a> Lent<'a> {
             Lent::Set(value) => flag_within(value),
             Lent::Held(value) => flag_in(value),
             Lent::Initial(Kind::Bool) => Some(false),
-            Lent::Initial(_) => None,
+            Lent::Text(_) | Lent::Initial(_) => None,
         }
     }
 
     /// The text that it is, if it is one.
+    #[inline(always)]
     pub fn text(&self) -> Option<&'a str>
         ensures { Finds (λ t. text t.now) NoText (value_lent self.now) result }
     {
         match self {
             Lent::Set(value) => text_within(value),
             Lent::Held(value) => text_in(value),
+            Lent::Text(text) => Some(text.as_str()),
             Lent::Initial(Kind::Text) => Some(""),
             Lent::Initial(_) => None,
         }
@@ -98,6 +105,7 @@ impl<'a> Lent<'a> {
         match self {
             Lent::Set(value) => value.copy(alloc),
             Lent::Held(value) => Ok(Val::Plain(value.copy(alloc)?)),
+            Lent::Text(text) => Ok(Val::Plain(Value::Text(text.copy(alloc)?))),
             Lent::Initial(kind) => initial(alloc, *kind),
         }
     }

@@ -1,0 +1,101 @@
+//! How many children of a relation there are. They are counted where they stand.
+ghost use Rattle.std.specs.Prelude.{◌≡◌, ◌≤◌, ◌<◌, ◌+◌, ◌++◌, ◌^◌, length, map, pos};
+ghost use Rattle.std.specs.Option.{option_copied};
+ghost use Rattle.slee_effect.specs.declared.reference.Ref.TheVariants as ref;
+ghost use Rattle.handler_meaning.specs.Answers.{ids_in};
+ghost use Rattle.handler_meaning.specs.Overlay.{overlay, entities_by, children_after};
+ghost use Rattle.handler_meaning.specs.Values.{int};
+ghost use Rattle.script_machine.specs.Agreeing.{AgreesAs};
+ghost use Rattle.script_machine.specs.Lending.{standing};
+ghost use Rattle.script_machine.specs.Settings.{setting_of};
+ghost use Rattle.script_reading.specs.Counting.{staying, creates, created, count_children};
+
+use crate::answers::ids_in;
+use crate::lists::children_key;
+use crate::things::{Thing, count_made, made_by};
+use handler_meaning::Seen;
+use script_machine::{Machine, Scene, Stop, is_removed, is_same_ref};
+use slee_effect::{Effect, Ref};
+use slee_value::Name;
+
+/// How many of these children no effect removes.
+#[tactic(auto, using(script_machine::proofs::VariableLemmas::removed_by_both))]
+fn count_staying(children: &[u64], before: &[Effect], own: &[Effect]) -> usize
+    ensures staying { result ≡ staying (before.now ++ own.now) (map ref.Known children.now) }
+    ensures most { result ≤ length children.now }
+{
+    let mut count = 0;
+    for number in children {
+        let child = Ref::Known(*number);
+        if !is_removed(child, before) && !is_removed(child, own) {
+            count += 1;
+        }
+    }
+    count
+}
+
+/// Whether an effect creates a child of the relation.
+fn creates(entity: Ref, relation: &Name, effect: &Effect) -> bool
+    ensures { result ≡ creates entity relation.now effect.now }
+{
+    match effect {
+        Effect::Create {
+            parent,
+            relation: other,
+            priority: _,
+        } => is_same_ref(*parent, entity) && other.as_bytes() == relation.as_bytes(),
+        _ => false,
+    }
+}
+
+/// How many children effects create, before which so many entities were made, that neither later ones nor those behind
+/// remove.
+#[tactic(auto, using(script_machine::proofs::VariableLemmas::removed_by_both))]
+fn count_created(
+    entity: Ref,
+    relation: &Name,
+    before: u32,
+    effects: &[Effect],
+    behind: &[Effect],
+) -> usize
+    requires { before + length effects.now < 2 ^ 32 }
+    ensures created { result ≡ created entity relation.now before effects.now behind.now }
+    ensures most { result ≤ length effects.now }
+{
+    let mut count = 0;
+    let mut made = before;
+    for place in 0..effects.len() {
+        let effect = &effects[place];
+        let child = Ref::Fresh(made);
+        if creates(entity, relation, effect)
+            && !is_removed(child, &effects[place + 1..])
+            && !is_removed(child, behind)
+        {
+            count += 1;
+        }
+        made += made_by(Thing::Entity, effect);
+    }
+    count
+}
+
+#[tactic(auto, using(crate::proofs::CountingLemmas::children_counted))]
+fn children_counted(machine: &Machine, scene: &Scene, relation: &Name, seen: Option<&Seen>) -> i64
+    ensures { result ≡ pos (length (overlay entities_by (children_after scene.now.me relation.now) (scene.now.effects.now ++ machine.now.effects) (map ref.Known (ids_in (option_copied seen.entry))))) }
+{
+    let own = machine.effects();
+    let made = count_made(Thing::Entity, scene.effects);
+    let known = count_staying(ids_in(seen), scene.effects, own);
+    let earlier = count_created(scene.me, relation, 0, scene.effects, own);
+    let later = count_created(scene.me, relation, made, own, &[]);
+    (known + (earlier + later)) as i64
+}
+
+/// How many children of the relation there are.
+pub fn count_children(machine: &mut Machine, scene: &Scene, relation: &Name) -> Result<i64, Stop>
+    ensures agrees { AgreesAs int (count_children (setting_of scene.now) relation.now) machine.old machine.new result }
+    ensures spent { machine.new.left ≤ machine.old.left }
+    ensures kept { standing machine.new ≡ standing machine.old }
+{
+    let seen = machine.look(scene, children_key(scene.me, relation))?;
+    Ok(children_counted(machine, scene, relation, seen))
+}
