@@ -108,10 +108,7 @@ fn timers_without_an_occurrence_left_are_gone(rt: HostRuntime) -> Result<(), Fai
     let timers = &mut *kept;
     set(timers, spec(ONE, 10, 0, 1, Keep::All))?;
     set(timers, spec(ONE, 10, 10, 2, Keep::All))?;
-    set(
-        timers,
-        spec(ONE, LAST_MOMENT, LAST_MOMENT, 0, Keep::All),
-    )?;
+    set(timers, spec(ONE, LAST_MOMENT, LAST_MOMENT, 0, Keep::All))?;
     set(timers, spec(TWO, 30, 0, 1, Keep::NoneMissed))?;
     assert!(rt; is_due(alloc, timers, 10, &[(10, 1), (10, 2)]));
     timers.advance(10);
