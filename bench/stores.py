@@ -11,13 +11,14 @@ the rows no longer fit into the processor's caches, as the calls go from row to 
 Build the program first: cd crates/store_bench && rt run -- fields get 10 20
 """
 import argparse
+import functools
 import os
 import re
 import statistics
 import subprocess
 import sys
 import tempfile
-from concurrent.futures import ThreadPoolExecutor
+from concurrent.futures import ThreadPoolExecutor, wait
 
 HERE = os.path.dirname(os.path.abspath(__file__))
 PROGRAM = os.path.join(HERE, "..", "crates", "store_bench", "out", "store_bench")
@@ -27,52 +28,105 @@ MOST_RATIO = 2.5
 LEAST_SECONDS = 0.1
 MOST_ROUNDS = 4_000_000
 COUNTED_ROUNDS = 2_000
-# the store and its call
-CALLS = (
-    ("fields", "get"),
-    ("fields", "of"),
-    ("fields", "set"),
-    ("fields", "forget"),
-    ("fields", "forget_middle"),
-    ("masks", "is_masked"),
-    ("masks", "forget"),
-    ("masks", "forget_middle"),
-    ("masks", "set_middle"),
-    ("queues", "front"),
-    ("queues", "is_delivered"),
-    ("queues", "pop"),
-    ("queues", "pop_middle"),
-    ("queues", "mark_middle"),
-    ("queues", "hold_middle"),
-    ("tree", "find"),
-    ("tree", "children"),
-    ("tree", "compare"),
-    ("tree", "create_child"),
-    ("tree", "set_priority"),
-    ("contexts", "find"),
-    ("contexts", "is_attached"),
-    ("contexts", "attr"),
-    ("contexts", "named"),
-    ("contexts", "external"),
-    ("contexts", "drop_context"),
-    ("contexts", "attach"),
-    ("contexts", "unbind"),
-    ("contexts", "drop_middle"),
-    ("timers", "find"),
-    ("timers", "due"),
-    ("timers", "advance"),
-    ("timers", "cancel_all"),
-    ("timers", "cancel"),
-    ("timers", "cancel_middle"),
-    ("timers", "cancel_oldest"),
-    ("timers", "fire"),
-    ("timers", "repeat"),
-    ("timers", "repeat_middle"),
-    ("profiles", "get"),
-    ("profiles", "test_add"),
-    ("profiles", "remove_middle"),
-    ("profiles", "update_middle"),
-)
+# calls over rows of their own
+OWN_ROWS = (("timers", "repeat"), ("timers", "repeat_middle"))
+# calls that may look at all rows are counted over fewer rounds
+FEW_ROUNDS = 20
+LONG_CALLS = (("profiles", "test_add_duplicate"), ("profiles", "test_update_duplicate"))
+# the stores and their calls
+CALLS = {
+    "fields": (
+        "at",
+        "get",
+        "of",
+        "set",
+        "forget",
+        "forget_middle",
+    ),
+    "masks": (
+        "at",
+        "is_masked",
+        "of",
+        "forget",
+        "forget_middle",
+        "set_middle",
+        "attach_middle",
+    ),
+    "queues": (
+        "at",
+        "front",
+        "event_at",
+        "is_waiting",
+        "is_done",
+        "is_delivered",
+        "suspended_until",
+        "services_done",
+        "delivered",
+        "suspensions",
+        "pop",
+        "pop_middle",
+        "mark_middle",
+        "hold_middle",
+    ),
+    "tree": (
+        "at",
+        "find",
+        "has_child",
+        "service",
+        "compare",
+        "children",
+        "removal",
+        "create_root",
+        "create_child",
+        "remove_middle",
+        "set_priority",
+    ),
+    "contexts": (
+        "at",
+        "links_at",
+        "names_at",
+        "attrs_at",
+        "find",
+        "is_attached",
+        "links_on",
+        "attr",
+        "named",
+        "external",
+        "drop_context",
+        "drop_external",
+        "drop_middle",
+        "end_middle",
+        "attach",
+        "set_attr",
+        "unbind",
+        "bind",
+    ),
+    "timers": (
+        "at",
+        "find",
+        "due",
+        "advance",
+        "cancel_all",
+        "cancel_all_middle",
+        "cancel",
+        "cancel_middle",
+        "cancel_oldest",
+        "fire",
+        "repeat",
+        "repeat_middle",
+    ),
+    "profiles": (
+        "at",
+        "get",
+        "test_add",
+        "test_add_duplicate",
+        "test_update",
+        "test_update_duplicate",
+        "remove_middle",
+        "update_middle",
+        "update_same",
+    ),
+}
 
 
 def failed(store, call, rows, rounds, said):
@@ -81,17 +135,28 @@ def failed(store, call, rows, rounds, said):
 
 def instructions_of(store, call, rows, rounds):
     """How many instructions a run takes."""
-    words = ["valgrind", "--tool=callgrind", "--callgrind-out-file=/dev/null", PROGRAM, store, call, str(rows), str(rounds)]
+    counted = ["valgrind", "--tool=cachegrind", "--cache-sim=no", "--cachegrind-out-file=/dev/null"]
+    words = counted + [PROGRAM, store, call, str(rows), str(rounds)]
     ran = subprocess.run(words, capture_output=True, text=True, errors="replace", check=False)
-    found = re.search(r"Collected : (\d+)", ran.stderr)
+    found = re.search(r"I\s+refs:\s+([\d,]+)", ran.stderr)
     if ran.returncode or not found:
         failed(store, call, rows, rounds, ran.stdout + ran.stderr[-500:])
-    return int(found[1])
+    return int(found[1].replace(",", ""))
+
+
+@functools.lru_cache(maxsize=None)
+def making_of(store, call, rows):
+    """The instructions of a run that only makes the rows."""
+    return instructions_of(store, call, rows, 0)
 
 
 def instructions(store, call, rows):
     """The instructions of a round."""
-    return (instructions_of(store, call, rows, COUNTED_ROUNDS) - instructions_of(store, call, rows, 0)) / COUNTED_ROUNDS
+    is_long = (store, call) in LONG_CALLS
+    rounds = FEW_ROUNDS if is_long else COUNTED_ROUNDS
+    # all calls of a store are made over the same rows, but those with rows of their own
+    maker = call if is_long or (store, call) in OWN_ROWS else CALLS[store][0]
+    return (instructions_of(store, call, rows, rounds) - making_of(store, maker, rows)) / rounds
 
 
 def seconds_of(store, call, rows, rounds):
@@ -126,19 +191,23 @@ def main():
     words.add_argument("--time", action="store_true")
     words.add_argument("--jobs", type=int, default=os.cpu_count())
     given = words.parse_args()
+    stores = given.stores or list(CALLS)
     if not os.path.exists(PROGRAM):
         sys.exit("build it first: cd crates/store_bench && rt run -- fields get 10 20")
-    calls = [(store, call) for store, call in CALLS if not given.stores or store in given.stores]
+    calls = [(store, call) for store in stores for call in CALLS[store]]
     cost, unit = (nanoseconds, "ns") if given.time else (instructions, "instructions")
-    print(f"{'call':<26}" + "".join(f"{rows:>11,}" for rows in ROWS) + f"{'ratio':>8}   {unit} a round")
+    print(f"{'call':<32}" + "".join(f"{rows:>11,}" for rows in ROWS) + f"{'ratio':>8}   {unit} a round")
     # times are taken one after the other, counts side by side
     with ThreadPoolExecutor(1 if given.time else given.jobs) as lanes:
+        if not given.time:
+            makers = [lanes.submit(making_of, store, CALLS[store][0], rows) for store in stores for rows in ROWS]
+            wait(makers)
         found = [[lanes.submit(cost, store, call, rows) for rows in ROWS] for store, call in calls]
         for (store, call), costs in zip(calls, found):
             costs = [it.result() for it in costs]
             ratio = costs[-1] / costs[0]
             mark = "" if ratio <= MOST_RATIO else "   above"
-            print(f"{store + ' ' + call:<26}" + "".join(f"{it:>11.0f}" for it in costs) + f"{ratio:>8.2f}{mark}", flush=True)
+            print(f"{store + ' ' + call:<32}" + "".join(f"{it:>11.0f}" for it in costs) + f"{ratio:>8.2f}{mark}", flush=True)
 
 
 if __name__ == "__main__":

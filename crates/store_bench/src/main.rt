@@ -9,68 +9,26 @@ mod profiles;
 mod queues;
 mod timers;
 mod tree;
+mod words;
 
+use bench_rounds::{Asked, run};
 use slee_value::NoMemory;
-use std::alloc::Global;
 use std::process::ExitCode;
-use std::{env, io};
 
 fn main(rt: HostRuntime) -> ExitCode {
-    match words_of(&rt) {
-        Ok(words) => run(&rt, words.as_slice()),
-        Err(_) => ExitCode::from(2),
-    }
-}
-
-/// The words behind the program's name.
-fn words_of(rt: &HostRuntime) -> io::Result<Vec<String>> {
-    let mut words = Vec::new(rt.alloc());
-    for word in env::args(rt)?.skip(1) {
-        words.push(word)?;
-    }
-    Ok(words)
-}
-
-fn run(rt: &HostRuntime, words: &[String]) -> ExitCode {
-    match words {
-        [store, call, rows, rounds] => match (rows.parse::<u64>(), rounds.parse::<u64>()) {
-            (Ok(rows), Ok(rounds)) => {
-                let sum = measured(rt.alloc(), store.as_str(), call.as_str(), rows, rounds);
-                finish(rt, sum)
-            }
-            _ => ExitCode::from(2),
-        },
-        _ => ExitCode::from(2),
-    }
+    run(&rt, measured)
 }
 
 /// The sum over what the store answered, or none for other words.
-fn measured(
-    alloc: Global,
-    store: &str,
-    call: &str,
-    rows: u64,
-    rounds: u64,
-) -> Result<Option<u64>, NoMemory> {
+fn measured(store: &str, asked: &Asked<'_>) -> Result<Option<u64>, NoMemory> {
     match store {
-        "fields" => fields::measured(alloc, call, rows, rounds),
-        "masks" => masks::measured(alloc, call, rows, rounds),
-        "queues" => queues::measured(alloc, call, rows, rounds),
-        "contexts" => contexts::measured(alloc, call, rows, rounds),
-        "timers" => timers::measured(alloc, call, rows, rounds),
-        "tree" => tree::measured(alloc, call, rows, rounds),
-        "profiles" => profiles::measured(alloc, call, rows, rounds),
+        "fields" => fields::measured(asked),
+        "masks" => masks::measured(asked),
+        "queues" => queues::measured(asked),
+        "contexts" => contexts::measured(asked),
+        "timers" => timers::measured(asked),
+        "tree" => tree::measured(asked),
+        "profiles" => profiles::measured(asked),
         _ => Ok(None),
-    }
-}
-
-fn finish(rt: &HostRuntime, sum: Result<Option<u64>, NoMemory>) -> ExitCode {
-    match sum {
-        Ok(Some(sum)) => match println!(rt; "sum {sum}") {
-            Ok(()) => ExitCode::from(0),
-            Err(_) => ExitCode::from(1),
-        },
-        Ok(None) => ExitCode::from(2),
-        Err(_) => ExitCode::from(1),
     }
 }

@@ -1,17 +1,15 @@
 //! Calls of the store of event masks: an activity has one entity with four masks.
-ghost use Rattle.std.specs.Prelude.{◌<◌};
 
+use bench_rounds::{Asked, count, fill, one_of, sum_of};
 use event_mask::Masks;
 use slee_state::Mask;
 use slee_value::{ActivityId, EntityId, NoMemory, Text};
 use std::alloc::Global;
+use std::mem::forget;
 
 const EVENTS: [&str; 4] = ["answer", "busy", "no-answer", "release"];
 
 const ME: EntityId = EntityId(1);
-
-// Neighbours in rounds are far apart in rows.
-const STRIDE: u64 = 7919;
 
 fn put(alloc: Global, masks: &mut Masks, activity: u64) -> Result<(), NoMemory> {
     'events: for event in EVENTS.iter() {
@@ -25,86 +23,88 @@ fn put(alloc: Global, masks: &mut Masks, activity: u64) -> Result<(), NoMemory> 
     Ok(())
 }
 
-fn filled(alloc: Global, rows: u64) -> Result<Masks, NoMemory> {
-    let mut masks = Masks::new(alloc);
-    'rows: for activity in 0..rows / 4 + 1 {
-        put(alloc, &mut masks, activity)?;
+fn texts(alloc: Global) -> Result<Vec<Text>, NoMemory> {
+    let mut events = Vec::new(alloc);
+    'events: for event in EVENTS.iter() {
+        events.push(Text::from_str(alloc, event)?)?;
     }
-    Ok(masks)
+    Ok(events)
 }
 
-fn is_masked(masks: &Masks, event: &Text, activities: u64, rounds: u64) -> u64
-    requires { 0 < activities }
-{
-    let mut sum = 0_u64;
-    'rounds: for round in 0..rounds {
-        let activity = ActivityId(round.wrapping_mul(STRIDE) % activities);
-        if masks.is_masked(ME, activity, event) {
-            sum = sum.wrapping_add(1);
+/// The activity loses its masks, and gets them again.
+fn renew(alloc: Global, masks: &mut Masks, activity: u64) -> Result<u64, NoMemory> {
+    masks.forget(ME, ActivityId(activity));
+    put(alloc, masks, activity)?;
+    Ok(1)
+}
+
+/// The activity gets its masks, and loses them.
+fn forget_new(alloc: Global, masks: &mut Masks, activity: u64) -> Result<u64, NoMemory> {
+    put(alloc, masks, activity)?;
+    masks.forget(ME, ActivityId(activity));
+    Ok(1)
+}
+
+/// The entity is attached anew, with other masks in the place of its own.
+fn attach(alloc: Global, masks: &mut Masks, activity: u64) -> Result<u64, NoMemory> {
+    let events = texts(alloc)?;
+    masks.reserve(events.len() as u64)?;
+    masks.on_attach(ME, ActivityId(activity), events);
+    Ok(1)
+}
+
+/// An event isn't masked any more, and then it is again.
+fn set(alloc: Global, masks: &mut Masks, activity: u64) -> Result<u64, NoMemory> {
+    masks.set(
+        ME,
+        ActivityId(activity),
+        Text::from_str(alloc, "busy")?,
+        false,
+    );
+    masks.reserve(1)?;
+    masks.set(
+        ME,
+        ActivityId(activity),
+        Text::from_str(alloc, "busy")?,
+        true,
+    );
+    Ok(1)
+}
+
+fn is_at(masks: &Masks, place: u64) -> bool {
+    place < masks.len() && masks.at(place).entity == ME
+}
+
+fn called(asked: &Asked<'_>, masks: &mut Masks) -> Result<Option<u64>, NoMemory> {
+    let alloc = asked.alloc;
+    let rounds = asked.rounds;
+    let all = asked.rows / 4 + 1;
+    fill(all, |activity| put(alloc, masks, activity))?;
+    let places = masks.len();
+    let sum = match asked.call {
+        "at" => count(rounds, |round| is_at(masks, one_of(places, round))),
+        "is_masked" => {
+            let busy = Text::from_str(alloc, "busy")?;
+            count(rounds, |round| {
+                masks.is_masked(ME, ActivityId(one_of(all, round)), &busy)
+            })
         }
-    }
-    sum
-}
-
-/// A new activity gets its masks, and goes.
-fn forget(alloc: Global, masks: &mut Masks, activity: u64, rounds: u64) -> Result<u64, NoMemory> {
-    'rounds: for _ in 0..rounds {
-        put(alloc, masks, activity)?;
-        masks.forget(ME, ActivityId(activity));
-    }
-    Ok(masks.len())
-}
-
-/// An activity in the middle loses its masks, and gets them again.
-fn forget_middle(
-    alloc: Global,
-    masks: &mut Masks,
-    activities: u64,
-    rounds: u64,
-) -> Result<u64, NoMemory>
-    requires { 0 < activities }
-{
-    'rounds: for round in 0..rounds {
-        let activity = round.wrapping_mul(STRIDE) % activities;
-        masks.forget(ME, ActivityId(activity));
-        put(alloc, masks, activity)?;
-    }
-    Ok(masks.len())
-}
-
-/// In the middle an event isn't masked any more, and then it is again.
-fn set_middle(
-    alloc: Global,
-    masks: &mut Masks,
-    activities: u64,
-    rounds: u64,
-) -> Result<u64, NoMemory>
-    requires { 0 < activities }
-{
-    'rounds: for round in 0..rounds {
-        let activity = ActivityId(round.wrapping_mul(STRIDE) % activities);
-        masks.set(ME, activity, Text::from_str(alloc, "busy")?, false);
-        masks.reserve(1)?;
-        masks.set(ME, activity, Text::from_str(alloc, "busy")?, true);
-    }
-    Ok(masks.len())
-}
-
-/// The sum over what the calls answered, or none where there is no such call.
-pub fn measured(
-    alloc: Global,
-    call: &str,
-    rows: u64,
-    rounds: u64,
-) -> Result<Option<u64>, NoMemory> {
-    let mut masks = filled(alloc, rows)?;
-    let activities = rows / 4 + 1;
-    let sum = match call {
-        "is_masked" => is_masked(&masks, &Text::from_str(alloc, "busy")?, activities, rounds),
-        "forget" => forget(alloc, &mut masks, activities, rounds)?,
-        "forget_middle" => forget_middle(alloc, &mut masks, activities, rounds)?,
-        "set_middle" => set_middle(alloc, &mut masks, activities, rounds)?,
+        "of" => sum_of(rounds, |round| {
+            Ok(masks.of(ME, ActivityId(one_of(all, round))).len() as u64)
+        })?,
+        "forget" => sum_of(rounds, |_| forget_new(alloc, masks, all))?,
+        "forget_middle" => sum_of(rounds, |round| renew(alloc, masks, one_of(all, round)))?,
+        "set_middle" => sum_of(rounds, |round| set(alloc, masks, one_of(all, round)))?,
+        "attach_middle" => sum_of(rounds, |round| attach(alloc, masks, one_of(all, round)))?,
         _ => return Ok(None),
     };
     Ok(Some(sum))
+}
+
+/// The sum over what the calls answered, or none where there is no such call.
+pub fn measured(asked: &Asked<'_>) -> Result<Option<u64>, NoMemory> {
+    let mut masks = Masks::new(asked.alloc);
+    let sum = called(asked, &mut masks);
+    forget(masks);
+    sum
 }

@@ -1,37 +1,29 @@
 //! Calls of profile tables: one table, whose rows differ in a number.
-ghost use Rattle.std.specs.Prelude.{◌<◌};
 
-use profile_tables::{Profiles, TableSpec};
+use crate::words::word;
+use bench_rounds::{Asked, count, fill, one_of, sum_of};
+use profile_tables::{Profiles, RowFault, TableSpec};
 use script_types::{CodeList, FieldCode};
 use slee_state::ProfileRow;
 use slee_value::{Kind, Name, NoMemory, Payload, Text, Value};
 use std::alloc::Global;
+use std::mem::forget;
 
 const TABLE: u32 = 0;
 
-// Numbers from this one on have as many digits.
-const WIDE: u64 = 1_000_000_000;
-
-// Neighbours in rounds are far apart in rows.
-const STRIDE: u64 = 7919;
-
-// A row's name: the letter n, and digits. Names rise with their numbers.
-fn word(alloc: Global, number: u64) -> Result<Text, NoMemory> {
-    let wide = number.wrapping_add(WIDE);
-    let spelled = format!(in alloc; "n{wide}")?;
-    Text::from_str(alloc, spelled.as_str())
-}
+// The numbers of the rows are below this one.
+const MOST: u64 = 1_000_000_000;
 
 fn values(alloc: Global, number: u64) -> Result<Payload, NoMemory> {
     let mut fields = Payload::new(alloc);
     fields.push(
         Name::from_slice(alloc, b"pin")?,
-        Value::Int((number % WIDE) as i64),
+        Value::Int((number % MOST) as i64),
     )?;
     Ok(fields)
 }
 
-fn empty(alloc: Global) -> Result<Profiles, NoMemory> {
+fn tables(alloc: Global) -> Result<Vec<TableSpec>, NoMemory> {
     let mut attributes = CodeList::new(alloc);
     attributes.push(FieldCode {
         name: Name::from_slice(alloc, b"pin")?,
@@ -41,110 +33,153 @@ fn empty(alloc: Global) -> Result<Profiles, NoMemory> {
     unique.push(Name::from_slice(alloc, b"pin")?)?;
     let mut tables = Vec::new(alloc);
     tables.push(TableSpec { attributes, unique })?;
-    Ok(Profiles::new(alloc, tables))
+    Ok(tables)
 }
 
-// Rows are put back as they were.
-fn filled(alloc: Global, rows: u64) -> Result<Profiles, NoMemory> {
-    let mut profiles = empty(alloc)?;
-    'rows: for number in 0..rows {
-        profiles.reserve(1)?;
-        profiles.restore(ProfileRow {
-            table: TABLE,
-            row: word(alloc, number)?,
-            attributes: values(alloc, number)?,
-        });
+/// The row is put back as it was.
+fn put(alloc: Global, profiles: &mut Profiles, number: u64) -> Result<(), NoMemory> {
+    profiles.reserve(1)?;
+    profiles.restore(ProfileRow {
+        table: TABLE,
+        row: word(alloc, number)?,
+        attributes: values(alloc, number)?,
+    });
+    Ok(())
+}
+
+/// The row goes, and comes again.
+fn renew(alloc: Global, profiles: &mut Profiles, number: u64) -> Result<u64, NoMemory> {
+    profiles.reserve(1)?;
+    let row = word(alloc, number)?;
+    let fields = values(alloc, number)?;
+    if profiles.remove(TABLE, &row).is_ok() && profiles.add(TABLE, row, fields).is_ok() {
+        Ok(1)
+    } else {
+        Ok(0)
     }
-    Ok(profiles)
 }
 
-/// Rows are found by two names in turn.
-fn get(profiles: &Profiles, one: &Text, other: &Text, rounds: u64) -> u64 {
-    let mut sum = 0_u64;
-    'rounds: for round in 0..rounds {
-        let row = if round % 2 == 0 { one } else { other };
-        if profiles.get(TABLE, row).is_ok() {
-            sum = sum.wrapping_add(1);
-        }
-    }
-    sum
-}
-
-/// A new row with a number of its own could be added.
-fn test_add(profiles: &Profiles, row: &Text, fields: &Payload, rounds: u64) -> u64 {
-    let mut sum = 0_u64;
-    'rounds: for _ in 0..rounds {
-        if profiles.test_add(TABLE, row, fields).is_ok() {
-            sum = sum.wrapping_add(1);
-        }
-    }
-    sum
-}
-
-/// A row in the middle goes, and comes again.
-fn remove_middle(
+/// The row is to have this value.
+fn update(
     alloc: Global,
     profiles: &mut Profiles,
-    rows: u64,
-    rounds: u64,
-) -> Result<u64, NoMemory>
-    requires { 0 < rows }
-{
-    'rounds: for round in 0..rounds {
-        let number = round.wrapping_mul(STRIDE) % rows;
-        let row = word(alloc, number)?;
-        let _removed = profiles.remove(TABLE, &row);
-        profiles.reserve(1)?;
-        let _added = profiles.add(TABLE, row, values(alloc, number)?);
+    number: u64,
+    value: u64,
+) -> Result<u64, NoMemory> {
+    let row = word(alloc, number)?;
+    let fields = values(alloc, value)?;
+    match profiles.update(TABLE, row, fields) {
+        Ok(()) => Ok(1),
+        Err(_) => Ok(0),
     }
-    Ok(profiles.len())
 }
 
-/// A row in the middle has a number that no row had.
-fn update_middle(
-    alloc: Global,
-    profiles: &mut Profiles,
-    rows: u64,
-    rounds: u64,
-) -> Result<u64, NoMemory>
-    requires { 0 < rows }
-{
-    let mut sum = 0_u64;
-    'rounds: for round in 0..rounds {
-        let row = word(alloc, round.wrapping_mul(STRIDE) % rows)?;
-        let fields = values(alloc, rows.wrapping_add(round))?;
-        if profiles.update(TABLE, row, fields).is_ok() {
-            sum = sum.wrapping_add(1);
-        }
+/// Another row has a value that is to be unique.
+fn is_duplicate(tested: Result<(), RowFault>) -> bool {
+    match tested {
+        Err(RowFault::Duplicate { .. }) => true,
+        _ => false,
     }
-    Ok(sum)
 }
 
-/// The sum over what the calls answered, or none where there is no such call.
-pub fn measured(
-    alloc: Global,
-    call: &str,
-    rows: u64,
-    rounds: u64,
-) -> Result<Option<u64>, NoMemory> {
-    let mut profiles = filled(alloc, rows)?;
-    let some = rows.max(1);
-    let sum = match call {
-        "get" => get(
-            &profiles,
-            &word(alloc, rows / 2)?,
-            &word(alloc, rows / 3)?,
-            rounds,
-        ),
-        "test_add" => test_add(
-            &profiles,
-            &word(alloc, rows)?,
-            &values(alloc, rows)?,
-            rounds,
-        ),
-        "remove_middle" => remove_middle(alloc, &mut profiles, some, rounds)?,
-        "update_middle" => update_middle(alloc, &mut profiles, some, rounds)?,
+/// What is asked for: names of rows in the middle and of none, and values of no row and of one in the middle.
+#[derive(Drop)]
+struct Sought {
+    middle: Text,
+    third: Text,
+    new: Text,
+    free: Payload,
+    taken: Payload,
+}
+
+fn rows_sought(asked: &Asked<'_>) -> Result<Sought, NoMemory> {
+    let alloc = asked.alloc;
+    let rows = asked.rows;
+    Ok(Sought {
+        middle: word(alloc, rows / 2)?,
+        third: word(alloc, rows / 3)?,
+        new: word(alloc, rows)?,
+        free: values(alloc, rows)?,
+        taken: values(alloc, rows / 2)?,
+    })
+}
+
+fn is_at(profiles: &Profiles, place: u64) -> bool {
+    place < profiles.len() && profiles.at(place).table == TABLE
+}
+
+fn read(asked: &Asked<'_>, profiles: &Profiles, sought: &Sought) -> Option<u64> {
+    let rounds = asked.rounds;
+    let sum = match asked.call {
+        "at" => count(rounds, |round| is_at(profiles, one_of(asked.rows, round))),
+        // rows are found by two names in turn
+        "get" => count(rounds, |round| {
+            let row = if round % 2 == 0 {
+                &sought.middle
+            } else {
+                &sought.third
+            };
+            profiles.get(TABLE, row).is_ok()
+        }),
+        "test_add" => count(rounds, |_| {
+            profiles.test_add(TABLE, &sought.new, &sought.free).is_ok()
+        }),
+        // a row in the middle has the value
+        "test_add_duplicate" => count(rounds, |_| {
+            is_duplicate(profiles.test_add(TABLE, &sought.new, &sought.taken))
+        }),
+        "test_update" => count(rounds, |_| {
+            profiles
+                .test_update(TABLE, &sought.middle, &sought.free)
+                .is_ok()
+        }),
+        "test_update_duplicate" => count(rounds, |_| {
+            is_duplicate(profiles.test_update(TABLE, &sought.third, &sought.taken))
+        }),
+        _ => return None,
+    };
+    Some(sum)
+}
+
+fn change(asked: &Asked<'_>, profiles: &mut Profiles) -> Result<Option<u64>, NoMemory> {
+    let alloc = asked.alloc;
+    let rows = asked.rows;
+    let rounds = asked.rounds;
+    let sum = match asked.call {
+        "remove_middle" => sum_of(rounds, |round| renew(alloc, profiles, one_of(rows, round)))?,
+        // no row had the value
+        "update_middle" => sum_of(rounds, |round| {
+            update(
+                alloc,
+                profiles,
+                one_of(rows, round),
+                rows.wrapping_add(round),
+            )
+        })?,
+        // the row has the value
+        "update_same" => sum_of(rounds, |round| {
+            let number = one_of(rows, round);
+            update(alloc, profiles, number, number)
+        })?,
         _ => return Ok(None),
     };
     Ok(Some(sum))
+}
+
+fn called(asked: &Asked<'_>, profiles: &mut Profiles) -> Result<Option<u64>, NoMemory> {
+    let alloc = asked.alloc;
+    fill(asked.rows, |number| put(alloc, profiles, number))?;
+    if let Some(sum) = change(asked, profiles)? {
+        return Ok(Some(sum));
+    }
+    let sought = rows_sought(asked)?;
+    Ok(read(asked, profiles, &sought))
+}
+
+/// The sum over what the calls answered, or none where there is no such call.
+pub fn measured(asked: &Asked<'_>) -> Result<Option<u64>, NoMemory> {
+    let mut profiles = Profiles::new(asked.alloc, tables(asked.alloc)?);
+    let sum = called(asked, &mut profiles);
+    forget(profiles);
+    sum
 }

@@ -1,10 +1,11 @@
 //! Calls of the store of events: an activity has four events.
-ghost use Rattle.std.specs.Prelude.{◌<◌};
 
+use bench_rounds::{Asked, count, fill, one_of, sum_of};
 use event_queue::Queues;
 use slee_state::Event;
 use slee_value::{ActivityId, EntityId, EventId, NoMemory, Payload, Text};
 use std::alloc::Global;
+use std::mem::forget;
 
 const EACH: u64 = 4;
 
@@ -13,9 +14,6 @@ const SERVICE: u32 = 3;
 // The moment until which events are suspended.
 const UNTIL: u64 = 500;
 
-// Neighbours in rounds are far apart in rows.
-const STRIDE: u64 = 7919;
-
 fn put_event(
     alloc: Global,
     queues: &mut Queues,
@@ -23,23 +21,24 @@ fn put_event(
     number: u64,
 ) -> Result<(), NoMemory> {
     queues.reserve(1)?;
-    queues.push(
-        ActivityId(activity),
-        Event {
-            id: EventId(number),
-            name: Text::from_str(alloc, "ring")?,
-            fields: Payload::new(alloc),
-            target: None,
-        },
-    );
+    let event = Event {
+        id: EventId(number),
+        name: Text::from_str(alloc, "ring")?,
+        fields: Payload::new(alloc),
+        target: None,
+    };
+    queues.push(ActivityId(activity), event);
     Ok(())
 }
 
-fn put(alloc: Global, queues: &mut Queues, activity: u64) -> Result<(), NoMemory> {
-    'events: for number in 0..EACH {
-        put_event(alloc, queues, activity, number)?;
+fn put_each(alloc: Global, queues: &mut Queues, activity: u64) -> Result<(), NoMemory> {
+    fill(EACH, |number| put_event(alloc, queues, activity, number))
+}
+
+fn pop_each(queues: &mut Queues, activity: u64) {
+    'events: for _ in 0..EACH {
+        queues.pop(ActivityId(activity));
     }
-    Ok(())
 }
 
 /// A service and an entity are marked for the head event.
@@ -56,121 +55,105 @@ fn hold(queues: &mut Queues, activity: u64) -> Result<(), NoMemory> {
     Ok(())
 }
 
-fn filled(alloc: Global, rows: u64) -> Result<Queues, NoMemory> {
-    let mut queues = Queues::new(alloc);
-    'rows: for activity in 0..rows / EACH + 1 {
-        put(alloc, &mut queues, activity)?;
-        mark(&mut queues, activity)?;
-        hold(&mut queues, activity)?;
-    }
-    Ok(queues)
+fn put(alloc: Global, queues: &mut Queues, activity: u64) -> Result<(), NoMemory> {
+    put_each(alloc, queues, activity)?;
+    mark(queues, activity)?;
+    hold(queues, activity)
 }
 
-fn front(queues: &Queues, activities: u64, rounds: u64) -> u64
-    requires { 0 < activities }
-{
-    let mut sum = 0_u64;
-    'rounds: for round in 0..rounds {
-        let activity = ActivityId(round.wrapping_mul(STRIDE) % activities);
-        if queues.front(activity).is_some() {
-            sum = sum.wrapping_add(1);
-        }
-    }
-    sum
+/// The activity gets its events, and all of them go.
+fn pop_new(alloc: Global, queues: &mut Queues, activity: u64) -> Result<u64, NoMemory> {
+    put_each(alloc, queues, activity)?;
+    pop_each(queues, activity);
+    Ok(1)
 }
 
-fn is_delivered(queues: &Queues, activities: u64, rounds: u64) -> u64
-    requires { 0 < activities }
-{
-    let mut sum = 0_u64;
-    'rounds: for round in 0..rounds {
-        let activity = round.wrapping_mul(STRIDE) % activities;
-        if queues.is_delivered(ActivityId(activity), EntityId(activity)) {
-            sum = sum.wrapping_add(1);
-        }
-    }
-    sum
+/// The events of the activity go, and come again.
+fn renew(alloc: Global, queues: &mut Queues, activity: u64) -> Result<u64, NoMemory> {
+    pop_each(queues, activity);
+    put_each(alloc, queues, activity)?;
+    Ok(1)
 }
 
-fn pop_each(queues: &mut Queues, activity: u64) {
-    'events: for _ in 0..EACH {
-        queues.pop(ActivityId(activity));
-    }
+/// A head event goes with its marks; it comes again, and is marked again.
+fn mark_again(alloc: Global, queues: &mut Queues, activity: u64) -> Result<u64, NoMemory> {
+    queues.pop(ActivityId(activity));
+    put_event(alloc, queues, activity, 0)?;
+    mark(queues, activity)?;
+    Ok(1)
 }
 
-/// A new activity gets its events, and all of them go.
-fn pop(alloc: Global, queues: &mut Queues, activity: u64, rounds: u64) -> Result<u64, NoMemory> {
-    'rounds: for _ in 0..rounds {
-        put(alloc, queues, activity)?;
-        pop_each(queues, activity);
-    }
-    Ok(queues.len())
+/// A suspension ends, and begins again.
+fn hold_again(queues: &mut Queues, activity: u64) -> Result<u64, NoMemory> {
+    queues.release(ActivityId(activity));
+    hold(queues, activity)?;
+    Ok(1)
 }
 
-/// An activity in the middle gets its events anew: all of them go, and come again.
-fn pop_middle(
-    alloc: Global,
-    queues: &mut Queues,
-    activities: u64,
-    rounds: u64,
-) -> Result<u64, NoMemory>
-    requires { 0 < activities }
-{
-    'rounds: for round in 0..rounds {
-        let activity = round.wrapping_mul(STRIDE) % activities;
-        pop_each(queues, activity);
-        put(alloc, queues, activity)?;
-    }
-    Ok(queues.len())
+fn is_at(queues: &Queues, place: u64) -> bool {
+    place < queues.len() && queues.at(place).activity.0 <= place
 }
 
-/// In the middle a head event goes with its marks; it comes again, and is marked again.
-fn mark_middle(
-    alloc: Global,
-    queues: &mut Queues,
-    activities: u64,
-    rounds: u64,
-) -> Result<u64, NoMemory>
-    requires { 0 < activities }
-{
-    'rounds: for round in 0..rounds {
-        let activity = round.wrapping_mul(STRIDE) % activities;
-        queues.pop(ActivityId(activity));
-        put_event(alloc, queues, activity, 0)?;
-        mark(queues, activity)?;
-    }
-    Ok(queues.len())
+fn on(all: u64, round: u64) -> ActivityId {
+    ActivityId(one_of(all, round))
 }
 
-/// In the middle a suspension ends, and begins again.
-fn hold_middle(queues: &mut Queues, activities: u64, rounds: u64) -> Result<u64, NoMemory>
-    requires { 0 < activities }
-{
-    'rounds: for round in 0..rounds {
-        let activity = round.wrapping_mul(STRIDE) % activities;
-        queues.release(ActivityId(activity));
-        hold(queues, activity)?;
-    }
-    Ok(queues.len())
+fn read(asked: &Asked<'_>, queues: &Queues, all: u64) -> Option<u64> {
+    let rounds = asked.rounds;
+    let places = queues.len();
+    let sum = match asked.call {
+        "at" => count(rounds, |round| is_at(queues, one_of(places, round))),
+        "front" => count(rounds, |round| queues.front(on(all, round)).is_some()),
+        "event_at" => count(rounds, |round| queues.event_at(on(all, round), 2).is_some()),
+        "is_waiting" => count(rounds, |round| queues.is_waiting(on(all, round))),
+        "is_done" => count(rounds, |round| queues.is_done(on(all, round), SERVICE)),
+        "is_delivered" => count(rounds, |round| {
+            queues.is_delivered(on(all, round), EntityId(on(all, round).0))
+        }),
+        "suspended_until" => count(
+            rounds,
+            |round| queues.suspended_until(on(all, round)).is_some(),
+        ),
+        "services_done" => count(
+            rounds,
+            |round| queues.services_done(on(all, round)).len() == 1,
+        ),
+        "delivered" => count(rounds, |round| queues.delivered(on(all, round)).len() == 1),
+        "suspensions" => count(rounds, |_| queues.suspensions().next().is_some()),
+        _ => return None,
+    };
+    Some(sum)
 }
 
-/// The sum over what the calls answered, or none where there is no such call.
-pub fn measured(
-    alloc: Global,
-    call: &str,
-    rows: u64,
-    rounds: u64,
-) -> Result<Option<u64>, NoMemory> {
-    let mut queues = filled(alloc, rows)?;
-    let activities = rows / EACH + 1;
-    let sum = match call {
-        "front" => front(&queues, activities, rounds),
-        "is_delivered" => is_delivered(&queues, activities, rounds),
-        "pop" => pop(alloc, &mut queues, activities, rounds)?,
-        "pop_middle" => pop_middle(alloc, &mut queues, activities, rounds)?,
-        "mark_middle" => mark_middle(alloc, &mut queues, activities, rounds)?,
-        "hold_middle" => hold_middle(&mut queues, activities, rounds)?,
+fn change(asked: &Asked<'_>, queues: &mut Queues, all: u64) -> Result<Option<u64>, NoMemory> {
+    let alloc = asked.alloc;
+    let rounds = asked.rounds;
+    let sum = match asked.call {
+        "pop" => sum_of(rounds, |_| pop_new(alloc, queues, all))?,
+        "pop_middle" => sum_of(rounds, |round| renew(alloc, queues, one_of(all, round)))?,
+        "mark_middle" => sum_of(rounds, |round| {
+            mark_again(alloc, queues, one_of(all, round))
+        })?,
+        "hold_middle" => sum_of(rounds, |round| hold_again(queues, one_of(all, round)))?,
         _ => return Ok(None),
     };
     Ok(Some(sum))
+}
+
+fn called(asked: &Asked<'_>, queues: &mut Queues) -> Result<Option<u64>, NoMemory> {
+    let alloc = asked.alloc;
+    let all = asked.rows / EACH + 1;
+    fill(all, |activity| put(alloc, queues, activity))?;
+    match read(asked, queues, all) {
+        Some(sum) => Ok(Some(sum)),
+        None => change(asked, queues, all),
+    }
+}
+
+/// The sum over what the calls answered, or none where there is no such call.
+pub fn measured(asked: &Asked<'_>) -> Result<Option<u64>, NoMemory> {
+    let mut queues = Queues::new(asked.alloc);
+    let sum = called(asked, &mut queues);
+    forget(queues);
+    sum
 }

@@ -1,9 +1,10 @@
 //! Calls of the timer facility: each activity has one timer, and each timer a moment of its own, behind all that is called here.
-ghost use Rattle.std.specs.Prelude.{◌<◌};
 
+use bench_rounds::{Asked, count, fill, one_of, sum_of};
 use slee_state::TimerSpec;
 use slee_value::{ActivityId, Keep, NoMemory, TimerId};
 use std::alloc::Global;
+use std::mem::forget;
 use timer_facility::Timers;
 
 // No timer of the rows is due before this moment.
@@ -11,9 +12,6 @@ const FIRST_MOMENT: u64 = 1_000_000;
 
 // The moments of two neighbours are so far apart.
 const APART: u64 = 10;
-
-// Neighbours in rounds are far apart in rows.
-const STRIDE: u64 = 7919;
 
 fn add(timers: &mut Timers, spec: TimerSpec) -> Result<TimerId, NoMemory> {
     timers.reserve(1)?;
@@ -42,20 +40,21 @@ fn moment_of(place: u64) -> u64 {
     FIRST_MOMENT.wrapping_add(place.wrapping_mul(APART))
 }
 
-fn filled(alloc: Global, rows: u64) -> Result<Timers, NoMemory> {
-    let mut timers = Timers::new(alloc);
-    'rows: for activity in 0..rows {
-        set(&mut timers, activity, moment_of(activity))?;
+/// The period of all timers: as long as all moments, half as long, or none.
+fn period_of(asked: &Asked<'_>) -> u64 {
+    match asked.call {
+        "repeat" => asked.rows.wrapping_mul(APART),
+        "repeat_middle" => asked.rows.wrapping_mul(APART / 2),
+        _ => 0,
     }
-    Ok(timers)
 }
 
-/// Timers that occur again and again, each with this period.
-fn repeated(alloc: Global, rows: u64, period: u64) -> Result<Timers, NoMemory> {
-    let mut timers = Timers::new(alloc);
-    'rows: for activity in 0..rows {
+fn put(timers: &mut Timers, activity: u64, period: u64) -> Result<(), NoMemory> {
+    if period == 0 {
+        set(timers, activity, moment_of(activity))?;
+    } else {
         add(
-            &mut timers,
+            timers,
             TimerSpec {
                 activity: ActivityId(activity),
                 start: moment_of(activity),
@@ -65,137 +64,117 @@ fn repeated(alloc: Global, rows: u64, period: u64) -> Result<Timers, NoMemory> {
             },
         )?;
     }
-    Ok(timers)
+    Ok(())
 }
 
-fn find(timers: &Timers, rows: u64, rounds: u64) -> u64
-    requires { 0 < rows }
-{
-    let mut sum = 0_u64;
-    'rounds: for round in 0..rounds {
-        let number = round.wrapping_mul(STRIDE) % rows;
-        if timers.find(TimerId(number)).is_some() {
-            sum = sum.wrapping_add(1);
-        }
+/// How many occurrences are due up to the moment.
+fn due(alloc: Global, timers: &Timers, to: u64) -> Result<u64, NoMemory> {
+    match timers.due(alloc, to) {
+        Ok(list) => Ok(list.len() as u64),
+        Err(_) => Err(NoMemory),
     }
-    sum
 }
 
-/// The list of what is due while nothing is.
-fn due(alloc: Global, timers: &Timers, rounds: u64) -> Result<u64, NoMemory> {
-    let mut sum = 0_u64;
-    'rounds: for round in 0..rounds {
-        match timers.due(alloc, round % FIRST_MOMENT) {
-            Ok(list) => sum = sum.wrapping_add(list.len() as u64),
-            Err(_) => return Err(NoMemory),
-        }
-    }
-    Ok(sum)
-}
-
-/// The clock goes on while nothing is due.
-fn advance(timers: &mut Timers, rounds: u64) -> u64 {
-    'rounds: for round in 0..rounds {
-        timers.advance(round % FIRST_MOMENT);
-    }
-    timers.len()
-}
-
-/// An activity without timers ends.
-fn cancel_all(timers: &mut Timers, rows: u64, rounds: u64) -> u64 {
-    'rounds: for round in 0..rounds {
-        timers.cancel_all(ActivityId(rows.wrapping_add(round)));
-    }
-    timers.len()
-}
-
-/// A new timer is set behind all others, and cancelled.
-fn cancel(timers: &mut Timers, rows: u64, rounds: u64) -> Result<u64, NoMemory> {
-    'rounds: for _ in 0..rounds {
-        let number = set(timers, rows, u64::MAX)?;
-        timers.cancel(number);
-    }
-    Ok(timers.len())
+/// A new timer is set, and cancelled.
+fn cancel_new(timers: &mut Timers, activity: u64, moment: u64) -> Result<u64, NoMemory> {
+    let number = set(timers, activity, moment)?;
+    timers.cancel(number);
+    Ok(1)
 }
 
 /// The oldest timer is cancelled, and a new one set behind all others.
-fn cancel_oldest(timers: &mut Timers, rows: u64, rounds: u64) -> Result<u64, NoMemory> {
-    'rounds: for round in 0..rounds {
-        timers.cancel(TimerId(round.wrapping_add(1)));
-        set(timers, rows, u64::MAX)?;
-    }
+fn cancel_oldest(timers: &mut Timers, activity: u64, oldest: u64) -> Result<u64, NoMemory> {
+    timers.cancel(TimerId(oldest));
+    set(timers, activity, u64::MAX)?;
+    Ok(1)
+}
+
+fn cancel_none(timers: &mut Timers, activity: u64) -> Result<u64, NoMemory> {
+    timers.cancel_all(ActivityId(activity));
     Ok(timers.len())
+}
+
+/// An activity loses its timer, and gets one again.
+fn cancel_all(timers: &mut Timers, activity: u64) -> Result<u64, NoMemory> {
+    timers.cancel_all(ActivityId(activity));
+    set(timers, activity, moment_of(activity))?;
+    Ok(1)
 }
 
 /// A new timer is the first that is due, is listed, and is used up.
-fn fire(alloc: Global, timers: &mut Timers, rows: u64, rounds: u64) -> Result<u64, NoMemory> {
-    let mut sum = 0_u64;
-    'rounds: for _ in 0..rounds {
-        set(timers, rows, 1)?;
-        match timers.due(alloc, 1) {
-            Ok(list) => sum = sum.wrapping_add(list.len() as u64),
-            Err(_) => return Err(NoMemory),
-        }
-        timers.advance(1);
-    }
+fn fire(alloc: Global, timers: &mut Timers, activity: u64) -> Result<u64, NoMemory> {
+    set(timers, activity, 1)?;
+    let sum = due(alloc, timers, 1)?;
+    timers.advance(1);
     Ok(sum)
 }
 
-/// A new timer is set among the others, and cancelled.
-fn cancel_middle(timers: &mut Timers, rows: u64, rounds: u64) -> Result<u64, NoMemory>
-    requires { 0 < rows }
-{
-    'rounds: for round in 0..rounds {
-        let number = set(timers, rows, moment_of(round.wrapping_mul(STRIDE) % rows))?;
-        timers.cancel(number);
-    }
-    Ok(timers.len())
+fn advance(timers: &mut Timers, to: u64) -> Result<u64, NoMemory> {
+    timers.advance(to);
+    Ok(1)
 }
 
-/// All timers have a period as long as all moments: the first one is due, and goes behind all others.
-fn repeat(alloc: Global, rows: u64, rounds: u64) -> Result<u64, NoMemory> {
-    let mut timers = repeated(alloc, rows, rows.wrapping_mul(APART))?;
-    'rounds: for round in 0..rounds {
-        timers.advance(moment_of(round));
-    }
-    Ok(timers.len())
+fn is_at(timers: &Timers, place: u64) -> bool {
+    place < timers.len() && timers.at(place).activity.0 <= place
 }
 
-/// The periods are half as long: one or two timers are due, and go among the others.
-fn repeat_middle(alloc: Global, rows: u64, rounds: u64) -> Result<u64, NoMemory> {
-    let mut timers = repeated(alloc, rows, rows.wrapping_mul(APART / 2))?;
-    'rounds: for round in 0..rounds {
-        timers.advance(moment_of(round));
-    }
-    Ok(timers.len())
-}
-
-/// The sum over what the calls answered, or none where there is no such call.
-pub fn measured(
-    alloc: Global,
-    call: &str,
-    rows: u64,
-    rounds: u64,
-) -> Result<Option<u64>, NoMemory> {
-    if rows == 0 {
-        return Ok(None);
-    }
-    match call {
-        "repeat" => return Ok(Some(repeat(alloc, rows, rounds)?)),
-        "repeat_middle" => return Ok(Some(repeat_middle(alloc, rows, rounds)?)),
-        _ => {}
-    }
-    let mut timers = filled(alloc, rows)?;
-    let sum = match call {
-        "find" => find(&timers, rows, rounds),
-        "due" => due(alloc, &timers, rounds)?,
-        "advance" => advance(&mut timers, rounds),
-        "cancel_all" => cancel_all(&mut timers, rows, rounds),
-        "cancel" => cancel(&mut timers, rows, rounds)?,
-        "cancel_middle" => cancel_middle(&mut timers, rows, rounds)?,
-        "cancel_oldest" => cancel_oldest(&mut timers, rows, rounds)?,
-        "fire" => fire(alloc, &mut timers, rows, rounds)?,
+fn read(asked: &Asked<'_>, timers: &Timers) -> Result<Option<u64>, NoMemory> {
+    let alloc = asked.alloc;
+    let rows = asked.rows;
+    let rounds = asked.rounds;
+    let sum = match asked.call {
+        "at" => count(rounds, |round| is_at(timers, one_of(rows, round))),
+        "find" => count(rounds, |round| {
+            timers.find(TimerId(one_of(rows, round))).is_some()
+        }),
+        // nothing is due
+        "due" => sum_of(rounds, |round| due(alloc, timers, round % FIRST_MOMENT))?,
         _ => return Ok(None),
     };
     Ok(Some(sum))
+}
+
+fn change(asked: &Asked<'_>, timers: &mut Timers) -> Result<Option<u64>, NoMemory> {
+    let alloc = asked.alloc;
+    let rows = asked.rows;
+    let rounds = asked.rounds;
+    let sum = match asked.call {
+        // nothing is due
+        "advance" => sum_of(rounds, |round| advance(timers, round % FIRST_MOMENT))?,
+        // one or two timers are due, and go behind all others, or among them
+        "repeat" | "repeat_middle" => sum_of(rounds, |round| advance(timers, moment_of(round)))?,
+        "cancel" => sum_of(rounds, |_| cancel_new(timers, rows, u64::MAX))?,
+        "cancel_middle" => sum_of(rounds, |round| {
+            cancel_new(timers, rows, moment_of(one_of(rows, round)))
+        })?,
+        "cancel_oldest" => sum_of(rounds, |round| {
+            cancel_oldest(timers, rows, round.wrapping_add(1))
+        })?,
+        // the activity has no timers
+        "cancel_all" => sum_of(
+            rounds,
+            |round| cancel_none(timers, rows.wrapping_add(round)),
+        )?,
+        "cancel_all_middle" => sum_of(rounds, |round| cancel_all(timers, one_of(rows, round)))?,
+        "fire" => sum_of(rounds, |_| fire(alloc, timers, rows))?,
+        _ => return Ok(None),
+    };
+    Ok(Some(sum))
+}
+
+fn called(asked: &Asked<'_>, timers: &mut Timers) -> Result<Option<u64>, NoMemory> {
+    let period = period_of(asked);
+    fill(asked.rows, |activity| put(timers, activity, period))?;
+    match read(asked, timers)? {
+        Some(sum) => Ok(Some(sum)),
+        None => change(asked, timers),
+    }
+}
+
+/// The sum over what the calls answered, or none where there is no such call.
+pub fn measured(asked: &Asked<'_>) -> Result<Option<u64>, NoMemory> {
+    let mut timers = Timers::new(asked.alloc);
+    let sum = called(asked, &mut timers);
+    forget(timers);
+    sum
 }

@@ -1,95 +1,20 @@
-//! Calls of the store of entities: each root has one child. Those that change it do so in the middle.
-ghost use Rattle.std.specs.Prelude.{◌<◌};
+//! Calls of the store of entities: each root has one child.
 
+use bench_rounds::{
+    Asked, add_child, add_pair, add_root, child_of, count, fill, one_of, root_of, sum_of,
+};
 use entity_tree::Tree;
+use slee_state::{Entity, Stem};
 use slee_value::{EntityId, Name, NoMemory};
 use std::alloc::Global;
+use std::mem::forget;
 
-// Neighbours in rounds are far apart in rows.
-const STRIDE: u64 = 7919;
-
-// No entity of the bench has a number above this one.
-const LAST: u64 = u64::MAX / 2;
-
-fn add_child(tree: &mut Tree, root: EntityId, relation: Name) -> Result<(), NoMemory> {
-    tree.reserve(1)?;
-    if tree.next_number() > LAST {
-        return Err(NoMemory);
-    }
-    match tree.find(root) {
-        Some(_) => {}
-        None => return Err(NoMemory),
-    }
-    tree.create_child(root, relation, 1, 0);
-    Ok(())
+fn root(roots: u64, round: u64) -> EntityId {
+    root_of(one_of(roots, round))
 }
 
-fn add_pair(alloc: Global, tree: &mut Tree) -> Result<(), NoMemory> {
-    tree.reserve(1)?;
-    if tree.next_number() > LAST {
-        return Err(NoMemory);
-    }
-    let root = tree.create_root(0, 0, 0);
-    add_child(tree, root, Name::from_slice(alloc, b"legs")?)
-}
-
-fn filled(alloc: Global, rows: u64) -> Result<Tree, NoMemory> {
-    let mut tree = Tree::new(alloc);
-    'rows: for _ in 0..rows / 2 + 1 {
-        add_pair(alloc, &mut tree)?;
-    }
-    Ok(tree)
-}
-
-fn find(tree: &Tree, roots: u64, rounds: u64) -> u64
-    requires { 0 < roots }
-{
-    let mut sum = 0_u64;
-    'rounds: for round in 0..rounds {
-        if tree
-            .find(EntityId(round.wrapping_mul(STRIDE) % roots))
-            .is_some()
-        {
-            sum = sum.wrapping_add(1);
-        }
-    }
-    sum
-}
-
-// The number of a root, and not of its child.
-fn root_of(roots: u64, round: u64) -> u64
-    requires { 0 < roots }
-{
-    (round.wrapping_mul(STRIDE) % roots)
-        .wrapping_mul(2)
-        .wrapping_add(1)
-}
-
-fn children(alloc: Global, tree: &Tree, roots: u64, rounds: u64) -> Result<u64, NoMemory>
-    requires { 0 < roots }
-{
-    let relation = Name::from_slice(alloc, b"legs")?;
-    let mut sum = 0_u64;
-    'rounds: for round in 0..rounds {
-        let all = tree.children(alloc, EntityId(root_of(roots, round)), &relation)?;
-        sum = sum.wrapping_add(all.len() as u64);
-    }
-    Ok(sum)
-}
-
-/// Children of two roots are compared.
-fn compare(tree: &Tree, roots: u64, rounds: u64) -> u64
-    requires { 0 < roots }
-{
-    let mut sum = 0_u64;
-    'rounds: for round in 0..rounds {
-        let one = root_of(roots, round).wrapping_add(1);
-        let other = root_of(roots, round.wrapping_add(1)).wrapping_add(1);
-        if tree.compare(EntityId(one), EntityId(other)).is_lt() {
-            sum = sum.wrapping_add(1);
-        }
-    }
-    sum
+fn child(roots: u64, round: u64) -> EntityId {
+    child_of(one_of(roots, round))
 }
 
 // The entity goes, unless it has a child.
@@ -100,44 +25,129 @@ fn remove(tree: &mut Tree, entity: EntityId) {
     }
 }
 
+/// A root comes behind all others, and goes.
+fn create_root(tree: &mut Tree) -> Result<u64, NoMemory> {
+    let root = add_root(tree)?;
+    remove(tree, root);
+    Ok(1)
+}
+
 /// A root gets one child more, which goes again.
-fn create_child(alloc: Global, tree: &mut Tree, roots: u64, rounds: u64) -> Result<u64, NoMemory>
-    requires { 0 < roots }
-{
-    'rounds: for round in 0..rounds {
-        let child = EntityId(tree.next_number());
-        let relation = Name::from_slice(alloc, b"legs")?;
-        add_child(tree, EntityId(root_of(roots, round)), relation)?;
-        remove(tree, child);
-    }
-    Ok(tree.len())
+fn create_child(alloc: Global, tree: &mut Tree, root: EntityId) -> Result<u64, NoMemory> {
+    let child = add_child(alloc, tree, root)?;
+    remove(tree, child);
+    Ok(1)
 }
 
-fn set_priority(tree: &mut Tree, roots: u64, rounds: u64) -> u64
-    requires { 0 < roots }
-{
-    'rounds: for round in 0..rounds {
-        tree.set_priority(EntityId(root_of(roots, round)), (round % 100) as i8);
+// Room is made for the child of a root, and then it is put back.
+fn restore(alloc: Global, tree: &mut Tree, root: EntityId) -> Result<(), NoMemory> {
+    tree.reserve(1)?;
+    let number = EntityId(root.0.wrapping_add(1));
+    if number.0 >= tree.next_number() || root.0 >= number.0 {
+        return Err(NoMemory);
     }
-    tree.len()
+    match tree.find(number) {
+        Some(_) => return Err(NoMemory),
+        None => {}
+    }
+    tree.restore(Entity {
+        number,
+        block: 1,
+        stem: Stem::Child(root, Name::from_slice(alloc, b"legs")?),
+        priority: 0,
+    });
+    Ok(())
 }
 
-/// The sum over what the calls answered, or none where there is no such call.
-pub fn measured(
-    alloc: Global,
-    call: &str,
-    rows: u64,
-    rounds: u64,
-) -> Result<Option<u64>, NoMemory> {
-    let mut tree = filled(alloc, rows)?;
-    let roots = rows / 2 + 1;
-    let sum = match call {
-        "find" => find(&tree, roots, rounds),
-        "children" => children(alloc, &tree, roots, rounds)?,
-        "compare" => compare(&tree, roots, rounds),
-        "create_child" => create_child(alloc, &mut tree, roots, rounds)?,
-        "set_priority" => set_priority(&mut tree, roots, rounds),
+/// A root loses its child, and gets it again.
+fn remove_child(alloc: Global, tree: &mut Tree, root: EntityId) -> Result<u64, NoMemory> {
+    remove(tree, EntityId(root.0.wrapping_add(1)));
+    restore(alloc, tree, root)?;
+    Ok(1)
+}
+
+fn set_priority(tree: &mut Tree, entity: EntityId, round: u64) -> Result<u64, NoMemory> {
+    tree.set_priority(entity, (round % 100) as i8);
+    Ok(1)
+}
+
+fn removal(alloc: Global, tree: &Tree, root: EntityId) -> Result<u64, NoMemory> {
+    match tree.find(root) {
+        Some(_) => Ok(tree.removal(alloc, root)?.len() as u64),
+        None => Ok(0),
+    }
+}
+
+fn is_at(tree: &Tree, place: u64) -> bool {
+    place < tree.len() && tree.at(place).number.0 > place
+}
+
+fn has_service(tree: &Tree, entity: EntityId) -> bool {
+    match tree.find(entity) {
+        Some(row) => tree.service(row).is_some(),
+        None => false,
+    }
+}
+
+fn read(asked: &Asked<'_>, tree: &Tree, roots: u64) -> Result<Option<u64>, NoMemory> {
+    let alloc = asked.alloc;
+    let rounds = asked.rounds;
+    let sum = match asked.call {
+        "at" => count(rounds, |round| is_at(tree, one_of(roots, round))),
+        "find" => count(rounds, |round| tree.find(child(roots, round)).is_some()),
+        "has_child" => count(rounds, |round| tree.has_child(root(roots, round))),
+        // the service of a root is asked for by its child
+        "service" => count(rounds, |round| has_service(tree, child(roots, round))),
+        // children of two roots are compared
+        "compare" => count(rounds, |round| {
+            let other = child(roots, round.wrapping_add(1));
+            tree.compare(child(roots, round), other).is_lt()
+        }),
+        "children" => {
+            let legs = Name::from_slice(alloc, b"legs")?;
+            sum_of(rounds, |round| {
+                Ok(tree.children(alloc, root(roots, round), &legs)?.len() as u64)
+            })?
+        }
+        "removal" => sum_of(rounds, |round| removal(alloc, tree, root(roots, round)))?,
         _ => return Ok(None),
     };
     Ok(Some(sum))
+}
+
+fn change(asked: &Asked<'_>, tree: &mut Tree, roots: u64) -> Result<Option<u64>, NoMemory> {
+    let alloc = asked.alloc;
+    let rounds = asked.rounds;
+    let sum = match asked.call {
+        "create_root" => sum_of(rounds, |_| create_root(tree))?,
+        "create_child" => sum_of(rounds, |round| {
+            create_child(alloc, tree, root(roots, round))
+        })?,
+        "remove_middle" => sum_of(rounds, |round| {
+            remove_child(alloc, tree, root(roots, round))
+        })?,
+        "set_priority" => sum_of(rounds, |round| {
+            set_priority(tree, root(roots, round), round)
+        })?,
+        _ => return Ok(None),
+    };
+    Ok(Some(sum))
+}
+
+fn called(asked: &Asked<'_>, tree: &mut Tree) -> Result<Option<u64>, NoMemory> {
+    let alloc = asked.alloc;
+    let roots = asked.rows / 2 + 1;
+    fill(roots, |_| add_pair(alloc, tree))?;
+    match read(asked, tree, roots)? {
+        Some(sum) => Ok(Some(sum)),
+        None => change(asked, tree, roots),
+    }
+}
+
+/// The sum over what the calls answered, or none where there is no such call.
+pub fn measured(asked: &Asked<'_>) -> Result<Option<u64>, NoMemory> {
+    let mut tree = Tree::new(asked.alloc);
+    let sum = called(asked, &mut tree);
+    forget(tree);
+    sum
 }
