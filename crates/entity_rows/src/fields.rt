@@ -5,6 +5,7 @@ use cmp_store::Fields;
 use slee_state::Field;
 use slee_value::{EntityId, NoMemory, Value};
 use std::alloc::Global;
+use std::mem::ManuallyDrop;
 use std::test::Fail;
 
 // Room is made for the field, and then it has the value.
@@ -15,10 +16,37 @@ fn set(
     field: &str,
     number: i64,
 ) -> Result<(), NoMemory> {
-    let field = name(alloc, field)?;
     fields.reserve(1)?;
+    let field = name(alloc, field)?;
     fields.set(EntityId(entity), field, Value::Int(number));
     Ok(())
+}
+
+// Room is made for the field, and then it is put back.
+fn restore(
+    fields: &mut Fields,
+    alloc: Global,
+    entity: u64,
+    field: &str,
+    number: i64,
+) -> Result<(), NoMemory> {
+    fields.reserve(1)?;
+    let name = name(alloc, field)?;
+    fields.restore(Field {
+        entity: EntityId(entity),
+        name,
+        value: Value::Int(number),
+    });
+    Ok(())
+}
+
+// The entity of the field at this place.
+fn entity_at(fields: &Fields, place: u64) -> Option<u64> {
+    if place < fields.len() {
+        Some(fields.at(place).entity.0)
+    } else {
+        None
+    }
 }
 
 // The integer that the entity's field has.
@@ -37,16 +65,12 @@ fn number(
 #[test]
 fn fields_are_found_by_entity_and_name(rt: HostRuntime) -> Result<(), Fail> {
     let alloc = rt.alloc();
-    let mut fields = Fields::new(alloc);
+    let mut kept = ManuallyDrop::new(Fields::new(alloc));
+    let fields = &mut *kept;
     for (entity, field, value) in [(2, "sum", 5), (1, "sum", 9), (1, "count", 7), (1, "sum", 6)] {
-        set(&mut fields, alloc, entity, field, value)?;
+        set(fields, alloc, entity, field, value)?;
     }
-    fields.reserve(1)?;
-    fields.restore(Field {
-        entity: EntityId(2),
-        name: name(alloc, "count")?,
-        value: Value::Int(8),
-    });
+    restore(fields, alloc, 2, "count", 8)?;
     for (entity, field, value) in [
         (1, "sum", Some(6)),
         (1, "count", Some(7)),
@@ -54,7 +78,7 @@ fn fields_are_found_by_entity_and_name(rt: HostRuntime) -> Result<(), Fail> {
         (2, "count", Some(8)),
         (3, "sum", None),
     ] {
-        assert_eq!(rt; number(&fields, alloc, entity, field)?, value);
+        assert_eq!(rt; number(fields, alloc, entity, field)?, value);
     }
     assert_eq!(rt; fields.len(), 4);
     Ok(())
@@ -63,14 +87,15 @@ fn fields_are_found_by_entity_and_name(rt: HostRuntime) -> Result<(), Fail> {
 #[test]
 fn an_entity_that_goes_takes_its_own_fields(rt: HostRuntime) -> Result<(), Fail> {
     let alloc = rt.alloc();
-    let mut fields = Fields::new(alloc);
+    let mut kept = ManuallyDrop::new(Fields::new(alloc));
+    let fields = &mut *kept;
     for (entity, field, value) in [(1, "sum", 5), (1, "count", 6), (2, "sum", 7)] {
-        set(&mut fields, alloc, entity, field, value)?;
+        set(fields, alloc, entity, field, value)?;
     }
     assert_eq!(rt; count(fields.of(EntityId(1))), 2);
     fields.forget(EntityId(1));
     assert_eq!(rt; count(fields.of(EntityId(1))), 0);
     assert_eq!(rt; fields.len(), 1);
-    assert_eq!(rt; fields.at(0).entity, EntityId(2));
+    assert_eq!(rt; entity_at(fields, 0), Some(2));
     Ok(())
 }

@@ -1,10 +1,12 @@
 //! The store of event masks: masks of one attachment, set and forgotten.
+ghost use Rattle.std.specs.Prelude.{◌≡◌, length, IfOk};
 
 use crate::words::count;
 use event_mask::Masks;
 use slee_state::Mask;
 use slee_value::{ActivityId, EntityId, NoMemory, Text};
 use std::alloc::Global;
+use std::mem::ManuallyDrop;
 use std::test::Fail;
 
 const ME: EntityId = EntityId(1);
@@ -15,30 +17,56 @@ const CALL: ActivityId = ActivityId(7);
 
 // Room is made for the mask, and then the event is masked on the call.
 fn mask(masks: &mut Masks, alloc: Global, entity: EntityId, event: &str) -> Result<(), NoMemory> {
-    let event = Text::from_str(alloc, event)?;
     masks.reserve(1)?;
-    masks.set(entity, CALL, event, true);
+    masks.set(entity, CALL, Text::from_str(alloc, event)?, true);
     Ok(())
 }
 
-// Room is made for the masks, and then the entity begins with them on the call.
-fn attach(masks: &mut Masks, entity: EntityId, events: Vec<Text>) -> Result<(), NoMemory> {
-    masks.reserve(events.len() as u64)?;
-    masks.on_attach(entity, CALL, events);
+// Room is made for the mask, and then the event is masked for me on the activity.
+fn restore(masks: &mut Masks, alloc: Global, activity: u64, event: &str) -> Result<(), NoMemory> {
+    masks.reserve(1)?;
+    masks.restore(Mask {
+        entity: ME,
+        activity: ActivityId(activity),
+        event: Text::from_str(alloc, event)?,
+    });
     Ok(())
+}
+
+fn texts(alloc: Global, one: &str, other: &str) -> Result<Vec<Text>, NoMemory>
+    ensures { IfOk result (λ events. length events.items ≡ 2) }
+{
+    let mut events = Vec::with_capacity(alloc, 2)?;
+    events.push(Text::from_str(alloc, one)?)?;
+    events.push(Text::from_str(alloc, other)?)?;
+    Ok(events)
+}
+
+// Room is made for two masks, and then the entity begins with them on the call.
+fn attach(masks: &mut Masks, alloc: Global, one: &str, other: &str) -> Result<(), NoMemory> {
+    masks.reserve(2)?;
+    masks.on_attach(ME, CALL, texts(alloc, one, other)?);
+    Ok(())
+}
+
+// The mask at this place is that of the entity on the activity.
+fn is_at(masks: &Masks, place: u64, entity: EntityId, activity: u64) -> bool {
+    if place < masks.len() {
+        let row = masks.at(place);
+        row.entity == entity && row.activity.0 == activity
+    } else {
+        false
+    }
 }
 
 #[test]
 fn an_attachment_begins_with_its_own_masks(rt: HostRuntime) -> Result<(), Fail> {
     let alloc = rt.alloc();
-    let mut masks = Masks::new(alloc);
-    mask(&mut masks, alloc, ME, "busy")?;
-    mask(&mut masks, alloc, OTHER, "busy")?;
-    let mut events = Vec::new(alloc);
-    for event in ["ring", "answer"] {
-        events.push(Text::from_str(alloc, event)?)?;
-    }
-    attach(&mut masks, ME, events)?;
+    let mut kept = ManuallyDrop::new(Masks::new(alloc));
+    let masks = &mut *kept;
+    mask(masks, alloc, ME, "busy")?;
+    mask(masks, alloc, OTHER, "busy")?;
+    attach(masks, alloc, "ring", "answer")?;
     for (entity, event, is_masked) in [
         (ME, "answer", true),
         (ME, "ring", true),
@@ -59,9 +87,10 @@ fn an_attachment_begins_with_its_own_masks(rt: HostRuntime) -> Result<(), Fail> 
 #[test]
 fn a_mask_is_set_once_and_taken_away(rt: HostRuntime) -> Result<(), Fail> {
     let alloc = rt.alloc();
-    let mut masks = Masks::new(alloc);
-    mask(&mut masks, alloc, ME, "ring")?;
-    mask(&mut masks, alloc, ME, "ring")?;
+    let mut kept = ManuallyDrop::new(Masks::new(alloc));
+    let masks = &mut *kept;
+    mask(masks, alloc, ME, "ring")?;
+    mask(masks, alloc, ME, "ring")?;
     assert_eq!(rt; masks.len(), 1);
     for _ in 0..2 {
         masks.set(ME, CALL, Text::from_str(alloc, "ring")?, false);
@@ -73,18 +102,14 @@ fn a_mask_is_set_once_and_taken_away(rt: HostRuntime) -> Result<(), Fail> {
 #[test]
 fn an_attachment_that_goes_takes_its_own_masks(rt: HostRuntime) -> Result<(), Fail> {
     let alloc = rt.alloc();
-    let mut masks = Masks::new(alloc);
-    mask(&mut masks, alloc, ME, "ring")?;
-    mask(&mut masks, alloc, OTHER, "ring")?;
-    masks.reserve(1)?;
-    masks.restore(Mask {
-        entity: ME,
-        activity: ActivityId(6),
-        event: Text::from_str(alloc, "ring")?,
-    });
+    let mut kept = ManuallyDrop::new(Masks::new(alloc));
+    let masks = &mut *kept;
+    mask(masks, alloc, ME, "ring")?;
+    mask(masks, alloc, OTHER, "ring")?;
+    restore(masks, alloc, 6, "ring")?;
     masks.forget(ME, CALL);
     assert_eq!(rt; masks.len(), 2);
-    assert_eq!(rt; masks.at(0).activity, ActivityId(6));
-    assert_eq!(rt; masks.at(1).entity, OTHER);
+    assert!(rt; is_at(masks, 0, ME, 6));
+    assert!(rt; is_at(masks, 1, OTHER, CALL.0));
     Ok(())
 }

@@ -2,6 +2,7 @@
 
 use slee_state::{Timer, TimerSpec};
 use slee_value::{ActivityId, Keep, NoMemory, TimerId};
+use std::mem::ManuallyDrop;
 use std::test::Fail;
 use timer_facility::Timers;
 
@@ -46,27 +47,29 @@ fn next_of(timers: &Timers, number: u64) -> Option<u64> {
 
 #[test]
 fn timers_are_put_back_under_their_numbers(rt: HostRuntime) -> Result<(), Fail> {
-    let mut timers = Timers::new(rt.alloc());
+    let mut kept = ManuallyDrop::new(Timers::new(rt.alloc()));
+    let timers = &mut *kept;
     timers.set_next(9);
-    restore(&mut timers, 8, 20)?;
-    restore(&mut timers, 2, 30)?;
-    restore(&mut timers, 9, 40)?;
+    restore(timers, 8, 20)?;
+    restore(timers, 2, 30)?;
+    restore(timers, 9, 40)?;
     assert_eq!(rt; timers.len(), 2);
-    assert_eq!(rt; next_of(&timers, 2), Some(30));
-    assert_eq!(rt; next_of(&timers, 8), Some(20));
-    assert_eq!(rt; next_of(&timers, 9), None);
-    assert_eq!(rt; set(&mut timers)?, Some(9));
+    assert_eq!(rt; next_of(timers, 2), Some(30));
+    assert_eq!(rt; next_of(timers, 8), Some(20));
+    assert_eq!(rt; next_of(timers, 9), None);
+    assert_eq!(rt; set(timers)?, Some(9));
     assert_eq!(rt; timers.next_number(), 10);
     Ok(())
 }
 
 #[test]
 fn a_timer_gives_way_to_one_of_its_number(rt: HostRuntime) -> Result<(), Fail> {
-    let mut timers = Timers::new(rt.alloc());
+    let mut kept = ManuallyDrop::new(Timers::new(rt.alloc()));
+    let timers = &mut *kept;
     timers.set_next(3);
-    restore(&mut timers, 2, 20)?;
-    restore(&mut timers, 2, 50)?;
+    restore(timers, 2, 20)?;
+    restore(timers, 2, 50)?;
     assert_eq!(rt; timers.len(), 1);
-    assert_eq!(rt; next_of(&timers, 2), Some(50));
+    assert_eq!(rt; next_of(timers, 2), Some(50));
     Ok(())
 }
