@@ -62,7 +62,6 @@ CALLS = {
         "suspended_until",
         "services_done",
         "delivered",
-        "suspensions",
         "pop",
         "pop_middle",
         "mark_middle",
