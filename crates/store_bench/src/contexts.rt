@@ -250,6 +250,15 @@ fn change(asked: &Asked<'_>, contexts: &mut Contexts) -> Result<Option<u64>, NoM
     Ok(Some(sum))
 }
 
+/// In each round a name that no activity has is bound and unbound.
+fn unbind_each(asked: &Asked<'_>, contexts: &mut Contexts, number: u64) -> Result<u64, NoMemory> {
+    let alloc = asked.alloc;
+    let new = word(alloc, asked.rows)?;
+    sum_of(asked.rounds, |_| {
+        unbind_new(alloc, contexts, &new, number)
+    })
+}
+
 /// Calls that change what an activity has.
 fn change_its_own(
     asked: &Asked<'_>,
@@ -264,12 +273,7 @@ fn change_its_own(
         "set_attr" => sum_of(rounds, |round| {
             set_attr(alloc, contexts, one_of(rows, round))
         })?,
-        "unbind" => {
-            let new = word(alloc, rows)?;
-            sum_of(rounds, |_| {
-                unbind_new(alloc, contexts, &new, sought.number)
-            })?
-        }
+        "unbind" => unbind_each(asked, contexts, sought.number)?,
         "bind" => sum_of(rounds, |_| {
             bind_again(alloc, contexts, &sought.middle, sought.number)
         })?,

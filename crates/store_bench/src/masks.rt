@@ -75,6 +75,14 @@ fn is_at(masks: &Masks, place: u64) -> bool {
     place < masks.len() && masks.at(place).entity == ME
 }
 
+/// In how many rounds the event is masked on an activity.
+fn count_masked(asked: &Asked<'_>, masks: &Masks, all: u64) -> Result<u64, NoMemory> {
+    let busy = Text::from_str(asked.alloc, "busy")?;
+    Ok(count(asked.rounds, |round| {
+        masks.is_masked(ME, ActivityId(one_of(all, round)), &busy)
+    }))
+}
+
 fn called(asked: &Asked<'_>, masks: &mut Masks) -> Result<Option<u64>, NoMemory> {
     let alloc = asked.alloc;
     let rounds = asked.rounds;
@@ -83,12 +91,7 @@ fn called(asked: &Asked<'_>, masks: &mut Masks) -> Result<Option<u64>, NoMemory>
     let places = masks.len();
     let sum = match asked.call {
         "at" => count(rounds, |round| is_at(masks, one_of(places, round))),
-        "is_masked" => {
-            let busy = Text::from_str(alloc, "busy")?;
-            count(rounds, |round| {
-                masks.is_masked(ME, ActivityId(one_of(all, round)), &busy)
-            })
-        }
+        "is_masked" => count_masked(asked, masks, all)?,
         "of" => sum_of(rounds, |round| {
             Ok(masks.of(ME, ActivityId(one_of(all, round))).len() as u64)
         })?,
