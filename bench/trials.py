@@ -179,9 +179,10 @@ def looked_at(folder, crate, edit):
         words = [word for module in modules for word in ("--only", module)]
         ran = subprocess.run(["rt", "check", "--jobs", "1", *words], cwd=trial.place, capture_output=True, text=True, errors="replace", check=False)
     lines = ran.stdout.rstrip().split("\n")
-    ended = re.search(r"^only=(\d+) proved=(\d+)", ran.stdout, re.M)
+    # Libraries that are built on the way say so too; the last line is the crate's own.
+    ended = re.findall(r"^only=(\d+) proved=(\d+)", ran.stdout, re.M)[-1:]
     told = [it for it in lines if re.match(r"(note: )?\S+:\d+:\d+:", it)]
-    if ended and ended[1] != ended[2] and ran.returncode == 1:
+    if ended and ended[0][0] != ended[0][1] and ran.returncode == 1:
         by_name = r"(\./)?proofs/.*(has no field|is not in scope|has no `|was not admitted)"
         first = next((it for it in told if ": error" in it and not re.match(by_name, it)), None) or next(iter(told), "")
         return "refused", first
