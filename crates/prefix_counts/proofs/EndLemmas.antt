@@ -2,7 +2,7 @@
 use Rattle.std.proofs.Common.{◌≡◌, ℕ, ◌+◌, ◌-◌, ◌*◌, ◌/◌, ◌^◌, ◌<◌, ◌≤◌, List, length, length-set, take, set, get_or, min, ap, ◌∙◌, arith, inl, inr}
 use Rattle.std.specs.List.{sum}
 use Rattle.std.proofs.lemmas.Bool.{cases_lt}
-use Rattle.std.proofs.lemmas.List.{take-set-le, take_min}
+use Rattle.std.proofs.lemmas.List.{take-set-le}
 use Rattle.std.proofs.lemmas.List.Sums.{sum_by-take-le, sum_by_more}
 use Rattle.prefix_counts.specs.Levels.{AreEnds}
 use Rattle.prefix_counts.specs.declared.level.TheConstants.{BLOCK}
@@ -14,19 +14,6 @@ pub end_in : (numbers ends : List ℕ) (block place : ℕ) → AreEnds numbers e
 end_in numbers ends block place are least most within =
     let same : block ≡ place / BLOCK = omega (arith, least, most) in
     ap (λ b. sum (take (BLOCK * b) numbers) + get_or ends place 0) same ∙ are.all.up_to place within
-
--- the last end of a block is the sum of all of it
-pub last_end : (numbers ends : List ℕ) (block last : ℕ) → AreEnds numbers ends → BLOCK * block < length numbers → last + 1 ≡ min (BLOCK * (block + 1)) (length numbers)
-    → sum (take (BLOCK * block) numbers) + get_or ends last 0 ≡ sum (take (BLOCK * (block + 1)) numbers)
-last_end numbers ends block last are within is =
-    end_in numbers ends block last are (omega (arith, within, is)) (omega (arith, is)) (omega (arith, is))
-    ∙ ap (λ k. sum (take k numbers)) is ∙ ap (λ front. sum front) (take_min (BLOCK * (block + 1)) numbers)
-
--- the number at a place is what is between two ends
-pub reached_at : (numbers ends : List ℕ) (block place rank : ℕ) → AreEnds numbers ends → BLOCK * block ≤ place → place < BLOCK * (block + 1) → place < length numbers → rank < get_or ends place 0
-    → sum (take (BLOCK * block) numbers) + rank < sum (take place numbers) + get_or numbers place 0
-reached_at numbers ends block place rank are least most within above =
-    omega (arith, above, end_in numbers ends block place are least most within, sum_by_more (λ k. k) numbers place 0 within)
 
 -- a number is part of each end from it on in its block
 pub part_of_end : (numbers ends : List ℕ) (place n : ℕ) → AreEnds numbers ends → place ≤ n → n < BLOCK * (place / BLOCK + 1) → n < length numbers → get_or numbers place 0 ≤ get_or ends n 0
