@@ -1,30 +1,15 @@
--- Sums of so many first numbers.
-use Rattle.std.proofs.Common.{◌≡◌, ℕ, zero, suc, ◌+◌, ◌-◌, ◌*◌, ◌/◌, ◌<◌, ◌≤◌, List, [], ◌∷◌, length, length-set, take, drop, set, get_or, min, sym, ap, ◌∙◌, arith, inl, inr}
+-- Sums of so many first numbers, and of blocks of them.
+use Rattle.std.proofs.Common.{◌≡◌, ℕ, zero, suc, ◌+◌, ◌-◌, ◌*◌, ◌/◌, ◌<◌, ◌≤◌, List, [], ◌∷◌, length, length-set, take, set, get_or, sym, ap, ◌∙◌, arith, inl, inr}
 use Rattle.std.specs.List.{sum}
 use Rattle.std.proofs.lemmas.Bool.{cases_lt}
-use Rattle.std.proofs.Math.Seq.{take-add}
-use Rattle.std.proofs.lemmas.List.{take-take, take-set-le, take_min, take_all}
-use Rattle.std.proofs.lemmas.List.Sums.{sum_by-take-le, sum_by-append, sum_by-cons, sum_by_more}
+use Rattle.std.proofs.lemmas.List.{take-take, take-set-le, take_all}
+use Rattle.std.proofs.lemmas.List.Sums.{sum_by-take-le, sum_by-cons, sum_by_more}
 use Rattle.prefix_counts.specs.Levels.{AreSums, AreSumsUpTo}
-use Rattle.prefix_counts.specs.declared.blocks.TheConstants.{BLOCK}
+use Rattle.prefix_counts.specs.declared.level.TheConstants.{BLOCK}
 
 -- fewer first numbers are no more
 pub up_to : (m n : ℕ) (xs : List ℕ) → m ≤ n → sum (take m xs) ≤ sum (take n xs)
 up_to m n xs less = rw (sym (take-take m n xs less)) (sum_by-take-le (λ x. x) (take n xs) m)
-
--- the numbers from a place up to another one
-pub between : (m n : ℕ) (xs : List ℕ) → m ≤ n → sum (take m xs) + sum (take (n - m) (drop m xs)) ≡ sum (take n xs)
-between m n xs less =
-    let same : m + (n - m) ≡ n = omega (arith, less) in
-    sym (ap (λ k. sum (take k xs)) (sym same) ∙ ap (λ front. sum front) (take-add m (n - m) xs) ∙ sum_by-append (λ x. x) (take m xs) (take (n - m) (drop m xs)))
-
--- the same, where the numbers end first
-pub between_end : (m n end : ℕ) (xs : List ℕ) → m ≤ end → end ≡ min n (length xs) → sum (take m xs) + sum (take (end - m) (drop m xs)) ≡ sum (take n xs)
-between_end m n end xs less is = between m end xs less ∙ ap (λ k. sum (take k xs)) is ∙ ap (λ front. sum front) (take_min n xs)
-
--- a part of the numbers is no more than all
-pub part_le : (m n : ℕ) (xs : List ℕ) → m ≤ n → sum (take (n - m) (drop m xs)) ≤ sum xs
-part_le m n xs less = omega (arith, between m n xs less, sum_by-take-le (λ x. x) xs n)
 
 -- where the last block has its sum, all have
 pub all_sums : (numbers sums : List ℕ) (count : ℕ) → count ≡ length sums → AreSumsUpTo count numbers sums → length numbers ≤ BLOCK * length sums → AreSums numbers sums
@@ -57,7 +42,7 @@ replaced_in (suc n) (suc place) y d (x ∷ xs) inner within =
 pub part_of_block : (numbers sums : List ℕ) (place block d : ℕ) → AreSums numbers sums → block ≡ place / BLOCK → place < length numbers → (block < length sums) × (get_or numbers place d ≤ get_or sums block d)
 part_of_block numbers sums place block d are is within =
     let inner : block < length sums = omega (arith, is, within, are.enough) in
-    let next : BLOCK * (block + 1) ≡ BLOCK * block + 8 = omega arith in
+    let next : BLOCK * (block + 1) ≡ BLOCK * block + 64 = omega arith in
     let sum_next = sum_by_more (λ k. k) sums block d inner in
     let number_next = sum_by_more (λ k. k) numbers place d within in
     let low = up_to (BLOCK * block) place numbers (omega (arith, is)) in

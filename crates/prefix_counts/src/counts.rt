@@ -2,16 +2,17 @@
 ghost use Rattle.std.specs.Prelude.{◌≡◌, ◌+◌, ◌^◌, ◌<◌, ◌≤◌, [], OnOk, length, remove, set, slice_index, take};
 ghost use Rattle.std.specs.List.{insert, sum};
 
+use crate::level::Level;
 use crate::levels;
-use crate::memory::{raise_levels, reserve_numbers};
+use crate::memory::{raise_levels, reserve_level};
 use std::alloc::{AllocError, Global};
 use std::marker::Model;
 
 /// Numbers one behind another. A contract sees them as a list, and for how many there is memory.
 #[derive(Drop)]
 pub struct Counts {
-    numbers: Vec<usize>,
-    levels: Vec<Vec<usize>>,
+    first: Level,
+    above: Vec<Level>,
     places: usize,
     alloc: Global,
 }
@@ -25,9 +26,9 @@ impl Model for Counts {
 
     ghost use Rattle.prefix_counts.specs.Levels.{Holds};
 
-    ghost view = { λ c. record { numbers = c.numbers.items; places = c.places } };
+    ghost view = { λ c. record { numbers = c.first.numbers.items; places = c.places } };
 
-    ghost invariant = { λ c. Holds c.numbers c.levels.items c.places };
+    ghost invariant = { λ c. Holds c.first c.above.items c.places };
 }
 
 impl Counts {
@@ -36,8 +37,11 @@ impl Counts {
         ensures { result ≡ record { numbers = []; places = 0 } }
     {
         Counts {
-            numbers: Vec::new(alloc),
-            levels: Vec::new(alloc),
+            first: Level {
+                numbers: Vec::new(alloc),
+                ends: Vec::new(alloc),
+            },
+            above: Vec::new(alloc),
             places: 0,
             alloc,
         }
@@ -52,13 +56,8 @@ impl Counts {
         if places <= self.places {
             return Ok(());
         }
-        reserve_numbers(&mut self.numbers, places)?;
-        raise_levels(
-            self.numbers.as_slice(),
-            &mut self.levels,
-            self.alloc,
-            places,
-        )?;
+        reserve_level(&mut self.first, places)?;
+        raise_levels(&self.first, &mut self.above, self.alloc, places)?;
         self.places = places;
         Ok(())
     }
@@ -70,18 +69,9 @@ impl Counts {
         ensures numbers { self.new.numbers ≡ set self.old.numbers place number }
         ensures places { self.new.places ≡ self.old.places }
     {
-        let before = self.numbers[place];
-        if before == number {
-            return;
+        if self.first.numbers[place] != number {
+            levels::replace(&mut self.first, self.above.as_mut_slice(), place, number);
         }
-        self.numbers[place] = number;
-        levels::replace_above(
-            self.numbers.as_slice(),
-            self.levels.as_mut_slice(),
-            place,
-            before,
-            number,
-        );
     }
 
     /// A number comes at the place, ahead of those from there on.
@@ -92,11 +82,11 @@ impl Counts {
         ensures numbers { self.new.numbers ≡ insert self.old.numbers place number }
         ensures places { self.new.places ≡ self.old.places }
     {
-        match self.numbers.insert(place, number) {
+        match self.first.numbers.insert(place, number) {
             Ok(()) => {}
             Err(_) => unreachable!(),
         }
-        levels::renew_above(self.numbers.as_slice(), self.levels.as_mut_slice(), place);
+        levels::renew(&mut self.first, self.above.as_mut_slice(), place);
     }
 
     /// The number at the place goes.
@@ -105,8 +95,8 @@ impl Counts {
         ensures numbers { self.new.numbers ≡ remove self.old.numbers place }
         ensures places { self.new.places ≡ self.old.places }
     {
-        self.numbers.remove(place);
-        levels::renew_above(self.numbers.as_slice(), self.levels.as_mut_slice(), place);
+        self.first.numbers.remove(place);
+        levels::renew(&mut self.first, self.above.as_mut_slice(), place);
     }
 
     /// So many first numbers taken together.
@@ -114,7 +104,7 @@ impl Counts {
         requires { place ≤ length self.now.numbers }
         ensures { result ≡ sum (take place self.now.numbers) }
     {
-        levels::sum_before(self.numbers.as_slice(), self.levels.as_slice(), place)
+        levels::sum_before(&self.first, self.above.as_slice(), place)
     }
 
     /// The place of the number at which so many are reached, and how many are left there.
@@ -124,6 +114,6 @@ impl Counts {
         ensures within { result.0 < length self.now.numbers }
         ensures inner { result.1 < slice_index self.now.numbers result.0 }
     {
-        levels::place_in(self.numbers.as_slice(), self.levels.as_slice(), rank)
+        levels::place_in(&self.first, self.above.as_slice(), rank)
     }
 }

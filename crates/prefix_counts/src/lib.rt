@@ -1,8 +1,8 @@
 //! Numbers one behind another, with sums of blocks of them, so that the sum of the first ones is found in a few steps.
 #![tactic(auto)]
 
-mod blocks;
 mod counts;
+mod level;
 mod levels;
 mod memory;
 

@@ -1,34 +1,39 @@
 -- all sums are as much as the numbers, and so many of them as their blocks
-use Rattle.std.proofs.Common.{◌≡◌, ◌*◌, take, subst, ap, ◌∙◌, arith}
-use Rattle.std.specs.List.{sum}
-use Rattle.prefix_counts.specs.Levels.{AreLevels, top_of}
-use Rattle.prefix_counts.specs.declared.blocks.TheConstants.{BLOCK}
-use Rattle.prefix_counts.proofs.SumLemmas.{as_much}
-use Rattle.prefix_counts.proofs.LevelLemmas.{level_gone, top_added, top_sum}
+use Rattle.std.proofs.Common.{◌+◌, subst, ap, ◌∙◌, arith}
+use Rattle.std.proofs.lemmas.List.Sums.{sum_by_more}
+use Rattle.prefix_counts.specs.Levels.{AreAbove, top_of}
+use Rattle.prefix_counts.proofs.LevelLemmas.{level_gone, top_added, top_within}
 use Rattle.prefix_counts.proofs.levels.place_in.Goals as goal
 
-pub place_from-block-requires : goal.place_from-block-requires
-place_from-block-requires c =
-    let numbers = c.args.numbers.now in
-    let below = c.in-Some.below.now in
-    let level = c.in-Some.level.now in
-    let gone = level_gone numbers below level (subst (AreLevels numbers) c.in-Some.ensures.cases.0 c.levels.invariant.right) in
-    let top = ap (top_of numbers) c.in-Some.ensures.cases.0 ∙ top_added numbers below level in
-    let same = rw top at c.levels.invariant.same in
-    rw c.as_slice.ensures.value (omega (arith, same, c.requires.within, as_much (top_of numbers below) level.items gone.1, top_sum numbers below gone.0))
+pub levels-init : goal.levels-init
+levels-init c = record {
+  right = c.requires.stand.sums;
+  before = omega arith;
+  within = top_within c.args.first.now.numbers.items c.args.above.now c.args.rank c.requires.stand.sums c.requires.reached c.requires.within;
+}
+
+pub place_within-place-requires-clause-ends : goal.place_within-place-requires-clause-ends
+place_within-place-requires-clause-ends c =
+    let numbers = c.args.first.now.numbers.items in
+    (level_gone numbers c.in-Some.below.now c.in-Some.level.now (subst (AreAbove numbers) c.in-Some.ensures.cases.0 c.levels.invariant.right)).1.1
+
+pub place_within-place-requires-clause-within : goal.place_within-place-requires-clause-within
+place_within-place-requires-clause-within c =
+    let numbers = c.args.first.now.numbers.items in
+    let top = ap (top_of numbers) c.in-Some.ensures.cases.0 ∙ top_added numbers c.in-Some.below.now c.in-Some.level.now in
+    omega (arith, rw top at c.levels.invariant.before, rw top at c.levels.invariant.within)
 
 pub levels-preserved : goal.levels-preserved
 levels-preserved c =
-    let numbers = c.args.numbers.now in
-    let below = c.in-Some.below.now in
+    let numbers = c.args.first.now.numbers.items in
     let level = c.in-Some.level.now in
-    let gone = level_gone numbers below level (subst (AreLevels numbers) c.in-Some.ensures.cases.0 c.levels.invariant.right) in
-    let top = ap (top_of numbers) c.in-Some.ensures.cases.0 ∙ top_added numbers below level in
-    let same = rw top at c.levels.invariant.same in
-    let before = rw c.as_slice.ensures.value at c.place_from-block.ensures.before in
-    let turned : BLOCK * c.place_from-block.result.0 ≡ c.place_from-block.result.0 * 8 = omega arith in
-    let block = gone.1.before c.place_from-block.result.0 ∙ ap (λ k. sum (take k (top_of numbers below))) turned in
+    let place = c.place_within-place.result.0 in
+    let gone = level_gone numbers c.in-Some.below.now level (subst (AreAbove numbers) c.in-Some.ensures.cases.0 c.levels.invariant.right) in
+    let top = ap (top_of numbers) c.in-Some.ensures.cases.0 ∙ top_added numbers c.in-Some.below.now level in
+    let before = rw top at c.levels.invariant.before in
+    let found = c.place_within-place.ensures in
     record {
       right = gone.0;
-      same = omega (arith, same, before, block);
+      before = omega (arith, before, found.before, gone.1.0.before place);
+      within = omega (arith, before, found.before, found.inner, gone.1.0.before (place + 1), sum_by_more (λ k. k) level.numbers.items place 0 found.within);
     }

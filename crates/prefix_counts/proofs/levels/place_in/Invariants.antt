@@ -1,13 +1,15 @@
--- so many are reached in the level that is at the top of those left
-use Rattle.std.proofs.Common.{◌≡◌, ◌+◌, length, take}
+-- so many are reached in the block of the level that is at the top of those left
+use Rattle.std.proofs.Common.{◌≡◌, ◌+◌, ◌*◌, ◌<◌, length, take}
 use Rattle.std.specs.List.{sum}
-use Rattle.prefix_counts.specs.Levels.{AreLevels, top_of}
+use Rattle.prefix_counts.specs.Levels.{AreAbove, top_of}
+use Rattle.prefix_counts.specs.declared.level.TheConstants.{BLOCK}
 use Rattle.prefix_counts.proofs.levels.place_in.Given as goal
 
 abbrev pub invariant-levels : goal.invariant-levels
 invariant-levels l = record {
-  right : AreLevels l.numbers l.left;
-  same : sum (take l.start (top_of l.numbers l.left)) + l.rest ≡ l.rank;
+  right : AreAbove l.first.numbers.items l.left;
+  before : sum (take (BLOCK * l.block) (top_of l.first.numbers.items l.left)) + l.rest ≡ l.rank;
+  within : l.rank < sum (take (BLOCK * (l.block + 1)) (top_of l.first.numbers.items l.left));
 }
 
 abbrev pub decreases-levels : goal.decreases-levels

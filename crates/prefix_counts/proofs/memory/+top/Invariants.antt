@@ -3,4 +3,4 @@ use Rattle.std.proofs.Common.{length}
 use Rattle.prefix_counts.proofs.memory.+top.Given as goal
 
 abbrev pub decreases-top : goal.decreases-top
-decreases-top l = length l.levels.now
+decreases-top l = length l.above.now

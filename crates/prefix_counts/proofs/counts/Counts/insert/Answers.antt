@@ -6,13 +6,16 @@ use Rattle.prefix_counts.proofs.counts.Counts.insert.Goals as goal
 
 pub invariant_of-self : goal.invariant_of-self
 invariant_of-self c =
-    let back = lent_back c.self.inside.levels.len c.renew_above.new.levels c.self.inside.levels.items _ c.as_mut_slice.ensures.value c.renew_above.ensures.count c.self.inside.levels.ok.0 in
+    let inside = c.self.inside in
+    let invariant = c.self.invariant in
+    let back = lent_back inside.above.len c.renew.new.above inside.above.items _ c.as_mut_slice.ensures.value c.renew.ensures.count inside.above.ok.0 in
     let room = rw (← c.self.view_is) at c.requires.room in
     let fits = rw (← c.self.view_is) at c.requires.fits in
     rw back (record {
-      right = rw c.as_slice.ensures.value at c.renew_above.ensures.levels;
-      memory = omega (arith, c.self.invariant.memory, c.insert.ensures.capacity);
-      memory_above = c.renew_above.ensures.memory c.self.inside.places (rw c.as_mut_slice.ensures.value c.self.invariant.memory_above);
-      within = omega (arith, room, c.in-Ok.ensures.len, c.self.inside.numbers.ok.0);
-      fits = rw c.in-Ok.ensures.items (omega (arith, fits, sum_by-insert (λ n. n) c.self.inside.numbers.items c.args.place c.args.number));
+      stand = c.renew.ensures.stand;
+      memory = record { numbers = rw c.renew.ensures.numbers (omega (arith, invariant.memory.numbers, c.insert.ensures.capacity)); ends = omega (arith, invariant.memory.ends, c.renew.ensures.memory) };
+      memory_above = c.renew.ensures.memory_above inside.places (rw c.as_mut_slice.ensures.value invariant.memory_above);
+      reached = rw (c.renew.ensures.count, c.as_mut_slice.ensures.value) invariant.reached;
+      within = rw c.renew.ensures.numbers (omega (arith, room, c.in-Ok.ensures.len, inside.first.numbers.ok.0));
+      fits = rw (c.renew.ensures.numbers, c.in-Ok.ensures.items) (omega (arith, fits, sum_by-insert (λ n. n) inside.first.numbers.items c.args.place c.args.number));
     })

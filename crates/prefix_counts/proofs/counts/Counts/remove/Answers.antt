@@ -6,12 +6,15 @@ use Rattle.prefix_counts.proofs.counts.Counts.remove.Goals as goal
 
 pub invariant_of-self : goal.invariant_of-self
 invariant_of-self c =
-    let back = lent_back c.self.inside.levels.len c.renew_above.new.levels c.self.inside.levels.items _ c.as_mut_slice.ensures.value c.renew_above.ensures.count c.self.inside.levels.ok.0 in
+    let inside = c.self.inside in
+    let invariant = c.self.invariant in
+    let back = lent_back inside.above.len c.renew.new.above inside.above.items _ c.as_mut_slice.ensures.value c.renew.ensures.count inside.above.ok.0 in
     let within = rw (← c.self.view_is) at c.requires in
     rw back (record {
-      right = rw c.as_slice.ensures.value at c.renew_above.ensures.levels;
-      memory = omega (arith, c.self.invariant.memory, c.remove.ensures.capacity);
-      memory_above = c.renew_above.ensures.memory c.self.inside.places (rw c.as_mut_slice.ensures.value c.self.invariant.memory_above);
-      within = omega (arith, c.self.invariant.within, c.remove.ensures.len);
-      fits = rw c.remove.ensures.items (omega (arith, c.self.invariant.fits, sum_by-remove (λ n. n) c.self.inside.numbers.items c.args.place 0 within));
+      stand = c.renew.ensures.stand;
+      memory = record { numbers = rw c.renew.ensures.numbers (omega (arith, invariant.memory.numbers, c.remove.ensures.capacity)); ends = omega (arith, invariant.memory.ends, c.renew.ensures.memory) };
+      memory_above = c.renew.ensures.memory_above inside.places (rw c.as_mut_slice.ensures.value invariant.memory_above);
+      reached = rw (c.renew.ensures.count, c.as_mut_slice.ensures.value) invariant.reached;
+      within = rw c.renew.ensures.numbers (omega (arith, invariant.within, c.remove.ensures.len));
+      fits = rw (c.renew.ensures.numbers, c.remove.ensures.items) (omega (arith, invariant.fits, sum_by-remove (λ n. n) inside.first.numbers.items c.args.place 0 within));
     })

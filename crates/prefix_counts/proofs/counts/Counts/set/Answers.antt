@@ -4,11 +4,14 @@ use Rattle.prefix_counts.proofs.counts.Counts.set.Goals as goal
 
 pub invariant_of-self : goal.invariant_of-self
 invariant_of-self c =
-    let back = lent_back c.self.inside.levels.len c.replace_above.new.levels c.self.inside.levels.items _ c.as_mut_slice.ensures.value c.replace_above.ensures.count c.self.inside.levels.ok.0 in
+    let inside = c.self.inside in
+    let invariant = c.self.invariant in
+    let back = lent_back inside.above.len c.replace.new.above inside.above.items _ c.as_mut_slice.ensures.value c.replace.ensures.count inside.above.ok.0 in
     rw back (record {
-      right = rw c.as_slice.ensures.value at c.replace_above.ensures.levels;
-      memory = c.self.invariant.memory;
-      memory_above = c.replace_above.ensures.memory c.self.inside.places (rw c.as_mut_slice.ensures.value c.self.invariant.memory_above);
-      within = c.self.invariant.within;
-      fits = rw (← c.self.view_is) at c.requires.fits;
+      stand = c.replace.ensures.stand;
+      memory = c.replace.ensures.memory inside.places invariant.memory;
+      memory_above = c.replace.ensures.memory_above inside.places (rw c.as_mut_slice.ensures.value invariant.memory_above);
+      reached = rw (c.replace.ensures.count, c.as_mut_slice.ensures.value) invariant.reached;
+      within = rw c.replace.ensures.len invariant.within;
+      fits = rw c.replace.ensures.numbers (rw (← c.self.view_is) at c.requires.fits);
     })
