@@ -34,6 +34,10 @@ const HALVING: usize = usize::MAX;
 // A step to the next place.
 const NEAR: usize = 0;
 
+// How much farther each step goes than the one before. A good guess takes two or three steps, and behind a poor one little is
+// left but to halve.
+const GROWTH: usize = 16;
+
 fn is_ahead<R: Keyed>(row: &R, border: Border, first: u64, second: u64, text: &[u8]) -> bool
     ensures { result ≡ is_ahead border (record { first = first; second = second; text = text.now }) (R.key row.now) }
 {
@@ -147,7 +151,7 @@ pub fn count_ahead<R: Keyed>(
             high = place;
             place = place_below(low, high, step);
         }
-        step = step.wrapping_mul(2).wrapping_add(1);
+        step = step.wrapping_mul(GROWTH).wrapping_add(1);
     }
     low
 }
