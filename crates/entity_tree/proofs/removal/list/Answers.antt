@@ -6,20 +6,25 @@ use Rattle.slee_value.specs.declared.ids.EntityId.{EntityId}
 use Rattle.entity_tree.specs.declared.branch.Branch.{Branch}
 use Rattle.entity_tree.specs.Kept.{numbers_of}
 use Rattle.entity_tree.proofs.TreeLemmas.{numbers_reversed, tree_more, trees}
-use Rattle.entity_tree.proofs.removal.removal.Goals as goal
+use Rattle.entity_tree.proofs.removal.list.Goals as goal
 
 pub tree-smaller : goal.tree-smaller
 tree-smaller c =
     (tree_more c.args.rows.now.rows c.rises.ensures c.requires.parents c.tree.waiting.items c.push_children.new.into.items c.pop.new.self.items c.tree.all.items c.push-in-Some.new.self.items c.in-Some.entity
     (filter (λ (branch : Branch). branch.parent.0 == c.in-Some.entity.0) c.args.branches.now.rows) c.args.top.0
-    c.in-Some.ensures.items c.in_ok-push_children.ensures (c.requires.index c.in-Some.entity.0) c.in_ok-push-2.ensures.items c.tree.invariant.order c.tree.invariant.there).2
+    c.in-Some.ensures.items c.in_ok-push_children.ensures.items (c.requires.index c.in-Some.entity.0) c.in_ok-push-2.ensures.items c.tree.invariant.order c.tree.invariant.there).2
 
 pub tree-preserved : goal.tree-preserved
 tree-preserved c =
     let more = tree_more c.args.rows.now.rows c.rises.ensures c.requires.parents c.tree.waiting.items c.push_children.new.into.items c.pop.new.self.items c.tree.all.items c.push-in-Some.new.self.items c.in-Some.entity
     (filter (λ (branch : Branch). branch.parent.0 == c.in-Some.entity.0) c.args.branches.now.rows) c.args.top.0
-    c.in-Some.ensures.items c.in_ok-push_children.ensures (c.requires.index c.in-Some.entity.0) c.in_ok-push-2.ensures.items c.tree.invariant.order c.tree.invariant.there in
-    record { order = more.0; there = more.1 }
+    c.in-Some.ensures.items c.in_ok-push_children.ensures.items (c.requires.index c.in-Some.entity.0) c.in_ok-push-2.ensures.items c.tree.invariant.order c.tree.invariant.there in
+    record {
+      order = more.0;
+      there = more.1;
+      waiting_capacity = omega (arith, c.tree.invariant.waiting_capacity, c.pop.ensures.capacity, c.push_children.ensures.capacity);
+      capacity = omega (arith, c.tree.invariant.capacity, c.push-2.ensures.capacity);
+    }
 
 pub returns : goal.returns
 returns c =
