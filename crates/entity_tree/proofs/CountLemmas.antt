@@ -1,5 +1,5 @@
 -- The tree of an entity has no more entities than there are.
-use Rattle.std.proofs.Common.{◌≡◌, ℕ, suc, ◌+◌, ◌<◌, ◌≤◌, ◌==◌, Bool, true, false, List, [], ◌∷◌, ◌++◌, Option, Some, None, map, length, reverse, refl, sym, ap, subst, ◌∙◌, arith, inl, inr}
+use Rattle.std.proofs.Common.{◌≡◌, ℕ, ◌+◌, ◌<◌, ◌≤◌, ◌==◌, Bool, true, false, List, [], ◌∷◌, ◌++◌, Option, Some, None, map, length, reverse, refl, ap, subst, ◌∙◌, arith, inl, inr}
 use Rattle.std.specs.Prelude.{nat_lt, is_some, if◌then◌else◌}
 use Rattle.std.specs.List.{AllByRecursion}
 use Rattle.std.proofs.lemmas.Bool.{cases_Bool}
@@ -23,7 +23,7 @@ weight rows e = length (tree_of rows e)
 -- the weights of those whose parents pass
 abbrev weighed : List Entity → (ℕ → Bool) → List Entity → ℕ
 weighed rows passes [] = 0
-weighed rows passes (x ∷ xs) = (if passes (parent_of x) then weight rows x.number.0 else 0) + weighed rows passes xs
+weighed rows passes (x ∷ xs) = if passes (parent_of x) then weight rows x.number.0 + weighed rows passes xs else weighed rows passes xs
 
 -- the weights of the children
 abbrev below : List Entity → ℕ → List Entity → ℕ
@@ -101,7 +101,7 @@ module _ (rows : List Entity) (rises : Rises entity_key rows) (parents : ArePare
         | inl mine ↦
             let same : x.number.0 ≡ e = grind (arith, nat_tests, mine) in
             let all = first_fits k x xs rest (rest_fits (x.number.0 + 1) xs next) in
-            subst (λ n. weight rows n ≤ length xs + 1) same (omega (arith, all))
+            subst (λ n. weight rows n ≤ length (x ∷ xs)) same (omega (arith, all))
         | inr other ↦ let more = found_fits (x.number.0 + 1) xs e row next (rw other at is) in omega (arith, more)
       ]
 
