@@ -133,6 +133,14 @@ fn is_order(tree: &Tree, alloc: Global, top: u64, wanted: &[u64]) -> Result<bool
     Ok(are(&order(tree, alloc, top)?, wanted))
 }
 
+// The store lists the entity's whole tree in this order.
+fn are_members(tree: &mut Tree, top: u64, wanted: &[u64]) -> bool {
+    match tree.find(EntityId(top)) {
+        Some(_) => are(tree.members(EntityId(top)), wanted),
+        None => false,
+    }
+}
+
 // The number, the priority and the service of the entity at this place.
 fn kept_at(tree: &Tree, place: u64) -> Option<(u64, i8, Option<u32>)> {
     if place < tree.len() {
@@ -180,6 +188,8 @@ fn a_tree_goes_children_first(rt: HostRuntime) -> Result<(), Fail> {
     grow(tree, alloc)?;
     assert!(rt; is_order(tree, alloc, 1, &[4, 2, 3, 5, 1])?);
     assert!(rt; is_order(tree, alloc, 2, &[4, 2])?);
+    assert!(rt; are_members(tree, 1, &[4, 2, 3, 5, 1]));
+    assert!(rt; are_members(tree, 2, &[4, 2]));
     assert!(rt; tree.has_child(EntityId(2)));
     assert!(rt; remove_all(tree, alloc, 1)?);
     assert_eq!(rt; tree.len(), 0);

@@ -5,6 +5,7 @@ pub mod SetLemmas
 pub mod IndexLemmas
 pub mod KeptLemmas
 pub mod TreeLemmas
+pub mod CountLemmas
 pub mod PathLemmas
 pub mod OrderLemmas
 pub mod ClimbLemmas

@@ -23,6 +23,14 @@ pub all_joined : {X : Type 0} (P : X → Type 0) (xs ys : List X) → AllByRecur
 all_joined P [] ys all also = also
 all_joined P (x ∷ xs) ys all also = (all.0, all_joined P xs ys all.1 also)
 
+pub all_front : {X : Type 0} (P : X → Type 0) (xs ys : List X) → AllByRecursion P (xs ++ ys) → AllByRecursion P xs
+all_front P [] ys all = tt
+all_front P (x ∷ xs) ys all = (all.0, all_front P xs ys all.1)
+
+pub all_back : {X : Type 0} (P : X → Type 0) (xs ys : List X) → AllByRecursion P (xs ++ ys) → AllByRecursion P ys
+all_back P [] ys all = all
+all_back P (x ∷ xs) ys all = all_back P xs ys all.1
+
 -- what follows of those that pass holds of all that a filter leaves
 pub all_filtered : {X : Type 0} (q : X → Bool) (P : X → Type 0) (xs : List X) → AllByRecursion (λ x. q x ≡ true → P x) xs → AllByRecursion P (filter q xs)
 all_filtered q P [] all = tt

@@ -13,7 +13,7 @@ use Rattle.sorted_rows.specs.Keys.{Rises, entity_key}
 use Rattle.sorted_rows.proofs.OrderLemmas.{in_order, all_filter, all_from_all}
 use Rattle.entity_tree.specs.declared.branch.Branch.{Branch}
 use Rattle.entity_tree.specs.Kept.{AreParents, branch_of, numbers_of}
-use Rattle.entity_tree.proofs.ListLemmas.{all_two, all_joined, all_mapped}
+use Rattle.entity_tree.proofs.ListLemmas.{all_back, all_front, all_two, all_joined, all_mapped}
 use Rattle.entity_tree.proofs.RowLemmas.{each_found}
 
 -- how many entities have a greater number
@@ -130,14 +130,6 @@ module _ (rows : List Entity) (rises : Rises entity_key rows) (parents : ArePare
       let one = append-nil (tree_of rows id.0) in
       rw (tree_last, kids_last, one, step)
       (omega (arith, length-append (trees rows begun) (trees rows kids), length-append (trees rows begun) (trees rows kids ++ id.0 ∷ []), length-append (trees rows kids) (id.0 ∷ [])))
-
-  all_front : (P : EntityId → Type 0) (xs ys : List EntityId) → AllByRecursion P (xs ++ ys) → AllByRecursion P xs
-  all_front P [] ys all = tt
-  all_front P (x ∷ xs) ys all = (all.0, all_front P xs ys all.1)
-
-  all_back : (P : EntityId → Type 0) (xs ys : List EntityId) → AllByRecursion P (xs ++ ys) → AllByRecursion P ys
-  all_back P [] ys all = all
-  all_back P (x ∷ xs) ys all = all_back P xs ys all.1
 
   -- an entity is there
   abbrev pub IsThere : EntityId → Type 0

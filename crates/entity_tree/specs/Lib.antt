@@ -2,3 +2,4 @@ pub mod Views
 pub mod Kept
 pub mod Climbing
 pub mod Depths
+pub mod Lending

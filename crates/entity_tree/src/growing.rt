@@ -1,5 +1,5 @@
 //! Entities, the index of children and the depths, changed together.
-ghost use Rattle.std.specs.Prelude.{◌≡◌, ◌<◌, ◌≤◌, ◌+◌, [], None};
+ghost use Rattle.std.specs.Prelude.{◌≡◌, ◌<◌, ◌≤◌, ◌+◌, [], None, length};
 ghost use Rattle.slee_state.specs.Orders.{put};
 ghost use Rattle.slee_state.specs.Trees.{children, entity_at, parent_of, with_priority, without_entity};
 ghost use Rattle.entity_tree.specs.Kept.{AreParents, IsIndex, entity_before};
@@ -32,6 +32,7 @@ pub fn add(
     ensures depths { children rows.old.rows row.number.0 ≡ [] → AreDepths rows.new.rows depths.new.rows }
     ensures kept { HasDepths rows.new.rows depths.new.rows }
     ensures room { rows.old.room ≤ rows.new.room + 1 }
+    ensures whole { rows.new.room + length rows.new.rows ≡ rows.old.room + length rows.old.rows }
     ensures branch_room { branches.old.room ≤ branches.new.room + 1 }
     ensures depth_room { depths.old.room ≤ depths.new.room + 1 }
 {
@@ -68,6 +69,7 @@ pub fn restore(
     ensures index { IsIndex rows.new.rows branches.new.rows }
     ensures depths { AreDepths rows.new.rows depths.new.rows }
     ensures room { rows.old.room ≤ rows.new.room + 1 }
+    ensures whole { rows.new.room + length rows.new.rows ≡ rows.old.room + length rows.old.rows }
     ensures branch_room { branches.old.room ≤ branches.new.room + 1 }
     ensures depth_room { depths.old.room ≤ depths.new.room + 1 }
 {
@@ -93,6 +95,7 @@ pub fn cut(
     ensures index { IsIndex rows.new.rows branches.new.rows }
     ensures depths { AreDepths rows.new.rows depths.new.rows }
     ensures room { rows.old.room ≤ rows.new.room }
+    ensures whole { rows.new.room + length rows.new.rows ≡ rows.old.room + length rows.old.rows }
     ensures branch_room { branches.old.room ≤ branches.new.room }
     ensures depth_room { depths.old.room ≤ depths.new.room }
 {
@@ -107,6 +110,7 @@ pub fn cut(
 pub fn set_priority(rows: &mut Leaves<Entity>, entity: EntityId, priority: i8)
     ensures rows { rows.new.rows ≡ with_priority rows.old.rows entity.0 priority }
     ensures room { rows.old.room ≤ rows.new.room }
+    ensures whole { rows.new.room + length rows.new.rows ≡ rows.old.room + length rows.old.rows }
 {
     rows.change_row(entity.0, 0, &[], |row| row.priority = priority);
 }

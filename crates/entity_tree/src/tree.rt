@@ -6,9 +6,11 @@ ghost use Rattle.slee_state.specs.Ordered.{are_below};
 ghost use Rattle.slee_state.specs.Trees.{children, children_under, entity_at, is_root, number_of, parent_in, parent_of, service_of, tree_of, with_entity, with_priority, without_entity};
 ghost use Rattle.slee_state.specs.Paths.{path_before};
 ghost use Rattle.std.specs.Ordering.{is_lt, is_gt};
+ghost use Rattle.std.specs.Borrow.{sem};
 ghost use Rattle.sorted_rows.specs.Keys.{Rises, entity_key};
 ghost use Rattle.entity_tree.specs.Climbing.{path_at};
 ghost use Rattle.entity_tree.specs.Kept.{AreParents, entity_before, is_entity, numbers_of};
+ghost use Rattle.entity_tree.specs.Lending.{KeepsTree};
 
 use crate::branch::Branch;
 use crate::depths::Depth;
@@ -20,26 +22,28 @@ use std::alloc::Global;
 use std::cmp::Ordering;
 use std::marker::Model;
 
-/// All entities, and the number of the next one.
+/// All entities, and the number of the next one. The other two lists have room for all entities: one is of the tree that was asked for last, and the other one of those entities that are still to come into it.
 #[derive(Drop)]
 pub struct Tree {
     rows: Leaves<Entity>,
     branches: Leaves<Branch>,
     depths: Leaves<Depth>,
+    members: Vec<EntityId>,
+    waiting: Vec<EntityId>,
     next: u64,
 }
 
 impl Model for Tree {
-    ghost use Rattle.std.specs.Prelude.{min};
+    ghost use Rattle.std.specs.Prelude.{◌≤◌, ◌-◌, min, length, vec_capacity};
     ghost use Rattle.entity_tree.specs.Views.{TreeView};
     ghost use Rattle.entity_tree.specs.Kept.{AreEntities, IsIndex};
     ghost use Rattle.entity_tree.specs.Depths.{AreDepths};
 
     ghost Value = { TreeView };
 
-    ghost view = { λ t. record { rows = t.rows.rows; next = t.next; room = min t.rows.room (min t.branches.room t.depths.room) } };
+    ghost view = { λ t. record { rows = t.rows.rows; next = t.next; room = min (min t.rows.room (min t.branches.room t.depths.room)) (min (vec_capacity t.members) (vec_capacity t.waiting) - length t.rows.rows) } };
 
-    ghost invariant = { λ t. AreEntities t.next t.rows.rows × IsIndex t.rows.rows t.branches.rows × AreDepths t.rows.rows t.depths.rows };
+    ghost invariant = { λ t. AreEntities t.next t.rows.rows × IsIndex t.rows.rows t.branches.rows × AreDepths t.rows.rows t.depths.rows × (length t.rows.rows ≤ vec_capacity t.members) × (length t.rows.rows ≤ vec_capacity t.waiting) };
 }
 
 impl Tree {
@@ -52,6 +56,8 @@ impl Tree {
             rows: Leaves::new(alloc),
             branches: Leaves::new(alloc),
             depths: Leaves::new(alloc),
+            members: Vec::new(alloc),
+            waiting: Vec::new(alloc),
             next: 1,
         }
     }
@@ -66,6 +72,15 @@ impl Tree {
         self.rows.reserve(entities as usize)?;
         self.branches.reserve(entities as usize)?;
         self.depths.reserve(entities as usize)?;
+        match self.rows.len().checked_add(entities as usize) {
+            Some(all) => {
+                self.members.clear();
+                self.waiting.clear();
+                self.members.reserve(all)?;
+                self.waiting.reserve(all)?;
+            }
+            None => return Err(NoMemory),
+        }
         Ok(())
     }
 
@@ -162,6 +177,25 @@ impl Tree {
         ensures { IfOk result (λ all. numbers_of all.items ≡ tree_of self.now.rows top.0) }
     {
         removal::removal(alloc, &self.rows, &self.branches, top)
+    }
+
+    /// The same, in a list that the store has room for: it takes no memory.
+    pub fn members(&mut self, top: EntityId) -> &[EntityId]
+        requires { IsTrue (is_entity self.old.rows top.0) }
+        ensures members { numbers_of result.now ≡ tree_of self.old.rows top.0 }
+        ensures* kept { sem 𝓛 (KeepsTree self.entry) }
+    {
+        match removal::list(
+            &self.rows,
+            &self.branches,
+            top,
+            &mut self.waiting,
+            &mut self.members,
+        ) {
+            Ok(()) => {}
+            Err(_) => unreachable!(),
+        }
+        &self.members
     }
 
     /// The entity is gone.

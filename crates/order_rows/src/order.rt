@@ -148,6 +148,28 @@ fn another_priority_moves_the_whole_tree(rt: HostRuntime) -> Result<(), Fail> {
 }
 
 #[test]
+fn a_priority_changes_where_all_room_is_taken(rt: HostRuntime) -> Result<(), Fail> {
+    let alloc = rt.alloc();
+    let mut tree_kept = ManuallyDrop::new(Tree::new(alloc));
+    let tree = &mut *tree_kept;
+    let mut order_kept = ManuallyDrop::new(Order::new(alloc));
+    let order = &mut *order_kept;
+    let masks = ManuallyDrop::new(Masks::new(alloc));
+    tree.reserve(5)?;
+    grow(tree, alloc)?;
+    order.reserve(7)?;
+    list_each(tree, order, CALL, &[1, 2, 3, 4, 5])?;
+    list_each(tree, order, OTHER, &[3, 4])?;
+    order.set_priority(tree, EntityId(2), -7);
+    assert!(rt; come(alloc, tree, order, &masks, CALL, &[1, 3, 2, 5, 4])?);
+    assert!(rt; come(alloc, tree, order, &masks, OTHER, &[3, 4])?);
+    order.set_priority(tree, EntityId(1), -9);
+    assert!(rt; come(alloc, tree, order, &masks, CALL, &[2, 5, 4, 1, 3])?);
+    assert!(rt; come(alloc, tree, order, &masks, OTHER, &[4, 3])?);
+    Ok(())
+}
+
+#[test]
 fn ranks_that_run_out_are_given_anew(rt: HostRuntime) -> Result<(), Fail> {
     let alloc = rt.alloc();
     let mut tree_kept = ManuallyDrop::new(Tree::new(alloc));

@@ -49,22 +49,8 @@ under_holds Q e b (x ∷ xs) all there = elim (cases_Bool (x.key == e)) [
   | inr other ↦ under_holds Q e b xs (rw other at all) (rw other at there)
 ]
 
--- what holds for all entries
-pub entry_holds : (Q : ℕ → ℕ → Type 0) (e b : ℕ) (entries : List Entry) → AllByRecursion (λ (entry : Entry). Q entry.key entry.number) entries → has_under entries e b ≡ true → Q e b
-entry_holds Q e b [] all there = absurd (cc)
-entry_holds Q e b (x ∷ xs) all there = elim (cases_Bool (is_under e b x)) [
-  | inl mine ↦
-      let parts = and_parts (x.key == e) (x.number == b) mine in
-      let first = parts.0 in
-      let second = parts.1 in
-      let under : x.key ≡ e = grind (arith, nat_tests, first) in
-      let at : x.number ≡ b = grind (arith, nat_tests, second) in
-      subst (λ n. Q e n) at (subst (λ n. Q n x.number) under all.0)
-  | inr other ↦ entry_holds Q e b xs all.1 (rw other at there)
-]
-
 -- what holds for all entities of these numbers
-pub entity_holds : (Q : ℕ → Type 0) (f : ℕ) (entities : List EntityId) → AllByRecursion (λ (entity : EntityId). Q entity.0) entities → among f (numbers_of entities) ≡ true → Q f
+entity_holds : (Q : ℕ → Type 0) (f : ℕ) (entities : List EntityId) → AllByRecursion (λ (entity : EntityId). Q entity.0) entities → among f (numbers_of entities) ≡ true → Q f
 entity_holds Q f [] all there = absurd (cc)
 entity_holds Q f (x ∷ xs) all there = elim (cases_Bool (x.0 == f)) [
   | inl mine ↦ let at : x.0 ≡ f = grind (arith, nat_tests, mine) in subst Q at all.0
@@ -204,11 +190,17 @@ next_gone_of entries rows more entities i d within fewer own gone =
     ((λ a under. under_holds (λ e b. is_linked more e b ≡ false) (get_or entities i d).0 a entries own under), tt))
 
 -- the attachments of entities are gone where those with entries are
-pub gone_below : (e a : ℕ) (old new : List Link) (entries : List Entry) → IsIndexed old entries → ((f b : ℕ) → is_linked old f b ≡ false → is_linked new f b ≡ false) → (has_under entries e a ≡ true → is_linked new e a ≡ false) → is_linked new e a ≡ false
+gone_below : (e a : ℕ) (old new : List Link) (entries : List Entry) → IsIndexed old entries → ((f b : ℕ) → is_linked old f b ≡ false → is_linked new f b ≡ false) → (has_under entries e a ≡ true → is_linked new e a ≡ false) → is_linked new e a ≡ false
 gone_below e a old new entries indexed fewer gone = elim (cases_Bool (has_under entries e a)) [
   | inl under ↦ gone under
   | inr none ↦ fewer e a (sym (indexed e a) ∙ none)
 ]
+
+-- the attachments of entities of these numbers are gone
+pub gone_among : (numbers : List ℕ) (entities : List EntityId) (old new : List Link) (entries : List Entry) → numbers_of entities ≡ numbers → IsIndexed old entries
+    → ((f b : ℕ) → is_linked old f b ≡ false → is_linked new f b ≡ false) → AllByRecursion (IsGoneOf entries new) entities → (e a : ℕ) → among e numbers ≡ true → is_linked new e a ≡ false
+gone_among numbers entities old new entries are indexed fewer gone e a there =
+    gone_below e a old new entries indexed fewer (λ under. entity_holds (λ f. IsGoneOf entries new (record { 0 = f })) e entities gone (ap (among e) are ∙ there) a under)
 
 -- whether an attachment is there, by the key of its entry
 pub linked_by_key : (links : List Link) (entries : List Entry) → IsIndexed links entries → (e a : ℕ) → list_any (λ entry. is_key (entry_key entry) (pair_key e a)) entries ≡ is_linked links e a

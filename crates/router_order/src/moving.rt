@@ -4,10 +4,9 @@ ghost use Rattle.std.specs.List.{AllByRecursion, list_any};
 ghost use Rattle.slee_state.specs.declared.rows.Entity.{Entity};
 ghost use Rattle.slee_state.specs.Contexts.{is_linked};
 ghost use Rattle.slee_state.specs.Orders.{put, same_pair};
-ghost use Rattle.slee_state.specs.Trees.{tree_of};
 ghost use Rattle.entity_tree.specs.Kept.{is_entity};
 ghost use Rattle.router_order.specs.Listed.{IsListing, listed_before};
-ghost use Rattle.router_order.specs.Placed.{attachments, IsIndexed};
+ghost use Rattle.router_order.specs.Placed.{attachments};
 ghost use Rattle.router_order.specs.Taken.{IsTaken};
 
 use crate::cutting::{cut_link, rank_of};
@@ -19,7 +18,6 @@ use leaf_rows::{Leaves, Run};
 use row_index::Entry;
 use slee_state::Link;
 use slee_value::{ActivityId, EntityId};
-use std::alloc::Global;
 
 /// The attachment goes behind those that were taken, if it is there.
 fn take_one(rows: &mut Leaves<Placed>, taken: &mut Vec<Link>, link: Link)
@@ -61,7 +59,7 @@ fn take_each(rows: &mut Leaves<Placed>, taken: &mut Vec<Link>, entries: Run<'_, 
 }
 
 /// The attachments of these entities go behind those that were taken.
-fn take_of(
+pub fn take_of(
     rows: &mut Leaves<Placed>,
     taken: &mut Vec<Link>,
     entries: &Leaves<Entry>,
@@ -78,32 +76,6 @@ fn take_of(
 {
     'entities: for entity in entities {
         take_each(rows, taken, entries.rows_of(entity.0));
-    }
-}
-
-/// The attachments of the entity and of those below it go behind those that were taken; where there is no memory to find these, all attachments go.
-pub fn take_below(
-    tree: &Tree,
-    rows: &mut Leaves<Placed>,
-    taken: &mut Vec<Link>,
-    entries: &Leaves<Entry>,
-    entity: EntityId,
-    alloc: Global,
-)
-    requires listing { (entities : List Entity) × IsListing entities (attachments rows.old.rows) }
-    requires top { IsTrue (is_entity tree.now.rows entity.0) }
-    requires indexed { IsIndexed (attachments rows.old.rows) entries.now.rows }
-    requires memory { vec_len taken.old + length rows.old.rows ≤ vec_capacity taken.old }
-    ensures taken { IsTaken (attachments rows.old.rows) (attachments rows.new.rows) taken.old.items taken.new.items }
-    ensures gone { (e a : ℕ) → list_any (λ number. number == e) (tree_of tree.now.rows entity.0) ≡ true → is_linked (attachments rows.new.rows) e a ≡ false }
-    ensures memory { vec_len taken.new + length rows.new.rows ≤ vec_len taken.old + length rows.old.rows }
-    ensures capacity { vec_capacity taken.old ≤ vec_capacity taken.new }
-    ensures room { rows.old.room + vec_len taken.new ≤ rows.new.room + vec_len taken.old }
-    ensures whole { rows.new.room + length rows.new.rows ≡ rows.old.room + length rows.old.rows }
-{
-    match tree.removal(alloc, entity) {
-        Ok(entities) => take_of(rows, taken, entries, &entities),
-        Err(_) => take_each(rows, taken, entries.iter()),
     }
 }
 

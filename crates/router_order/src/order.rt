@@ -14,7 +14,7 @@ ghost use Rattle.router_order.specs.Listed.{Agrees, IsListing, listed_before};
 
 use crate::cutting::{cut_entries, cut_link, cut_links_on};
 use crate::inserting::insert_link;
-use crate::moving::{put_each, take_below};
+use crate::moving::{put_each, take_of};
 use crate::placed::Placed;
 use crate::ready::first_ready;
 use crate::wants::Wants;
@@ -34,7 +34,6 @@ pub struct Order {
     entries: Leaves<Entry>,
     spare: Vec<Link>,
     taken: Vec<Link>,
-    alloc: Global,
 }
 
 impl Model for Order {
@@ -60,7 +59,6 @@ impl Order {
             entries: Leaves::new(alloc),
             spare: Vec::new(alloc),
             taken: Vec::new(alloc),
-            alloc,
         }
     }
 
@@ -131,7 +129,7 @@ impl Order {
         cut_links_on(&mut self.rows, activity);
     }
 
-    /// The entity has this priority, in the tree too. The attachments of the entity and of those below it are taken out and put in again; where there is no memory to find these, all attachments are.
+    /// The entity has this priority, in the tree too. The attachments of the entity and of those below it are taken out and put in again. It takes no memory, and costs by these attachments and by the entity's tree.
     pub fn set_priority(&mut self, tree: &mut Tree, entity: EntityId, priority: i8)
         requires { IsListing tree.old.rows self.old.rows }
         ensures entities { tree.new.rows ≡ with_priority tree.old.rows entity.0 priority }
@@ -145,13 +143,11 @@ impl Order {
         tree.ordered();
         match tree.find(entity) {
             Some(_) => {
-                take_below(
-                    tree,
+                take_of(
                     &mut self.rows,
                     &mut self.taken,
                     &self.entries,
-                    entity,
-                    self.alloc,
+                    tree.members(entity),
                 );
                 put_each(tree, &mut self.rows, &mut self.spare, &self.taken);
                 self.taken.clear();

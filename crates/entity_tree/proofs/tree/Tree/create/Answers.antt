@@ -12,10 +12,13 @@ add-requires-clause-parent c = stem_is_drawn c.self.inside.next c.args.stem c.se
 
 pub invariant_of-self : goal.invariant_of-self
 invariant_of-self c =
+    let room = rw (← c.self.view_is) at c.requires.room in
     let parent = stem_is_drawn c.self.inside.next c.args.stem c.self.inside.rows.rows c.self.invariant.0 (rw (← c.self.view_is) at c.requires.parent) in (
       added_keeps c.self.inside.next (c.self.inside.next + 1) _ c.self.inside.rows.rows c.add.new.rows.rows c.self.invariant.0 (omega arith) (omega arith) parent c.add.ensures.rows,
       c.add.ensures.index,
       c.add.ensures.depths (next_is_childless c.self.inside.next c.self.inside.rows.rows c.self.invariant.0),
+      omega (arith, room, c.add.ensures.room, c.add.ensures.whole, c.self.invariant.3),
+      omega (arith, room, c.add.ensures.room, c.add.ensures.whole, c.self.invariant.4),
     )
 
 pub returns-clause-rows : goal.returns-clause-rows
