@@ -8,7 +8,7 @@ Instructions are counted by valgrind, of so many rounds less of a run that only 
 else it does. The ratio from the first to the last is to be at most 2.5; a line above it is marked. Times are the median of five
 runs, over as many rounds as take a tenth of a second; a busy machine tells them wrong, and with 100,000 rows they show also that
 the rows no longer fit into the processor's caches, as the calls go from row to row in no order.
-Build the program first: cd crates/store_bench && rt run -- fields get 10 20
+Build the programs first: cd crates/store_bench && rt run -- fields at 10 20, and cd crates/order_bench && rt run -- order next 10 20
 """
 import argparse
 import functools
@@ -21,7 +21,7 @@ import tempfile
 from concurrent.futures import ThreadPoolExecutor, wait
 
 HERE = os.path.dirname(os.path.abspath(__file__))
-PROGRAM = os.path.join(HERE, "..", "crates", "store_bench", "out", "store_bench")
+CRATES = os.path.join(HERE, "..", "crates")
 ROWS = (10, 1_000, 100_000)
 RUNS = 5
 MOST_RATIO = 2.5
@@ -29,10 +29,15 @@ LEAST_SECONDS = 0.1
 MOST_ROUNDS = 4_000_000
 COUNTED_ROUNDS = 2_000
 # calls over rows of their own
-OWN_ROWS = (("timers", "repeat"), ("timers", "repeat_middle"))
+OWN_ROWS = (("timers", "repeat"), ("timers", "repeat_middle"), ("order", "next_of_many"))
 # calls that may look at all rows are counted over fewer rounds
 FEW_ROUNDS = 20
-LONG_CALLS = (("profiles", "test_add_duplicate"), ("profiles", "test_update_duplicate"))
+LONG_CALLS = (
+    ("profiles", "test_add_duplicate"),
+    ("profiles", "test_update_duplicate"),
+    ("order", "attach_to_many"),
+    ("order", "set_priority_of_many"),
+)
 # the stores and their calls
 CALLS = {
     "fields": (
@@ -62,6 +67,7 @@ CALLS = {
         "suspended_until",
         "services_done",
         "delivered",
+        "suspensions",
         "pop",
         "pop_middle",
         "mark_middle",
@@ -125,7 +131,27 @@ CALLS = {
         "update_middle",
         "update_same",
     ),
+    "order": (
+        "next",
+        "next_of_many",
+        "next_for_service",
+        "next_delivered",
+        "next_masked",
+        "attach",
+        "attach_to_many",
+        "forget_activity",
+        "set_priority",
+        "set_priority_of_many",
+        "set_priority_of_root",
+    ),
 }
+# the programs that call them
+PROGRAMS = dict.fromkeys(CALLS, "store_bench") | {"order": "order_bench"}
+
+
+def program_of(store):
+    """The program that calls the store, as it is built."""
+    return os.path.join(CRATES, PROGRAMS[store], "out", PROGRAMS[store])
 
 
 def failed(store, call, rows, rounds, said):
@@ -135,7 +161,7 @@ def failed(store, call, rows, rounds, said):
 def instructions_of(store, call, rows, rounds):
     """How many instructions a run takes."""
     counted = ["valgrind", "--tool=cachegrind", "--cache-sim=no", "--cachegrind-out-file=/dev/null"]
-    words = counted + [PROGRAM, store, call, str(rows), str(rounds)]
+    words = counted + [program_of(store), store, call, str(rows), str(rounds)]
     ran = subprocess.run(words, capture_output=True, text=True, errors="replace", check=False)
     found = re.search(r"I\s+refs:\s+([\d,]+)", ran.stderr)
     if ran.returncode or not found:
@@ -161,7 +187,7 @@ def instructions(store, call, rows):
 def seconds_of(store, call, rows, rounds):
     """The processor's seconds of one run."""
     with tempfile.TemporaryFile() as out:
-        child = subprocess.Popen([PROGRAM, store, call, str(rows), str(rounds)], stdout=out, stderr=out)
+        child = subprocess.Popen([program_of(store), store, call, str(rows), str(rounds)], stdout=out, stderr=out)
         _, status, usage = os.wait4(child.pid, 0)
         child.returncode = os.waitstatus_to_exitcode(status)
         if child.returncode != 0:
@@ -191,8 +217,9 @@ def main():
     words.add_argument("--jobs", type=int, default=os.cpu_count())
     given = words.parse_args()
     stores = given.stores or list(CALLS)
-    if not os.path.exists(PROGRAM):
-        sys.exit("build it first: cd crates/store_bench && rt run -- fields get 10 20")
+    for store in stores:
+        if not os.path.exists(program_of(store)):
+            sys.exit(f"build it first: cd crates/{PROGRAMS[store]} && rt run -- {store} {CALLS[store][0]} 10 20")
     calls = [(store, call) for store in stores for call in CALLS[store]]
     cost, unit = (nanoseconds, "ns") if given.time else (instructions, "instructions")
     print(f"{'call':<32}" + "".join(f"{rows:>11,}" for rows in ROWS) + f"{'ratio':>8}   {unit} a round")

@@ -14,6 +14,9 @@ const SERVICE: u32 = 3;
 // The moment until which events are suspended.
 const UNTIL: u64 = 500;
 
+// So many first suspensions are looked at.
+const FIRST_HELD: u64 = 3;
+
 fn put_event(
     alloc: Global,
     queues: &mut Queues,
@@ -94,6 +97,14 @@ fn is_at(queues: &Queues, place: u64) -> bool {
     place < queues.len() && queues.at(place).activity.0 <= place
 }
 
+/// Whether the suspension of this place lasts until the moment.
+fn is_held_at(queues: &Queues, place: u64) -> bool {
+    match queues.suspensions().get(place as usize) {
+        Some(held) => held.until == UNTIL,
+        None => false,
+    }
+}
+
 fn on(all: u64, round: u64) -> ActivityId {
     ActivityId(one_of(all, round))
 }
@@ -119,7 +130,7 @@ fn read(asked: &Asked<'_>, queues: &Queues, all: u64) -> Option<u64> {
             |round| queues.services_done(on(all, round)).len() == 1,
         ),
         "delivered" => count(rounds, |round| queues.delivered(on(all, round)).len() == 1),
-        "suspensions" => count(rounds, |_| queues.suspensions().next().is_some()),
+        "suspensions" => count(rounds, |round| is_held_at(queues, round % FIRST_HELD)),
         _ => return None,
     };
     Some(sum)
