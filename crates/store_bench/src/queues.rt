@@ -71,10 +71,11 @@ fn pop_new(alloc: Global, queues: &mut Queues, activity: u64) -> Result<u64, NoM
     Ok(1)
 }
 
-/// The events of the activity go, and come again.
+/// The events of the activity go, the head event with its marks; they come again, and the head event is marked again.
 fn renew(alloc: Global, queues: &mut Queues, activity: u64) -> Result<u64, NoMemory> {
     pop_each(queues, activity);
     put_each(alloc, queues, activity)?;
+    mark(queues, activity)?;
     Ok(1)
 }
 
