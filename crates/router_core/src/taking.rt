@@ -162,6 +162,16 @@ fn fire(
     Ok(())
 }
 
+/// The activity is told as ending.
+fn begin_end(alloc: Global, draft: &mut Draft, activity: ActivityId) -> Result<(), NoMemory>
+    ensures changes { OnOk result (draft.new.changes ≡ draft.old.changes ++ changes.End activity ∷ []) }
+    ensures lines { OnOk result (draft.new.lines ≡ draft.old.lines ++ ending_line activity.0 ∷ []) }
+{
+    draft.change(Change::End { activity })?;
+    draft.tell(&telling::ending(alloc, activity)?)?;
+    Ok(())
+}
+
 /// An activity ends: no event comes behind its end event.
 fn end(
     alloc: Global,
@@ -172,8 +182,7 @@ fn end(
     ensures changes { OnOk result (draft.new.changes ≡ draft.old.changes ++ changes.End activity ∷ changes.Push activity (event_next stores.now.parts activity_end []) ∷ changes.NextEvent ∷ []) }
     ensures lines { OnOk result (draft.new.lines ≡ draft.old.lines ++ ending_line activity.0 ∷ queued_line stores.now.parts.next_event activity_end activity.0 ∷ []) }
 {
-    draft.change(Change::End { activity })?;
-    draft.tell(&telling::ending(alloc, activity)?)?;
+    begin_end(alloc, draft, activity)?;
     let event = BuiltInEvent::ActivityEnd.name();
     fire(alloc, stores, draft, activity, event, Payload::new(alloc))?;
     Ok(())
