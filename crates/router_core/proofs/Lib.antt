@@ -1,12 +1,9 @@
 pub mod FirstLemmas
 pub mod StateLemmas
-pub mod TextLemmas
 pub mod BuiltInLemmas
 pub mod TakingLemmas
 pub mod FrontLemmas
 pub mod DraftingLemmas
 pub mod ClosingLemmas
 pub mod KeepingLemmas
-pub mod ShowLemmas
-pub mod InputLemmas
 pub mod MeasureLemmas

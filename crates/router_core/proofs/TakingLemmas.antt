@@ -1,5 +1,5 @@
 -- The drafts of lines.
-use Rattle.std.proofs.Common.{◌≡◌, ℕ, true, List, [], ◌∷◌, refl, sym, ◌∙◌, ap, subst, codes, is_some, is_none, Option, Some, None, inl, inr, Result, Ok, Err, IfOk}
+use Rattle.std.proofs.Common.{◌≡◌, ℕ, true, List, [], ◌∷◌, ◌++◌, append_assoc, refl, sym, ◌∙◌, ap, subst, codes, is_some, is_none, Option, Some, None, inl, inr, Result, Ok, Err, IfOk}
 use Rattle.std.proofs.lemmas.Bool.{cases_Bool, and_parts}
 use Rattle.slee_value.specs.declared.value.Value.{Value}
 use Rattle.slee_value.specs.declared.ids.ActivityId.{ActivityId}
@@ -18,6 +18,13 @@ use Rattle.router_rules.specs.BuiltIn.{activity_end, fields_given, is_event}
 use Rattle.router_rules.specs.Lines.{input_heading, refused_line, started_line, ending_line, queued_line}
 use Rattle.router_rules.specs.Taking.{refusal, after_taking, lines_of_taking, number_named, fields_of, unfit, unfit_event, is_routed, is_input}
 use Rattle.router_core.specs.Plans.{DraftView, IsDraftOf, AllFit, event_next}
+
+-- the end event waits behind the line of what ends
+pub end_told : (old begun told : List (List ℕ)) (event line : List ℕ) (n a : ℕ) → event ≡ activity_end → begun ≡ old ++ line ∷ [] → told ≡ begun ++ queued_line n event a ∷ []
+    → told ≡ old ++ line ∷ queued_line n activity_end a ∷ []
+end_told old begun told event line n a is first last =
+    last ∙ ap (λ lines. lines ++ queued_line n event a ∷ []) first ∙ append_assoc old (line ∷ []) (queued_line n event a ∷ [])
+    ∙ ap (λ name. old ++ line ∷ queued_line n name a ∷ []) is
 
 -- an input is a signal, of a form that is taken
 pub input_signal : (signal : Signal) → is_input signal ≡ true → is_signal signal ≡ true

@@ -1,3 +1,3 @@
 pub mod Plans
-pub mod Reading
+pub use Rattle.choice_reading.specs.Reading
 pub mod Lent

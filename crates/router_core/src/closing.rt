@@ -6,10 +6,11 @@ ghost use Rattle.router_rules.specs.Step.{is_choice, is_enabled};
 ghost use Rattle.router_rules.specs.Well.{IsWell};
 ghost use Rattle.router_core.specs.Plans.{IsDraftOf, IsClosedDraftOf, bound_to, alone, removal, activity_ended};
 
+use crate::built_in;
 use crate::draft::Draft;
-use crate::{built_in, telling};
 use router_model::Change;
 use router_stores::Stores;
+use router_text::telling;
 use slee_value::{ActivityId, EntityId, NoMemory};
 use std::alloc::Global;
 use trace_history::Choice;

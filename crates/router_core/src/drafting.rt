@@ -8,6 +8,7 @@ ghost use Rattle.router_core.specs.Plans.{IsDraftOf, heading_taken};
 use crate::draft::Draft;
 use crate::{choosing, fronts, taking};
 use router_stores::Stores;
+use router_text::telling;
 use slee_value::{ActivityId, NoMemory, Text};
 use std::alloc::Global;
 use trace_history::Choice;
@@ -47,6 +48,25 @@ fn finish(alloc: Global, stores: &Stores, activity: ActivityId) -> Result<Draft,
     match stores.front(activity) {
         None => Ok(Draft::new(alloc)),
         Some(event) => fronts::finished(alloc, activity, event),
+    }
+}
+
+fn no_text(alloc: Global) -> Result<Text, NoMemory>
+    ensures { IfOk result (λ text. text ≡ []) }
+{
+    Ok(Text::from(String::new(alloc)))
+}
+
+/// The heading of a line that is taken; of another choice no text.
+pub fn heading(alloc: Global, choice: &Choice) -> Result<Text, NoMemory>
+    requires { IsTrue (is_choice choice.now) }
+    ensures { IfOk result (λ line. line ≡ heading_taken choice.now) }
+{
+    match choice {
+        Choice::Input(signal) => telling::input(alloc, signal),
+        Choice::Initial(_) => no_text(alloc),
+        Choice::Deliver(_) => no_text(alloc),
+        Choice::Finish(_) => no_text(alloc),
     }
 }
 

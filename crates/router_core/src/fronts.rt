@@ -6,16 +6,17 @@ ghost use Rattle.router_model.specs.Roots.{root_selected};
 ghost use Rattle.router_model.specs.declared.change.Change.TheVariants as changes;
 ghost use Rattle.router_rules.specs.BuiltIn.{activity_end, emitted, service_priority, root_block};
 ghost use Rattle.router_rules.specs.Delivery.{lines_of_attached, lines_of_finished};
-ghost use Rattle.router_rules.specs.Lines.{initial_heading, deliver_heading, say_line};
+ghost use Rattle.router_rules.specs.Lines.{initial_heading, deliver_heading, say_line, gone_line};
 ghost use Rattle.router_rules.specs.Selection.{selection, due_service, first};
 ghost use Rattle.router_rules.specs.Well.{IsWell};
 ghost use Rattle.trace_history.specs.declared.choice.Choice.TheVariants as choices;
 ghost use Rattle.router_core.specs.Plans.{IsDraftOf, finish_changes};
 
+use crate::built_in;
 use crate::draft::Draft;
-use crate::{built_in, telling};
 use router_model::{Change, Event};
 use router_stores::Stores;
+use router_text::telling;
 use slee_value::{ActivityId, ConvName, EntityId, EventId, NoMemory, Text};
 use std::alloc::Global;
 
@@ -48,6 +49,39 @@ fn tell_attached(
     Ok(())
 }
 
+fn attach(
+    alloc: Global,
+    stores: &Stores,
+    draft: &mut Draft,
+    entity: EntityId,
+    activity: ActivityId,
+) -> Result<(), NoMemory>
+    ensures changes { OnOk result (draft.new.changes ≡ draft.old.changes ++ changes.Attach entity activity ∷ []) }
+    ensures lines { OnOk result (draft.new.lines ≡ draft.old.lines ++ lines_of_attached stores.now.parts entity.0 activity.0) }
+{
+    draft.change(Change::Attach { entity, activity })?;
+    tell_attached(alloc, stores, draft, entity, activity)?;
+    Ok(())
+}
+
+/// The service is done for the event, with a root that is new, or an old one.
+fn begin_selection(
+    alloc: Global,
+    activity: ActivityId,
+    event: EventId,
+    root: EntityId,
+    how: &str,
+) -> Result<Draft, NoMemory>
+    ensures changes { IfOk result (λ d. d.changes ≡ changes.MarkService activity 0 ∷ []) }
+    ensures lines { IfOk result (λ d. d.lines ≡ initial_heading activity.0 event.0 (codes "prepaid") root.0 how.now ∷ []) }
+{
+    let heading = telling::initial(alloc, activity, event, root, how)?;
+    let mut draft = Draft::begun(alloc, &heading)?;
+    let service = built_in::PREPAID;
+    draft.change(Change::MarkService { activity, service })?;
+    Ok(draft)
+}
+
 /// The root is there already.
 fn selected_old(
     alloc: Global,
@@ -59,14 +93,23 @@ fn selected_old(
     ensures changes { IfOk result (λ d. d.changes ≡ changes.MarkService activity 0 ∷ changes.Attach root activity ∷ []) }
     ensures lines { IfOk result (λ d. d.lines ≡ initial_heading activity.0 event.0 (codes "prepaid") root.0 (codes "old") ∷ lines_of_attached stores.now.parts root.0 activity.0) }
 {
-    let heading = telling::initial_old(alloc, activity, event, root)?;
-    let mut draft = Draft::begun(alloc, &heading)?;
-    let service = built_in::PREPAID;
-    draft.change(Change::MarkService { activity, service })?;
-    let entity = root;
-    draft.change(Change::Attach { entity, activity })?;
-    tell_attached(alloc, stores, &mut draft, root, activity)?;
+    let mut draft = begin_selection(alloc, activity, event, root, "old")?;
+    attach(alloc, stores, &mut draft, root, activity)?;
     Ok(draft)
+}
+
+/// A root of the service is made, and gets its name.
+fn create_root(draft: &mut Draft, entity: EntityId, name: ConvName) -> Result<(), NoMemory>
+    ensures changes { OnOk result (draft.new.changes ≡ draft.old.changes ++ changes.CreateRoot (root_block 0) 0 (service_priority 0) ∷ changes.Root entity name ∷ []) }
+    ensures lines { OnOk result (draft.new.lines ≡ draft.old.lines) }
+{
+    draft.change(Change::CreateRoot {
+        block: 0,
+        service: built_in::PREPAID,
+        priority: 0,
+    })?;
+    draft.change(Change::Root { entity, name })?;
+    Ok(())
 }
 
 /// The root is made.
@@ -80,19 +123,9 @@ fn selected_new(
     ensures lines { IfOk result (λ d. d.lines ≡ initial_heading activity.0 event.0 (codes "prepaid") stores.now.parts.next_entity (codes "new") ∷ lines_of_attached stores.now.parts stores.now.parts.next_entity activity.0) }
 {
     let entity = stores.next_entity();
-    let heading = telling::initial_new(alloc, activity, event, entity)?;
-    let mut draft = Draft::begun(alloc, &heading)?;
-    let service = built_in::PREPAID;
-    draft.change(Change::MarkService { activity, service })?;
-    draft.change(Change::CreateRoot {
-        block: 0,
-        service,
-        priority: 0,
-    })?;
-    let name = selection(activity);
-    draft.change(Change::Root { entity, name })?;
-    draft.change(Change::Attach { entity, activity })?;
-    tell_attached(alloc, stores, &mut draft, entity, activity)?;
+    let mut draft = begin_selection(alloc, activity, event, entity, "new")?;
+    create_root(&mut draft, entity, selection(activity))?;
+    attach(alloc, stores, &mut draft, entity, activity)?;
     Ok(draft)
 }
 
@@ -114,6 +147,22 @@ pub fn selected(
     }
 }
 
+/// The entity has received the event, and says this.
+fn receive(
+    alloc: Global,
+    draft: &mut Draft,
+    activity: ActivityId,
+    entity: EntityId,
+    said: &Text,
+) -> Result<(), NoMemory>
+    ensures changes { OnOk result (draft.new.changes ≡ draft.old.changes ++ changes.MarkEntity activity entity ∷ []) }
+    ensures lines { OnOk result (draft.new.lines ≡ draft.old.lines ++ say_line entity.0 said.now ∷ []) }
+{
+    draft.change(Change::MarkEntity { activity, entity })?;
+    draft.tell(&telling::said(alloc, entity, said)?)?;
+    Ok(())
+}
+
 fn delivered_to(
     alloc: Global,
     activity: ActivityId,
@@ -126,8 +175,7 @@ fn delivered_to(
 {
     let heading = telling::deliver(alloc, activity, event.id, entity)?;
     let mut draft = Draft::begun(alloc, &heading)?;
-    draft.change(Change::MarkEntity { activity, entity })?;
-    draft.tell(&telling::said(alloc, entity, said)?)?;
+    receive(alloc, &mut draft, activity, entity, said)?;
     Ok(draft)
 }
 
@@ -147,6 +195,16 @@ pub fn delivered(
     delivered_to(alloc, activity, event, entity, &said)
 }
 
+/// The activity is gone.
+fn drop_activity(alloc: Global, draft: &mut Draft, activity: ActivityId) -> Result<(), NoMemory>
+    ensures changes { OnOk result (draft.new.changes ≡ draft.old.changes ++ changes.DropContext activity ∷ []) }
+    ensures lines { OnOk result (draft.new.lines ≡ draft.old.lines ++ gone_line activity.0 ∷ []) }
+{
+    draft.change(Change::DropContext { activity })?;
+    draft.tell(&telling::gone(alloc, activity)?)?;
+    Ok(())
+}
+
 /// What the finish of the front event does before closing.
 pub fn finished(alloc: Global, activity: ActivityId, event: &Event) -> Result<Draft, NoMemory>
     ensures changes { IfOk result (λ d. d.changes ≡ finish_changes activity event.now) }
@@ -156,8 +214,7 @@ pub fn finished(alloc: Global, activity: ActivityId, event: &Event) -> Result<Dr
     let mut draft = Draft::begun(alloc, &heading)?;
     draft.change(Change::Pop { activity })?;
     if built_in::is_end(event.name.as_str()) {
-        draft.change(Change::DropContext { activity })?;
-        draft.tell(&telling::gone(alloc, activity)?)?;
+        drop_activity(alloc, &mut draft, activity)?;
     }
     Ok(draft)
 }

@@ -13,10 +13,11 @@ ghost use Rattle.router_rules.specs.declared.limits.TheConstants.{PAYLOAD_LIMIT}
 ghost use Rattle.router_core.specs.Plans.{AllFit, IsPlanOf, HasRoomFor};
 ghost use Rattle.router_core.specs.Lent.{choice_of};
 
-use crate::{ChoiceRef, Plan, choosing, closing, drafting, keeping, measuring, showing, telling};
+use crate::{ChoiceRef, Plan, choosing, closing, drafting, keeping, measuring};
 use router_model::{Change, Entity, Event, Queued};
 use router_rules::Kindred;
 use router_stores::Stores;
+use router_text::show_text;
 use slee_value::{ActivityId, NoMemory};
 use std::alloc::Global;
 use std::marker::Model;
@@ -106,7 +107,7 @@ impl State {
         ensures made { IfOk result (λ plan. IsPlanOf self.now.parts choice plan) }
         ensures short { IfOk result (λ plan. length plan.payload ≤ PAYLOAD_LIMIT) }
     {
-        let heading = telling::heading(alloc, &choice)?;
+        let heading = drafting::heading(alloc, &choice)?;
         let mut draft = drafting::draft(alloc, &self.stores, &heading, &choice)?;
         closing::close(alloc, &self.stores, &choice, &mut draft)?;
         let payload = keeping::payload(alloc, &self.stores, &heading, &choice)?;
@@ -119,7 +120,7 @@ impl State {
         ensures ok { OnOk result (into.new.items ≡ into.old.items ++ show_text self.now.parts) }
         ensures err { OnErr result (into.new.items ≡ into.old.items) }
     {
-        let text = showing::show_text(alloc, &self.stores)?;
+        let text = show_text(alloc, &self.stores)?;
         into.extend_from_slice(&text)?;
         Ok(())
     }

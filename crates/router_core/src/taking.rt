@@ -1,5 +1,5 @@
 //! A line is taken: the first refusal that stands, or what the line says.
-ghost use Rattle.std.specs.Prelude.{◌≡◌, ◌∷◌, [], IsTrue, IfOk, None, Some, option_copied, is_some};
+ghost use Rattle.std.specs.Prelude.{◌≡◌, ◌∷◌, ◌++◌, [], IsTrue, IfOk, OnOk, None, Some, option_copied, is_some};
 ghost use Rattle.signal_script.specs.Signals.{spelled};
 ghost use Rattle.slee_value.specs.declared.value.Value.{Value as TypedValue};
 ghost use Rattle.router_model.specs.Activities.{external};
@@ -12,11 +12,12 @@ ghost use Rattle.router_rules.specs.Taking.{unfit, unfit_event, refusal, number_
 ghost use Rattle.trace_history.specs.declared.choice.Choice.TheVariants as choices;
 ghost use Rattle.router_core.specs.Plans.{IsDraftOf, event_next};
 
+use crate::built_in;
 use crate::draft::Draft;
-use crate::{built_in, telling};
 use built_in_events::BuiltInEvent;
 use router_model::{AcKind, Activity, Change, Event};
 use router_stores::Stores;
+use router_text::telling;
 use signal_script::{Fields, Signal, Word};
 use slee_value::{ActivityId, Name, NoMemory, Payload, Text};
 use std::alloc::Global;
@@ -82,25 +83,42 @@ fn number_named(stores: &Stores, name: &Name) -> ActivityId
     }
 }
 
+/// A line is taken: its heading is told, and it is counted.
+fn take_line(alloc: Global, heading: &Text) -> Result<Draft, NoMemory>
+    ensures changes { IfOk result (λ d. d.changes ≡ changes.Taken ∷ []) }
+    ensures lines { IfOk result (λ d. d.lines ≡ heading.now ∷ []) }
+{
+    let mut draft = Draft::begun(alloc, heading)?;
+    draft.change(Change::Taken)?;
+    Ok(draft)
+}
+
 fn refused(alloc: Global, heading: &Text, why: &str) -> Result<Draft, NoMemory>
     ensures changes { IfOk result (λ d. d.changes ≡ changes.Taken ∷ []) }
     ensures lines { IfOk result (λ d. d.lines ≡ heading.now ∷ refused_line why.now ∷ []) }
 {
-    let mut draft = Draft::begun(alloc, heading)?;
-    draft.change(Change::Taken)?;
+    let mut draft = take_line(alloc, heading)?;
     draft.tell(&telling::refused(alloc, why)?)?;
     Ok(draft)
+}
+
+/// An activity of this name starts.
+fn start(alloc: Global, stores: &Stores, draft: &mut Draft, name: &Name) -> Result<(), NoMemory>
+    ensures changes { OnOk result (draft.new.changes ≡ draft.old.changes ++ changes.Start (kinds.External name.now) ∷ []) }
+    ensures lines { OnOk result (draft.new.lines ≡ draft.old.lines ++ started_line stores.now.parts.next_activity name.now ∷ []) }
+{
+    let kind = AcKind::External(name.copy(alloc)?);
+    draft.change(Change::Start { kind })?;
+    draft.tell(&telling::started(alloc, stores.next_activity(), name)?)?;
+    Ok(())
 }
 
 fn started(alloc: Global, stores: &Stores, heading: &Text, name: &Name) -> Result<Draft, NoMemory>
     ensures changes { IfOk result (λ d. d.changes ≡ changes.Taken ∷ changes.Start (kinds.External name.now) ∷ []) }
     ensures lines { IfOk result (λ d. d.lines ≡ heading.now ∷ started_line stores.now.parts.next_activity name.now ∷ []) }
 {
-    let mut draft = Draft::begun(alloc, heading)?;
-    draft.change(Change::Taken)?;
-    let kind = AcKind::External(name.copy(alloc)?);
-    draft.change(Change::Start { kind })?;
-    draft.tell(&telling::started(alloc, stores.next_activity(), name)?)?;
+    let mut draft = take_line(alloc, heading)?;
+    start(alloc, stores, &mut draft, name)?;
     Ok(draft)
 }
 
@@ -116,6 +134,60 @@ fn next_event(stores: &Stores, name: Text, fields: Payload) -> Event
     }
 }
 
+/// An event waits on the activity.
+fn push(draft: &mut Draft, activity: ActivityId, event: Event) -> Result<(), NoMemory>
+    ensures changes { OnOk result (draft.new.changes ≡ draft.old.changes ++ changes.Push activity event ∷ changes.NextEvent ∷ []) }
+    ensures lines { OnOk result (draft.new.lines ≡ draft.old.lines) }
+{
+    draft.change(Change::Push { activity, event })?;
+    draft.change(Change::NextEvent)?;
+    Ok(())
+}
+
+/// An event of this name is fired on the activity.
+fn fire(
+    alloc: Global,
+    stores: &Stores,
+    draft: &mut Draft,
+    activity: ActivityId,
+    event: &str,
+    fields: Payload,
+) -> Result<(), NoMemory>
+    ensures changes { OnOk result (draft.new.changes ≡ draft.old.changes ++ changes.Push activity (event_next stores.now.parts event.now fields) ∷ changes.NextEvent ∷ []) }
+    ensures lines { OnOk result (draft.new.lines ≡ draft.old.lines ++ queued_line stores.now.parts.next_event event.now activity.0 ∷ []) }
+{
+    let name = Text::from_str(alloc, event)?;
+    push(draft, activity, next_event(stores, name, fields))?;
+    draft.tell(&telling::queued(alloc, stores.next_event(), event, activity)?)?;
+    Ok(())
+}
+
+/// The activity is told as ending.
+fn begin_end(alloc: Global, draft: &mut Draft, activity: ActivityId) -> Result<(), NoMemory>
+    ensures changes { OnOk result (draft.new.changes ≡ draft.old.changes ++ changes.End activity ∷ []) }
+    ensures lines { OnOk result (draft.new.lines ≡ draft.old.lines ++ ending_line activity.0 ∷ []) }
+{
+    draft.change(Change::End { activity })?;
+    draft.tell(&telling::ending(alloc, activity)?)?;
+    Ok(())
+}
+
+/// An activity ends: no event comes behind its end event.
+fn end(
+    alloc: Global,
+    stores: &Stores,
+    draft: &mut Draft,
+    activity: ActivityId,
+) -> Result<(), NoMemory>
+    ensures changes { OnOk result (draft.new.changes ≡ draft.old.changes ++ changes.End activity ∷ changes.Push activity (event_next stores.now.parts activity_end []) ∷ changes.NextEvent ∷ []) }
+    ensures lines { OnOk result (draft.new.lines ≡ draft.old.lines ++ ending_line activity.0 ∷ queued_line stores.now.parts.next_event activity_end activity.0 ∷ []) }
+{
+    begin_end(alloc, draft, activity)?;
+    let event = BuiltInEvent::ActivityEnd.name();
+    fire(alloc, stores, draft, activity, event, Payload::new(alloc))?;
+    Ok(())
+}
+
 fn ended(
     alloc: Global,
     stores: &Stores,
@@ -125,16 +197,8 @@ fn ended(
     ensures changes { IfOk result (λ d. d.changes ≡ changes.Taken ∷ changes.End activity ∷ changes.Push activity (event_next stores.now.parts activity_end []) ∷ changes.NextEvent ∷ []) }
     ensures lines { IfOk result (λ d. d.lines ≡ heading.now ∷ ending_line activity.0 ∷ queued_line stores.now.parts.next_event activity_end activity.0 ∷ []) }
 {
-    let mut draft = Draft::begun(alloc, heading)?;
-    draft.change(Change::Taken)?;
-    draft.change(Change::End { activity })?;
-    let end = BuiltInEvent::ActivityEnd.name();
-    let name = Text::from_str(alloc, end)?;
-    let event = next_event(stores, name, Payload::new(alloc));
-    draft.change(Change::Push { activity, event })?;
-    draft.change(Change::NextEvent)?;
-    draft.tell(&telling::ending(alloc, activity)?)?;
-    draft.tell(&telling::queued(alloc, stores.next_event(), end, activity)?)?;
+    let mut draft = take_line(alloc, heading)?;
+    end(alloc, stores, &mut draft, activity)?;
     Ok(draft)
 }
 
@@ -149,13 +213,8 @@ fn fired(
     ensures changes { IfOk result (λ d. d.changes ≡ changes.Taken ∷ changes.Push activity (event_next stores.now.parts event.now fields) ∷ changes.NextEvent ∷ []) }
     ensures lines { IfOk result (λ d. d.lines ≡ heading.now ∷ queued_line stores.now.parts.next_event event.now activity.0 ∷ []) }
 {
-    let mut draft = Draft::begun(alloc, heading)?;
-    draft.change(Change::Taken)?;
-    let name = Text::from_str(alloc, event.as_str())?;
-    let event = next_event(stores, name, fields);
-    draft.tell(&telling::queued(alloc, stores.next_event(), event.name.as_str(), activity)?)?;
-    draft.change(Change::Push { activity, event })?;
-    draft.change(Change::NextEvent)?;
+    let mut draft = take_line(alloc, heading)?;
+    fire(alloc, stores, &mut draft, activity, event.as_str(), fields)?;
     Ok(draft)
 }
 

@@ -1,7 +1,7 @@
 use Rattle.std.proofs.Common.{false, List, ℕ, ◌∙◌, ◌++◌, ap}
 use Rattle.slee_value.specs.Escape.{escaped}
-use Rattle.router_core.proofs.TextLemmas.{escaped_is_utf8}
-use Rattle.router_core.proofs.telling.escaped.Goals as goal
+use Rattle.router_text.proofs.TextLemmas.{escaped_is_utf8}
+use Rattle.router_text.proofs.telling.escaped.Goals as goal
 
 pub unwrap-requires : goal.unwrap-requires
 unwrap-requires c =

@@ -2,14 +2,11 @@
 ghost use Rattle.std.specs.Prelude.{◌≡◌, [], false, IsTrue, IfOk, codes, string_bytes};
 ghost use Rattle.signal_script.specs.Signals.{spelled, is_signal};
 ghost use Rattle.slee_value.specs.Escape.{escaped};
-ghost use Rattle.router_rules.specs.Step.{is_choice};
-ghost use Rattle.router_core.specs.Plans.{heading_taken};
 ghost use Rattle.router_rules.specs.Lines.{input_heading, initial_heading, deliver_heading, finish_heading, refused_line, started_line, ending_line, gone_line, queued_line, attached_line, removed_line, say_line};
 
 use signal_script::{Signal, print_signal};
 use slee_value::{ActivityId, EntityId, EventId, Name, NoMemory, Text, escape};
 use std::alloc::Global;
-use trace_history::Choice;
 
 /// How many bytes are made room for where a line begins: most are no longer.
 const LINE_ROOM: usize = 48;
@@ -21,28 +18,9 @@ fn empty_line(alloc: Global) -> Result<String, NoMemory>
     Ok(String::with_capacity(alloc, LINE_ROOM)?)
 }
 
-/// The heading of a line that is taken; of another choice no text.
-pub fn heading(alloc: Global, choice: &Choice) -> Result<Text, NoMemory>
-    requires { IsTrue (is_choice choice.now) }
-    ensures { IfOk result (λ line. line ≡ heading_taken choice.now) }
-{
-    match choice {
-        Choice::Input(signal) => input(alloc, signal),
-        Choice::Initial(_) => none(alloc),
-        Choice::Deliver(_) => none(alloc),
-        Choice::Finish(_) => none(alloc),
-    }
-}
-
-fn none(alloc: Global) -> Result<Text, NoMemory>
-    ensures { IfOk result (λ text. text ≡ []) }
-{
-    Ok(Text::from(String::new(alloc)))
-}
-
 /// A line that a signal gave, as it was.
 #[tactic(auto, using(crate::proofs::TextLemmas::heading_is_utf8))]
-fn input(alloc: Global, signal: &Signal) -> Result<Text, NoMemory>
+pub fn input(alloc: Global, signal: &Signal) -> Result<Text, NoMemory>
     requires { IsTrue (is_signal signal.now) }
     ensures { IfOk result (λ line. line ≡ input_heading (spelled signal.now)) }
 {
@@ -51,40 +29,26 @@ fn input(alloc: Global, signal: &Signal) -> Result<Text, NoMemory>
     Ok(Text::from(String::from_utf8(bytes).unwrap()))
 }
 
-pub fn initial_new(
+/// The heading of an initial selection of the one service. Its root is new, or an old one.
+pub fn initial(
     alloc: Global,
     activity: ActivityId,
     event: EventId,
     entity: EntityId,
+    how: &str,
 ) -> Result<Text, NoMemory>
-    ensures { IfOk result (λ line. line ≡ initial_heading activity.0 event.0 (codes "prepaid") entity.0 (codes "new")) }
+    ensures { IfOk result (λ line. line ≡ initial_heading activity.0 event.0 (codes "prepaid") entity.0 how.now) }
 {
     let mut line = empty_line(alloc)?;
     write!(
         line,
-        "initial a{} v{} prepaid e{} new",
+        "initial a{} v{} prepaid e{} {how}",
         activity.0, event.0, entity.0
     )?;
     Ok(Text::from(line))
 }
 
-pub fn initial_old(
-    alloc: Global,
-    activity: ActivityId,
-    event: EventId,
-    entity: EntityId,
-) -> Result<Text, NoMemory>
-    ensures { IfOk result (λ line. line ≡ initial_heading activity.0 event.0 (codes "prepaid") entity.0 (codes "old")) }
-{
-    let mut line = empty_line(alloc)?;
-    write!(
-        line,
-        "initial a{} v{} prepaid e{} old",
-        activity.0, event.0, entity.0
-    )?;
-    Ok(Text::from(line))
-}
-
+/// The heading of a delivery that was done.
 pub fn deliver(
     alloc: Global,
     activity: ActivityId,
@@ -102,6 +66,7 @@ pub fn deliver(
     Ok(Text::from(line))
 }
 
+/// The heading of a finish.
 pub fn finish(alloc: Global, activity: ActivityId, event: EventId) -> Result<Text, NoMemory>
     ensures { IfOk result (λ line. line ≡ finish_heading activity.0 event.0) }
 {
@@ -110,6 +75,7 @@ pub fn finish(alloc: Global, activity: ActivityId, event: EventId) -> Result<Tex
     Ok(Text::from(line))
 }
 
+/// A line that is taken was refused.
 pub fn refused(alloc: Global, why: &str) -> Result<Text, NoMemory>
     ensures { IfOk result (λ line. line ≡ refused_line why.now) }
 {
@@ -118,6 +84,7 @@ pub fn refused(alloc: Global, why: &str) -> Result<Text, NoMemory>
     Ok(Text::from(line))
 }
 
+/// An activity began.
 pub fn started(alloc: Global, activity: ActivityId, name: &Name) -> Result<Text, NoMemory>
     ensures { IfOk result (λ line. line ≡ started_line activity.0 name.now) }
 {
@@ -126,6 +93,7 @@ pub fn started(alloc: Global, activity: ActivityId, name: &Name) -> Result<Text,
     Ok(Text::from(line))
 }
 
+/// An activity is ending.
 pub fn ending(alloc: Global, activity: ActivityId) -> Result<Text, NoMemory>
     ensures { IfOk result (λ line. line ≡ ending_line activity.0) }
 {
@@ -134,6 +102,7 @@ pub fn ending(alloc: Global, activity: ActivityId) -> Result<Text, NoMemory>
     Ok(Text::from(line))
 }
 
+/// An activity is gone.
 pub fn gone(alloc: Global, activity: ActivityId) -> Result<Text, NoMemory>
     ensures { IfOk result (λ line. line ≡ gone_line activity.0) }
 {
@@ -142,6 +111,7 @@ pub fn gone(alloc: Global, activity: ActivityId) -> Result<Text, NoMemory>
     Ok(Text::from(line))
 }
 
+/// An event waits on an activity.
 pub fn queued(
     alloc: Global,
     event: EventId,
@@ -155,6 +125,7 @@ pub fn queued(
     Ok(Text::from(line))
 }
 
+/// An entity was attached to an activity.
 pub fn attached(alloc: Global, entity: EntityId, activity: ActivityId) -> Result<Text, NoMemory>
     ensures { IfOk result (λ line. line ≡ attached_line entity.0 activity.0) }
 {
@@ -163,6 +134,7 @@ pub fn attached(alloc: Global, entity: EntityId, activity: ActivityId) -> Result
     Ok(Text::from(line))
 }
 
+/// An entity is gone.
 pub fn removed(alloc: Global, entity: EntityId) -> Result<Text, NoMemory>
     ensures { IfOk result (λ line. line ≡ removed_line entity.0) }
 {

@@ -1,25 +1,36 @@
 //! Reading back the choice of a payload.
-ghost use Rattle.std.specs.Prelude.{◌≡◌, ◌≤◌, ◌&&◌, if◌then◌else◌, nat_le, IfOk, IsTrue, MatchResult, Some, None, length, drop, option_map};
+ghost use Rattle.std.specs.Prelude.{◌≡◌, ◌≤◌, ◌&&◌, if◌then◌else◌, nat_le, IfOk, IsTrue, MatchResult, Ok, Some, None, length, drop, option_map};
 ghost use Rattle.signal_script.specs.Signals.{signal_unbounded};
 ghost use Rattle.trace_history.specs.declared.choice.Choice.TheVariants as choices;
 ghost use Rattle.router_rules.specs.Payload.{routed, choice_in, input_in, activity_in, is_counted, is_effect_list, is_outcome};
 ghost use Rattle.slee_effect.specs.Memory.{takes_memory};
-ghost use Rattle.router_core.specs.Reading.{outcome_takes_memory, payload_takes_memory};
+ghost use Rattle.choice_reading.specs.Reading.{outcome_takes_memory, payload_takes_memory};
 
 use crate::inputs::is_routed;
-use signal_script::{LineFault, read_unbounded};
+use signal_script::{LineFault, Signal, read_unbounded};
 use slee_effect::{EffectFault, read_effects};
 use slee_value::{ActivityId, NoMemory, read_u64};
 use std::alloc::Global;
 use trace_history::Choice;
+
+/// The choice of a line of this signal, if it is of a form that is taken. Else the signal goes to `drop`: its end in
+/// place, form by form, is long to prove.
+fn routed_choice(signal: Signal) -> Option<Choice>
+    ensures { result ≡ option_map choices.Input (routed (Ok signal)) }
+{
+    if is_routed(&signal) {
+        return Some(Choice::Input(signal));
+    }
+    drop(signal);
+    None
+}
 
 /// The choice of a line, if it is one of a form that is taken but perhaps too long.
 fn line_choice(alloc: Global, line: &[u8]) -> Result<Option<Choice>, NoMemory>
     ensures { IfOk result (λ found. found ≡ option_map choices.Input (routed (signal_unbounded line.now))) }
 {
     match read_unbounded(alloc, line) {
-        Ok(signal) if is_routed(&signal) => Ok(Some(Choice::Input(signal))),
-        Ok(_) => Ok(None),
+        Ok(signal) => Ok(routed_choice(signal)),
         Err(LineFault::Bad { kind: _ }) => Ok(None),
         Err(LineFault::NoMemory) => Err(NoMemory),
     }

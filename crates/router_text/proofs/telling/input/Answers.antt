@@ -1,7 +1,7 @@
 use Rattle.std.proofs.Common.{List, ℕ, ◌∙◌, ◌++◌, ap}
 use Rattle.signal_script.specs.Signals.{spelled}
-use Rattle.router_core.proofs.TextLemmas.{heading_is_utf8}
-use Rattle.router_core.proofs.telling.input.Goals as goal
+use Rattle.router_text.proofs.TextLemmas.{heading_is_utf8}
+use Rattle.router_text.proofs.telling.input.Goals as goal
 
 pub unwrap-requires : goal.unwrap-requires
 unwrap-requires c =
