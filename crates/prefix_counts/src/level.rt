@@ -124,6 +124,45 @@ fn end_before(ends: &[usize], place: usize) -> usize
     }
 }
 
+/// The sum of a block ahead of the place, where the number ahead of it has this end.
+#[inline(always)]
+fn sum_ahead(place: usize, end: usize) -> usize
+    ensures first { place % BLOCK ≡ 0 → result ≡ 0 }
+    ensures other { 0 < place % BLOCK → result ≡ end }
+{
+    if place % BLOCK == 0 { 0 } else { end }
+}
+
+/// So many ends stay, and the others that there are are made anew in their places.
+fn write_ends(numbers: &[usize], ends: &mut [usize], count: usize)
+    requires stand { AreEndsUpTo count numbers.now ends.old }
+    requires few { length ends.old ≤ length numbers.now }
+    requires fits { sum numbers.now < 2 ^ 64 }
+    ensures stand { AreEndsUpTo (length ends.old) numbers.now ends.new }
+    ensures len { length ends.new ≡ length ends.old }
+{
+    let mut last = end_before(ends, count);
+    for place in count..ends.len() {
+        last = sum_ahead(place, last) + numbers[place];
+        ends[place] = last;
+    }
+}
+
+/// Ends are added until there is one for each number.
+fn push_ends(numbers: &[usize], ends: &mut Vec<usize>)
+    requires stand { AreEndsUpTo (vec_len ends.old) numbers.now ends.old.items }
+    requires fits { sum numbers.now < 2 ^ 64 }
+    requires memory { length numbers.now ≤ vec_capacity ends.old }
+    ensures stand { AreEnds numbers.now ends.new.items }
+    ensures memory { vec_capacity ends.old ≤ vec_capacity ends.new }
+{
+    'ends: while ends.len() < numbers.len() {
+        let place = ends.len();
+        let before = end_before(ends, place);
+        push_number(ends, before + numbers[place]);
+    }
+}
+
 /// So many ends stay, and those behind them are made anew.
 pub fn renew_ends(numbers: &[usize], ends: &mut Vec<usize>, count: usize)
     requires stand { AreEndsUpTo count numbers.now ends.old.items }
@@ -132,12 +171,9 @@ pub fn renew_ends(numbers: &[usize], ends: &mut Vec<usize>, count: usize)
     ensures stand { AreEnds numbers.now ends.new.items }
     ensures memory { vec_capacity ends.old ≤ vec_capacity ends.new }
 {
-    ends.truncate(count);
-    'ends: while ends.len() < numbers.len() {
-        let place = ends.len();
-        let before = end_before(ends.as_slice(), place);
-        push_number(ends, before + numbers[place]);
-    }
+    ends.truncate(numbers.len());
+    write_ends(numbers, ends.as_mut_slice(), count);
+    push_ends(numbers, ends);
 }
 
 /// So many sums of blocks stay, and those of the blocks behind them are made anew.

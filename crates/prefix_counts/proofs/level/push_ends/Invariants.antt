@@ -1,7 +1,7 @@
 -- the ends that are there are right
 use Rattle.std.proofs.Common.{◌-◌, ◌≤◌, length, vec_len, vec_capacity}
 use Rattle.prefix_counts.specs.Levels.{AreEndsUpTo}
-use Rattle.prefix_counts.proofs.level.renew_ends.Given as goal
+use Rattle.prefix_counts.proofs.level.push_ends.Given as goal
 
 abbrev pub invariant-ends : goal.invariant-ends
 invariant-ends l = record {
