@@ -54,14 +54,14 @@ assigns s (p.New a) = do
 assigns s (p.Variable i a) = do
   x ← eval s a
   assign i x
-assigns s (p.Field name a) = do
+assigns s (p.Field field a) = do
   x ← eval s a
-  effect (ef.SetField s.me name x)
+  effect (ef.SetField s.me field.name x)
 assigns s (p.Attribute a key b) = do
   r ← activity_of s a
   x ← eval s b
   _ ← read.used s r
-  effect (ef.SetAttr r key x)
+  effect (ef.SetAttr r key.name x)
 
 -- a priority that the script asks for lies in 8 bits
 abbrev pub asked_rank : Setting → Term → Run ℤ
@@ -79,7 +79,7 @@ abbrev pub on_entities : Setting → OnEntities → Run (Unit {0})
 on_entities s (p.Create relation rank) = do
   n ← rank_of s rank
   effects ← effects_of s
-  _ ← effect (ef.Create s.me relation n)
+  _ ← effect (ef.Create s.me relation.name n)
   declare (Child (Fresh (count_of entities_by effects)))
 on_entities s (p.Remove i) = do
   e ← read.child s i
@@ -122,7 +122,7 @@ on_activities s (p.Mask event on a) = do
   _ ← read.used s r
   b ← read.attached s r
   _ ← tested f.Detached b
-  effect (ef.SetMask s.me r event on)
+  effect (ef.SetMask s.me r event.name on)
 on_activities s (p.Fire event a service fields) = do
   r ← activity_of s a
   xs ← fields_of s fields []

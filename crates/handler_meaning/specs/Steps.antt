@@ -88,7 +88,7 @@ items s range.Activities = do
   refs ← read.activities s
   give (map (λ r. Holds (activity_value r)) refs)
 items s (range.Children relation) = do
-  refs ← read.children s relation
+  refs ← read.children s relation.name
   give (map Child refs)
 
 -- How a method of a child is called: block, method, the child, the arguments, and whether the result is kept.

@@ -38,10 +38,10 @@ single s a.Now = do
 single s a.Activity = give (Plain (v.Activity s.arguments.activity))
 single s a.Failure = give (text s.arguments.failure)
 single s (a.Slot i) = read.value i
-single s (a.Field name kind) = read.field s name kind
+single s (a.Field x kind) = read.field s x.name kind
 single s (a.EventField place kind) = give (or_initial kind (field_at place s.arguments.fields))
 single s (a.Count relation) = do
-  refs ← read.children s relation
+  refs ← read.children s relation.name
   give (int (pos (length refs)))
 single s (a.Priority i) = do
   e ← read.child s i
@@ -95,10 +95,10 @@ ask s q.Attached x = with_activity x (λ a. do
 ask s (q.Masked event) x = with_activity x (λ a. do
   _ ← read.used s a
   names ← read.masks s a
-  is_masked event names)
+  is_masked event.name names)
 ask s (q.Attribute key kind) x = with_activity x (λ a. do
   _ ← read.used s a
-  read.attribute s key kind a)
+  read.attribute s key.name kind a)
 ask s q.Bound x = with_text x (λ name. do
   a ← read.named s name
   give (flag (is_some a)))
@@ -106,10 +106,10 @@ ask s q.Lookup x = with_text x (λ name. do
   a ← read.named s name
   looked_up a)
 ask s (q.Profile table name kind) x = with_text x (λ key. do
-  found ← row s table key
-  of_row name kind found)
+  found ← row s table.name key
+  of_row name.name kind found)
 ask s (q.HasProfile table) x = with_text x (λ key. do
-  found ← row s table key
+  found ← row s table.name key
   give (flag (is_some found)))
 ask s q.HasTimer x = with_timer x (λ t. do
   a ← read.timer s t

@@ -117,7 +117,7 @@ trunk script method remove = record {
 }
 
 abbrev all_of : Block → Codes
-all_of block = record { events = beat ∷ ping ∷ []; tables = accounts ∷ []; services = codes "main" ∷ []; blocks = block ∷ leg ∷ [] }
+all_of block = record { events = beat ∷ ping ∷ []; tables = accounts ∷ []; services = codes "main" ∷ []; blocks = block ∷ leg ∷ []; names = [] }
 
 -- the check of a script of the trunk
 abbrev in_role : Role → Statements → Checked (Unit {0})

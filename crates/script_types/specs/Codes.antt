@@ -1,5 +1,5 @@
 -- All that scripts may name: what a deployment declares, with the scripts themselves.
-use Rattle.std.specs.Prelude.{ℕ, Bool, List, ◌++◌, Option, find, bytes_eq, map, slice_get, option_map, option_and_then}
+use Rattle.std.specs.Prelude.{ℕ, Bool, List, ◌++◌, Option, find, bytes_eq, map, position, slice_get, option_map, option_and_then}
 use Rattle.slee_value.specs.declared.kind.Kind.{Kind}
 use Rattle.built_in_events.specs.declared.built_in.BuiltInEvent.{BuiltInEvent}
 use Rattle.built_in_events.specs.BuiltIn.{name_of, fields_of, all_events}
@@ -8,6 +8,7 @@ use Rattle.script_types.specs.declared.codes.EventCode.{EventCode}
 use Rattle.script_types.specs.declared.codes.TableCode.{TableCode}
 use Rattle.script_types.specs.declared.codes.AttributeCode.{AttributeCode}
 use Rattle.script_types.specs.declared.codes.RelationCode.{RelationCode}
+use Rattle.script_types.specs.declared.symbol.Symbol.{Symbol}
 use Rattle.script_tree.specs.Tree.{Bytes, Statements}
 
 -- an event handler, and whether its event is masked on attachment
@@ -38,6 +39,15 @@ pub record Codes : Type 0 where
   pub tables : List TableCode
   pub services : List Bytes
   pub blocks : List Block
+  pub names : List Bytes
+
+-- a name's number: its place among the names, if it is one of them
+abbrev pub number_of : Codes → Bytes → Option ℕ
+number_of all name = position (λ x. bytes_eq x name) all.names
+
+-- a name with its number
+abbrev pub symbol_of : Codes → Bytes → Symbol Bytes
+symbol_of all name = record { name = name; number = number_of all name }
 
 -- the first of a list that has that name
 abbrev pub named : {A : Type 0} → (A → Bytes) → Bytes → List A → Option A

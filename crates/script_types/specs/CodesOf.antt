@@ -27,4 +27,4 @@ block_of_code b = record {
 }
 
 abbrev pub codes_of : CodesInMemory → Codes
-codes_of c = record { events = c.events; tables = c.tables; services = c.services; blocks = map block_of_code c.blocks }
+codes_of c = record { events = c.events; tables = c.tables; services = c.services; blocks = map block_of_code c.blocks; names = c.names }

@@ -30,7 +30,7 @@ use Rattle.script_types.specs.declared.term.Scale.{Scale}
 use Rattle.script_types.specs.declared.term.Scale.TheVariants as scale
 use Rattle.script_tree.specs.Tree as tree
 use Rattle.script_tree.specs.Tree.{Bytes, Expression}
-use Rattle.script_types.specs.Codes.{Codes, Block, named, kind_in, row_kind, relation_named}
+use Rattle.script_types.specs.Codes.{Codes, Block, symbol_of, named, kind_in, row_kind, relation_named}
 use Rattle.script_types.specs.TypingResult.{Checked, ◌>>=◌, misused, tested, known}
 use Rattle.script_types.specs.Scopes.{Scope, Holding, Value as Holds, Child}
 use Rattle.script_types.specs.TokenCounts.{tokens_in, tokens_before}
@@ -143,7 +143,7 @@ leaf_of s scope at (l.Variable name) = do
   Ok (typed x.kind (a.Slot x.place))
 leaf_of s scope at (l.Field name) = do
   kind ← known (at + 2) (kind_in name s.block.fields)
-  Ok (typed kind (a.Field name kind))
+  Ok (typed kind (a.Field (symbol_of s.codes name) kind))
 leaf_of s scope at (l.EventField name) = event_field_for s.role at name
 leaf_of s scope at (l.Table name) = do
   x ← known (at + 2) (table_activity s.codes name)
@@ -152,7 +152,7 @@ leaf_of s scope at (l.Table name) = do
 leaf_of s scope at (l.Count name) = do
   _ ← known (at + 2) (relation_named name s.block)
   _ ← not_on_remove s at
-  Ok (typed k.Int (a.Count name))
+  Ok (typed k.Int (a.Count (symbol_of s.codes name)))
 leaf_of s scope at (l.Priority name) = do
   x ← child_named scope name (at + 2)
   _ ← not_on_remove s at
@@ -205,8 +205,8 @@ abbrev pub attribute_named : Bytes → Block → Option AttributeCode
 attribute_named name block = named (λ x. x.name) name block.attributes
 
 -- the attribute of an activity, by its shared key
-abbrev pub attribute_question : AttributeCode → Question
-attribute_question x = g.Attribute x.key x.kind
+abbrev pub attribute_question : Codes → AttributeCode → Question
+attribute_question all x = g.Attribute (symbol_of all x.key) x.kind
 
 -- What a function gives, and the question that it is.
 pub record Asking : Type 0 where
@@ -216,14 +216,14 @@ pub record Asking : Type 0 where
 -- a function with what it gives; `at` tokens stand before the name behind its operand, which is of the type `found`
 abbrev pub asking_of : Setting → ℕ → Kind → Query → Checked Asking
 asking_of s at found (q.Plain function) = Ok (record { kind = function_gives function; question = question_of function found })
-asking_of s at found (q.Masked event) = Ok (record { kind = k.Bool; question = g.Masked event })
+asking_of s at found (q.Masked event) = Ok (record { kind = k.Bool; question = g.Masked (symbol_of s.codes event) })
 asking_of s at found (q.Attribute name) = do
   x ← known at (attribute_named name s.block)
-  Ok (record { kind = x.kind; question = attribute_question x })
+  Ok (record { kind = x.kind; question = attribute_question s.codes x })
 asking_of s at found (q.Profile table name) = do
   kind ← known at (row_kind table name s.codes)
-  Ok (record { kind = kind; question = g.Profile table name kind })
-asking_of s at found (q.HasProfile table) = Ok (record { kind = k.Bool; question = g.HasProfile table })
+  Ok (record { kind = kind; question = g.Profile (symbol_of s.codes table) (symbol_of s.codes name) kind })
+asking_of s at found (q.HasProfile table) = Ok (record { kind = k.Bool; question = g.HasProfile (symbol_of s.codes table) })
 
 -- the type that a function takes: a timer where it takes one
 abbrev pub operand_kind : Query → Kind → Kind

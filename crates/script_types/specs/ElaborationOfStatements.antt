@@ -20,7 +20,7 @@ use Rattle.script_types.specs.declared.step.Range.{Range}
 use Rattle.script_types.specs.declared.step.Range.TheVariants as range
 use Rattle.script_tree.specs.Tree as tree
 use Rattle.script_tree.specs.Tree.{Bytes, Expression, Assigning, OnEntities, OnActivities, SettingTimer, Statement, Statements}
-use Rattle.script_types.specs.Codes.{Method, kind_in, any_event, declared_event, relation_named}
+use Rattle.script_types.specs.Codes.{Method, symbol_of, kind_in, any_event, declared_event, relation_named}
 use Rattle.script_types.specs.TypingResult.{Checked, ◌>>=◌, misused, tested, known}
 use Rattle.script_types.specs.Scopes.{Scope, with_value, with_child, check_new}
 use Rattle.script_types.specs.TokenCounts.{tokens_in, tokens_in_arguments, tokens_in_tail, tokens_in_statement, tokens_in_statements}
@@ -54,13 +54,13 @@ assigning_of s scope at (tree.Field name x) = do
   kind ← known (at + 2) (kind_in name s.block.fields)
   term ← asked_of s scope kind (at + 4) x
   _ ← not_on_remove s at
-  Ok (record { scope = scope; step = p.Assign (p.Field name term) })
+  Ok (record { scope = scope; step = p.Assign (p.Field (symbol_of s.codes name) term) })
 assigning_of s scope at (tree.Attribute x name y) = do
   activity ← asked_of s scope k.Activity (at + 2) x
   attribute ← known (at + 3 + tokens_in x) (attribute_named name s.block)
   term ← asked_of s scope attribute.kind (at + 6 + tokens_in x) y
   _ ← not_on_remove s at
-  Ok (record { scope = scope; step = p.Assign (p.Attribute activity attribute.key term) })
+  Ok (record { scope = scope; step = p.Assign (p.Attribute activity (symbol_of s.codes attribute.key) term) })
 
 -- an argument where its parameter's type is asked for
 abbrev pub argument_of : Option FieldCode → Expression → Term → Term
@@ -103,7 +103,7 @@ on_entities_of s scope at (tree.Create name child priority) = do
   _ ← check_new scope child (at + 3)
   rank ← rank_of s scope relation (at + 5) priority
   _ ← not_on_remove s at
-  Ok (record { scope = with_child scope child relation.block; step = p.Entity (p.Create name rank) })
+  Ok (record { scope = with_child scope child relation.block; step = p.Entity (p.Create (symbol_of s.codes name) rank) })
 on_entities_of s scope at (tree.Remove child) = do
   found ← child_named scope child (at + 1)
   _ ← not_on_remove s at
@@ -159,12 +159,12 @@ on_activities_of s scope at (tree.Mask event x) = do
   _ ← known (at + 1) (any_event event s.codes)
   term ← asked_of s scope k.Activity (at + 3) x
   _ ← not_on_remove s at
-  Ok (unchanged scope (p.Mask event true term))
+  Ok (unchanged scope (p.Mask (symbol_of s.codes event) true term))
 on_activities_of s scope at (tree.Unmask event x) = do
   _ ← known (at + 1) (any_event event s.codes)
   term ← asked_of s scope k.Activity (at + 3) x
   _ ← not_on_remove s at
-  Ok (unchanged scope (p.Mask event false term))
+  Ok (unchanged scope (p.Mask (symbol_of s.codes event) false term))
 on_activities_of s scope at (tree.Fire name x service fields) = do
   event ← known (at + 1) (declared_event name s.codes)
   term ← asked_of s scope k.Activity (at + 3) x
@@ -256,7 +256,7 @@ abbrev pub loop_of : Setting → Scope → Bytes → ℕ → Over → Checked Lo
 loop_of s scope name at over.Activities = Ok (record { scope = with_value scope name k.Activity; range = range.Activities })
 loop_of s scope name at (over.Children relation) = do
   found ← known at (relation_named relation s.block)
-  Ok (record { scope = with_child scope name found.block; range = range.Children relation })
+  Ok (record { scope = with_child scope name found.block; range = range.Children (symbol_of s.codes relation) })
 
 -- usage NAME e ;      rollback ;      if e { .. }      if e { .. } else { .. }      while e { .. }      for NAME in NAME { .. }
 abbrev mutual

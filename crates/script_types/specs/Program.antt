@@ -3,6 +3,7 @@ use Rattle.std.specs.Prelude.{ℕ, ℤ, Bool, List, Option}
 use Rattle.slee_value.specs.declared.kind.Kind.{Kind}
 use Rattle.slee_value.specs.declared.keep.Keep.{Keep}
 use Rattle.script_tree.specs.Tree.{Bytes}
+use Rattle.script_types.specs.declared.symbol.Symbol.{Symbol}
 use Rattle.script_types.specs.declared.term.Atom.{Atom}
 use Rattle.script_types.specs.declared.term.Question.{Question}
 use Rattle.script_types.specs.declared.term.Test.{Test}
@@ -21,8 +22,8 @@ pub data Term : Type 0 where
 pub data Assigning : Type 0 where
   New : Term → Assigning
   Variable : ℕ → Term → Assigning
-  Field : Bytes → Term → Assigning
-  Attribute : Term → Bytes → Term → Assigning
+  Field : Symbol Bytes → Term → Assigning
+  Attribute : Term → Symbol Bytes → Term → Assigning
 
 -- The priority of a new child: that of its relation, or what the script asks for.
 pub data Rank : Type 0 where
@@ -39,7 +40,7 @@ pub record Call : Type 0 where
 
 -- Steps on child entities.
 pub data OnEntities : Type 0 where
-  Create : Bytes → Rank → OnEntities
+  Create : Symbol Bytes → Rank → OnEntities
   Remove : ℕ → OnEntities
   Priority : ℕ → Term → OnEntities
 
@@ -47,7 +48,7 @@ pub data OnEntities : Type 0 where
 pub data OnActivities : Type 0 where
   Attach : Who → Term → OnActivities
   Detach : Who → Term → OnActivities
-  Mask : Bytes → Bool → Term → OnActivities
+  Mask : Symbol Bytes → Bool → Term → OnActivities
   Fire : Bytes → Term → Option Bytes → List (Bytes × Term) → OnActivities
   Null : OnActivities
   End : Term → OnActivities

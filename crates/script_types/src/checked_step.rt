@@ -1,5 +1,5 @@
 //! Statements of checked scripts. Clauses see one through `step_of`, and a list of them through `steps_of`.
-use crate::{Range, Term, Who};
+use crate::{Range, Symbol, Term, Who};
 use slee_value::{Keep, Name, Text};
 
 /// A step of a checked script.
@@ -23,9 +23,9 @@ pub enum Assigning {
     New(Term),
     /// A variable, by its place in the scope.
     Variable(usize, Term),
-    Field(Name, Term),
+    Field(Symbol<Name>, Term),
     /// An attribute of the activity, by its shared key.
-    Attribute(Term, Text, Term),
+    Attribute(Term, Symbol<Text>, Term),
 }
 
 /// The priority of a new child.
@@ -41,7 +41,7 @@ pub enum Rank {
 #[derive(Drop)]
 pub enum OnEntities {
     /// The relation, and the priority.
-    Create(Name, Rank),
+    Create(Symbol<Name>, Rank),
     Remove(usize),
     Priority(usize, Term),
 }
@@ -73,7 +73,7 @@ pub enum OnActivities {
     Attach(Who, Term),
     Detach(Who, Term),
     /// The event, and whether it is masked from now on.
-    Mask(Text, bool, Term),
+    Mask(Symbol<Text>, bool, Term),
     /// The event, the activity, the key of the only service that gets it, and the fields in the order of the text.
     Fire(Text, Term, Option<Text>, Vec<FieldTerm>),
     /// A new null activity, as a variable behind all others.

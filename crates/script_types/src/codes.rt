@@ -1,6 +1,9 @@
 //! What scripts may name: events, tables, and blocks with their fields, relations and methods.
+ghost use Rattle.std.specs.Prelude.{◌≡◌};
+ghost use Rattle.script_types.specs.Codes.{number_of};
+ghost use Rattle.script_types.specs.CodesOf.{codes_of};
 
-use crate::{BlockSteps, CodeList, NamedList};
+use crate::{BlockSteps, CodeList, Named, NamedList, Symbol};
 use script_tree::Script;
 use slee_value::{Kind, Name, Text};
 
@@ -93,8 +96,20 @@ pub struct Codes {
     pub services: NamedList<Name>,
     /// In the deployment's order.
     pub blocks: CodeList<BlockCode>,
+    /// All names that scripts read and change the state by, each with its place as its number.
+    pub names: NamedList<Text>,
     /// What the scripts are made into, block by block; nothing until they are checked.
     pub programs: CodeList<BlockSteps>,
+}
+
+impl Codes {
+    /// The name with its number.
+    pub fn symbol<T: Named>(&self, name: T) -> Symbol<T>
+        ensures { result ≡ record { name = name; number = number_of (codes_of self.now) (T.name_of name) } }
+    {
+        let number = self.names.place_of(name.name().as_bytes());
+        Symbol { name, number }
+    }
 }
 
 /// One script of a block: that of a handler or a method by its number, or one of the three others.

@@ -12,6 +12,7 @@ mod named;
 mod named_list;
 mod places;
 mod step;
+mod symbol;
 mod term;
 
 pub use checked_script::{BlockSteps, HandlerSteps, MethodSteps};
@@ -34,4 +35,5 @@ pub use named::Named;
 pub use named_list::NamedList;
 pub use places::Places;
 pub use step::{Range, Who};
+pub use symbol::Symbol;
 pub use term::{Atom, Joint, Question, Scale, Test};

@@ -2,7 +2,7 @@
 ghost use Rattle.std.specs.Prelude.{◌≡◌};
 
 use crate::{AttributeCode, EventCode, FieldCode, MethodCode, RelationCode, TableCode};
-use slee_value::{Kind, Name};
+use slee_value::{Kind, Name, Text};
 
 /// What has a name of its own.
 pub trait Named {
@@ -16,6 +16,14 @@ pub trait Named {
 
 impl Named for Name {
     ghost name_of = { λ n. n };
+
+    fn name(&self) -> &str {
+        self.as_str()
+    }
+}
+
+impl Named for Text {
+    ghost name_of = { λ t. t };
 
     fn name(&self) -> &str {
         self.as_str()

@@ -1,4 +1,5 @@
 //! What stands in the steps of a checked script, apart from terms.
+use crate::Symbol;
 use slee_value::Name;
 
 /// The entity itself, or the child in a place of the scope.
@@ -12,5 +13,5 @@ pub enum Who {
 #[derive(Debug, Drop)]
 pub enum Range {
     Activities,
-    Children(Name),
+    Children(Symbol<Name>),
 }

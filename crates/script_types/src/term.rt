@@ -1,4 +1,5 @@
 //! What stands in the terms of a checked script, apart from other terms.
+use crate::Symbol;
 use slee_value::{Kind, Name, Text, Value};
 
 /// A type whose values are put in order.
@@ -43,11 +44,11 @@ pub enum Atom {
     /// The value of a variable, by its place in the scope.
     Slot(usize),
     /// A field of the entity, with its type.
-    Field(Name, Kind),
+    Field(Symbol<Name>, Kind),
     /// A field of the event by its place in byte order, with its type.
     EventField(usize, Kind),
     /// How many children of the relation there are.
-    Count(Name),
+    Count(Symbol<Name>),
     /// The priority of the child in this place of the scope.
     Priority(usize),
 }
@@ -62,13 +63,13 @@ pub enum Question {
     Len,
     Active,
     Attached,
-    Masked(Text),
+    Masked(Symbol<Text>),
     /// An attribute of an activity by its shared key, with its type.
-    Attribute(Text, Kind),
+    Attribute(Symbol<Text>, Kind),
     Bound,
     Lookup,
     /// An attribute of a row: the table, the attribute and its type.
-    Profile(Name, Name, Kind),
-    HasProfile(Name),
+    Profile(Symbol<Name>, Symbol<Name>, Kind),
+    HasProfile(Symbol<Name>),
     HasTimer,
 }
