@@ -28,7 +28,7 @@ keep_result true flow kind = do
 
 -- the same setting for a child of a block
 abbrev pub setting_in : Setting → BlockProgram → Ref → Setting
-setting_in s block e = record s { me = e; masks = block.masks }
+setting_in s block e = record s { me = e; masks = map (λ x. x.name) block.masks }
 
 -- a call where so many more may be nested
 unfoldable pub call_at : Setting → Program → ℕ → Calling

@@ -1,5 +1,5 @@
 -- What a script means, over any answers: a whole run, or the first key that has no answer.
-use Rattle.std.specs.Prelude.{ℕ, false, List, [], Option, Some, None, slice_get, codes, if◌then◌else◌}
+use Rattle.std.specs.Prelude.{ℕ, false, List, [], map, Option, Some, None, slice_get, codes, if◌then◌else◌}
 use Rattle.slee_value.specs.declared.ids.EntityId.{EntityId}
 use Rattle.slee_effect.specs.declared.reference.Ref.TheVariants.{Known}
 use Rattle.handler_meaning.specs.declared.key.Key.{Key}
@@ -39,7 +39,7 @@ pub data Meaning : Type 0 where
 
 -- a run in its setting, before its first step
 abbrev pub setting_of : Answers → BlockProgram → EntityId → Args → Before → Setting
-setting_of answers block e arguments before = record { answers = answers; effects = before.effects; keys = before.keys; arguments = arguments; me = Known e.0; masks = block.masks }
+setting_of answers block e arguments before = record { answers = answers; effects = before.effects; keys = before.keys; arguments = arguments; me = Known e.0; masks = map (λ x. x.name) block.masks }
 
 abbrev pub start : State
 start = record { variables = []; left = unit_limit; asked = false; keys = []; effects = [] }

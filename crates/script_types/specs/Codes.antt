@@ -41,9 +41,12 @@ pub record Codes : Type 0 where
   pub blocks : List Block
   pub names : List Bytes
 
--- a name's number: its place among the names, if it is one of them
+-- a name's number: its place among all names, if it is one of them
+abbrev pub number_in : List Bytes → Bytes → Option ℕ
+number_in names name = position (λ x. bytes_eq x name) names
+
 abbrev pub number_of : Codes → Bytes → Option ℕ
-number_of all name = position (λ x. bytes_eq x name) all.names
+number_of all name = number_in all.names name
 
 -- a name with its number
 abbrev pub symbol_of : Codes → Bytes → Symbol Bytes

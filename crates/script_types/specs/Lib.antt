@@ -14,3 +14,4 @@ pub mod Elaboration
 pub mod ElaborationOfStatements
 pub mod Programs
 pub mod ProgramOf
+pub mod Numbers

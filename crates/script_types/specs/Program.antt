@@ -99,7 +99,7 @@ pub record MethodProgram : Type 0 where
 
 -- The scripts of a block, and the events that its entities mask when they are attached.
 pub record BlockProgram : Type 0 where
-  pub masks : List Bytes
+  pub masks : List (Symbol Bytes)
   pub handlers : List HandlerProgram
   pub methods : List MethodProgram
   pub exception : Option Steps

@@ -5,7 +5,8 @@ use Rattle.script_types.specs.declared.codes.CodePart.{CodePart}
 use Rattle.script_types.specs.declared.codes.CodePart.TheVariants as part
 use Rattle.script_types.specs.declared.codes.CodePlace.{CodePlace}
 use Rattle.script_tree.specs.Tree.{Bytes, Statements}
-use Rattle.script_types.specs.Codes.{Codes, Block, Handler, Method}
+use Rattle.script_types.specs.declared.symbol.Symbol.{Symbol}
+use Rattle.script_types.specs.Codes.{Codes, Block, Handler, Method, symbol_of}
 use Rattle.script_types.specs.Typing.{Task, handler_task, method_task, task_for}
 use Rattle.script_types.specs.TypingExpressions.{Role, OnException, OnRolledBack, OnRemove}
 use Rattle.script_types.specs.TypingResult.{Checked}
@@ -54,8 +55,8 @@ callback_of all block place role (Some script) = do
   Ok (Some steps)
 
 -- the events that entities of the block mask when they are attached
-abbrev pub masks_of : Block → List Bytes
-masks_of block = map (λ h. h.event) (filter (λ h. h.mask) block.handlers)
+abbrev pub masks_of : Codes → Block → List (Symbol Bytes)
+masks_of all block = map (λ h. symbol_of all h.event) (filter (λ h. h.mask) block.handlers)
 
 abbrev pub block_of : Codes → ℕ → Block → Built BlockProgram
 block_of all number block = do
@@ -64,7 +65,7 @@ block_of all number block = do
   exception ← callback_of all block (place_of number part.Exception) OnException block.exception
   rolled_back ← callback_of all block (place_of number part.RolledBack) OnRolledBack block.rolled_back
   remove ← callback_of all block (place_of number part.Remove) OnRemove block.remove
-  Ok (record { masks = masks_of block; handlers = handlers; methods = methods; exception = exception; rolled_back = rolled_back; remove = remove })
+  Ok (record { masks = masks_of all block; handlers = handlers; methods = methods; exception = exception; rolled_back = rolled_back; remove = remove })
 
 abbrev pub blocks_of : Codes → ℕ → List Block → Built Program
 blocks_of all number [] = Ok []

@@ -1,5 +1,5 @@
 //! The checked scripts of blocks. Clauses see those of a block through `block_program_of`.
-use crate::{CodeList, Step};
+use crate::{CodeList, Step, Symbol};
 use slee_value::{Kind, Text};
 
 /// A checked handler.
@@ -21,7 +21,7 @@ pub struct MethodSteps {
 #[derive(Drop)]
 pub struct BlockSteps {
     /// The events that its entities mask when they are attached.
-    pub masks: CodeList<Text>,
+    pub masks: CodeList<Symbol<Text>>,
     pub handlers: CodeList<HandlerSteps>,
     pub methods: CodeList<MethodSteps>,
     pub exception: Option<CodeList<Step>>,
