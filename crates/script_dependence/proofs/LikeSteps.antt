@@ -59,7 +59,7 @@ timer_of_like m other a st = search (like_then, eval_like, like_timer, like_give
 assigns_like : (m : Setting) (other : Answers) (x : Assigning) (st : State) → Like m other st (doing.assigns m x st) (doing.assigns (over m other) x st)
 assigns_like m other (p.New a) st = search (like_then, eval_like, declare_like)
 assigns_like m other (p.Variable i a) st = search (like_then, eval_like, assign_like)
-assigns_like m other (p.Field name a) st = search (like_then, eval_like, effect_like)
+assigns_like m other (p.Field field a) st = search (like_then, eval_like, effect_like)
 assigns_like m other (p.Attribute a key b) st = search (like_then, activity_of_like, eval_like, used_like, effect_like) depth 7
 
 asked_rank_like : (m : Setting) (other : Answers) (a : Term) (st : State) → Like m other st (doing.asked_rank m a st) (doing.asked_rank (over m other) a st)
@@ -71,7 +71,7 @@ rank_like m other (p.Asked a) st = asked_rank_like m other a st
 
 on_entities_like : (m : Setting) (other : Answers) (x : OnEntities) (st : State) → Like m other st (doing.on_entities m x st) (doing.on_entities (over m other) x st)
 on_entities_like m other (p.Create relation rank) st = like_then m other st (doing.rank_of m rank st) (doing.rank_of (over m other) rank st) _ _ (rank_like m other rank st) (λ n mid.
-    let e : Effect = ef.Create m.me relation n in
+    let e : Effect = ef.Create m.me relation.name n in
     let child : Unit {0} → Run (Unit {0}) = λ _. declare (Child (Fresh (count_of entities_by (m.effects ++ mid.effects)))) in
     like_then m other mid (effect e mid) (effect e mid) child child (effect_like m other e mid) (λ _ s. declare_like m other _ s))
 on_entities_like m other (p.Remove i) st = search (like_then, child_like, effect_like)

@@ -81,7 +81,7 @@ calls_do known program all (suc d) m me masks told b n e xs keeps es st here are
     found_does known caller Ever es (slice_get program b) _ st (λ block is.
     found_does known caller Ever es (slice_get block.methods n) _ st (λ method same.
     let run : Run Flow = act_all (setting_in m block e) (call_at m program d) method.steps in
-    let always : Always known (setting_in m block e) run = act_all_does known (setting_in m block e) (told_in known m block e told) (call_at m program d) (calls_do known program all d m e block.masks told) method.steps (method_at known block.methods n method (block_at known program b block all is).1 same) in
+    let always : Always known (setting_in m block e) run = act_all_does known (setting_in m block e) (told_in known m block e told) (call_at m program d) (calls_do known program all d m e (map (λ x. x.name) block.masks) told) method.steps (method_at known block.methods n method (block_at known program b block all is).1 same) in
     does_then known caller (FlowIs known) Ever es (apart (map Holds xs) run st) (λ flow. keep_result keeps flow method.result) (apart_does known caller block e xs run es st here are always sound) (λ fs flow new l gave kept. keep_does known caller their keeps fs flow method.result new gave kept)))
 
 done_same : (q r : Report) → Done q ≡ Done r → q ≡ r

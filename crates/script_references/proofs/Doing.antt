@@ -135,10 +135,10 @@ module _ (known : Reference → Type 0) (m : Setting) (told : Told known m) (es 
   pub assigns_does : (x : Assigning) (st : State) → OfAssigning known x → Sound known m es st → Does known m es Ever (doing.assigns m x st)
   assigns_does (p.New a) st h sound = after known m (ValueIs known es) Ever es (eval m a st) _ (eval_gives known m told es a st h sound) (λ y new is kept. declare_does known m es (Holds y) new is kept)
   assigns_does (p.Variable i a) st h sound = after known m (ValueIs known es) Ever es (eval m a st) _ (eval_gives known m told es a st h sound) (λ y new is kept. assign_does known m es i y new is kept)
-  assigns_does (p.Field name a) st h sound = after known m (ValueIs known es) Ever es (eval m a st) _ (eval_gives known m told es a st h sound) (λ y new is kept. makes known m es (ef.SetField m.me name y) new (kept.2, is) kept)
+  assigns_does (p.Field field a) st h sound = after known m (ValueIs known es) Ever es (eval m a st) _ (eval_gives known m told es a st h sound) (λ y new is kept. makes known m es (ef.SetField m.me field.name y) new (kept.2, is) kept)
   assigns_does (p.Attribute a key b) st h sound = after known m ActivityIs Ever es (doing.activity_of m a st) _ (activity_of_gives a st h.0 sound) (λ r new here kept.
       after known m (ValueIs known es) Ever es (eval m b new) _ (eval_gives known m told es b new h.1 kept) (λ y last is held.
-      after known m Any Ever es (read.used m r last) _ (used_gives known m told es r last held) (λ _ end _ left. makes known m es (ef.SetAttr r key y) end (here, is) left)))
+      after known m Any Ever es (read.used m r last) _ (used_gives known m told es r last held) (λ _ end _ left. makes known m es (ef.SetAttr r key.name y) end (here, is) left)))
 
   asked_rank_gives : (x : Term) (st : State) → OfTerm known x → Sound known m es st → Gives known m es Any (doing.asked_rank m x st)
   asked_rank_gives x st h sound = gives_then known m es Any Any (doing.int_of m x st) _ (int_of_gives x st h sound) (λ n new _ kept. gives_tested known m es Any f.Range _ (give n) new kept (tt, kept))
@@ -158,7 +158,7 @@ module _ (known : Reference → Type 0) (m : Setting) (told : Told known m) (es 
       declare_does known m all (Child (Fresh (count_of entities_by (m.effects ++ st.effects)))) new (inr (made entities_by e (m.effects ++ st.effects) all sound.0 is refl)) kept)
 
   pub on_entities_does : (x : OnEntities) (st : State) → OfEntities known x → Sound known m es st → Does known m es Ever (doing.on_entities m x st)
-  on_entities_does (p.Create relation rank) st h sound = after known m Any Ever es (doing.rank_of m rank st) _ (rank_gives rank st h sound) (λ n new _ kept. create_does relation n new kept)
+  on_entities_does (p.Create relation rank) st h sound = after known m Any Ever es (doing.rank_of m rank st) _ (rank_gives rank st h sound) (λ n new _ kept. create_does relation.name n new kept)
   on_entities_does (p.Remove i) st h sound = after known m (λ e. IsKnown known es (ToEntity e)) Ever es (read.child m i st) _ (child_gives known m told es i st sound) (λ e new here kept. makes known m es (ef.Remove e) new (here, tt) kept)
   on_entities_does (p.Priority i a) st h sound = after known m (λ e. IsKnown known es (ToEntity e)) Ever es (read.child m i st) _ (child_gives known m told es i st sound) (λ e new here kept.
       after known m Any Ever es (doing.asked_rank m a new) _ (asked_rank_gives a new h kept) (λ n last _ held. makes known m es (ef.SetPriority e n) last (here, tt) held))
@@ -196,7 +196,7 @@ module _ (known : Reference → Type 0) (m : Setting) (told : Told known m) (es 
   on_activities_does (p.Mask event on a) st h sound = after known m ActivityIs Ever es (doing.activity_of m a st) _ (activity_of_gives a st h sound) (λ r new here kept.
       after known m Any Ever es (read.used m r new) _ (used_gives known m told es r new kept) (λ _ last _ held.
       after known m Any Ever es (read.attached m r last) _ (attached_gives known m told es r last held) (λ b end _ left.
-      does_tested known m Ever es f.Detached b (effect (ef.SetMask m.me r event on)) end left (makes known m es (ef.SetMask m.me r event on) end (left.2, (here, tt)) left))))
+      does_tested known m Ever es f.Detached b (effect (ef.SetMask m.me r event.name on)) end left (makes known m es (ef.SetMask m.me r event.name on) end (left.2, (here, tt)) left))))
   on_activities_does (p.Fire event a service fields) st h sound = after known m ActivityIs Ever es (doing.activity_of m a st) _ (activity_of_gives a st h.0 sound) (λ r new here kept.
       after known m FieldsAre Ever es (doing.fields_of m fields [] new) _ (fields_gives fields [] new h.1 tt kept) (λ xs last are held.
       after known m Any Ever es (read.used_active m r last) _ (used_active_gives known m told es r last held) (λ _ end _ left. makes known m es (ef.Fire r event service xs) end (here, are) left)))

@@ -114,7 +114,7 @@ module _ (known : Reference → Type 0) (m : Setting) (told : Told known m) wher
 
   items_gives : (r : Range) (es : List Effect) (st : State) → Sound known m es st → Gives known m es (AllByRecursion (VariableIs known es)) (items m r st)
   items_gives range.Activities es st sound = gives_then known m es (ActivitiesAre known es) (AllByRecursion (VariableIs known es)) (read.activities m st) _ (activities_gives known m told es st sound) (λ refs new are kept. (activities_hold es refs are, kept))
-  items_gives (range.Children relation) es st sound = gives_then known m es (EntitiesAre known es) (AllByRecursion (VariableIs known es)) (read.children m relation st) _ (children_gives known m told es relation st sound) (λ refs new are kept. (children_hold es refs are, kept))
+  items_gives (range.Children relation) es st sound = gives_then known m es (EntitiesAre known es) (AllByRecursion (VariableIs known es)) (read.children m relation.name st) _ (children_gives known m told es relation.name st sound) (λ refs new are kept. (children_hold es refs are, kept))
 
   arguments_give : (terms : List Term) (es : List Effect) (st : State) → AllByRecursion (OfTerm known) terms → Sound known m es st → Gives known m es (AllByRecursion (ValueIs known es)) (arguments_of m terms st)
   arguments_give [] es st h sound = (tt, sound)

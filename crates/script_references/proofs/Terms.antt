@@ -195,9 +195,9 @@ module _ (known : Reference → Type 0) (m : Setting) (told : Told known m) (es 
   single_gives a.Activity st h sound = ((inl told.activity, tt), sound)
   single_gives a.Failure st h sound = (tt, sound)
   single_gives (a.Slot i) st h sound = value_gives i st sound
-  single_gives (a.Field name kind) st h sound = field_gives name kind st sound
+  single_gives (a.Field x kind) st h sound = field_gives x.name kind st sound
   single_gives (a.EventField place kind) st h sound = (or_initial_is kind (field_at place m.arguments.fields) (event_field place m.arguments.fields told.fields), sound)
-  single_gives (a.Count relation) st h sound = gives_then known m es (EntitiesAre known es) (ValueIs known es) (read.children m relation st) _ (children_gives relation st sound) (λ refs new _ kept. (tt, kept))
+  single_gives (a.Count relation) st h sound = gives_then known m es (EntitiesAre known es) (ValueIs known es) (read.children m relation.name st) _ (children_gives relation.name st sound) (λ refs new _ kept. (tt, kept))
   single_gives (a.Priority i) st h sound = gives_then known m es (λ e. IsKnown known es (ToEntity e)) (ValueIs known es) (read.child m i st) _ (child_gives i st sound) (λ e new _ kept.
       gives_then known m es Any (ValueIs known es) (read.priority m e new) _ (priority_gives e new kept) (λ n last _ held. (tt, held)))
 
@@ -277,12 +277,12 @@ module _ (known : Reference → Type 0) (m : Setting) (told : Told known m) (es 
   ask_gives g.Attached x st h sound = gives_activity known m es (ValueIs known es) x _ st h (λ r _. gives_then known m es Any (ValueIs known es) (read.used m r st) _ (used_gives r st sound) (λ seen new _ kept.
       gives_then known m es Any (ValueIs known es) (read.attached m r new) _ (attached_gives r new kept) (λ b last _ held. (tt, held))))
   ask_gives (g.Masked event) x st h sound = gives_activity known m es (ValueIs known es) x _ st h (λ r _. gives_then known m es Any (ValueIs known es) (read.used m r st) _ (used_gives r st sound) (λ seen new _ kept.
-      gives_then known m es Any (ValueIs known es) (read.masks m r new) _ (masks_gives r new kept) (λ names last _ held. masked_gives event names last held)))
-  ask_gives (g.Attribute key kind) x st h sound = gives_activity known m es (ValueIs known es) x _ st h (λ r _. gives_then known m es Any (ValueIs known es) (read.used m r st) _ (used_gives r st sound) (λ seen new _ kept. attribute_gives key kind r new kept))
+      gives_then known m es Any (ValueIs known es) (read.masks m r new) _ (masks_gives r new kept) (λ names last _ held. masked_gives event.name names last held)))
+  ask_gives (g.Attribute key kind) x st h sound = gives_activity known m es (ValueIs known es) x _ st h (λ r _. gives_then known m es Any (ValueIs known es) (read.used m r st) _ (used_gives r st sound) (λ seen new _ kept. attribute_gives key.name kind r new kept))
   ask_gives g.Bound x st h sound = gives_text known m es (ValueIs known es) x _ st (λ name. gives_then known m es (BoundIs known es) (ValueIs known es) (read.named m name st) _ (named_gives name st sound) (λ r new _ kept. (tt, kept)))
   ask_gives g.Lookup x st h sound = gives_text known m es (ValueIs known es) x _ st (λ name. gives_then known m es (BoundIs known es) (ValueIs known es) (read.named m name st) _ (named_gives name st sound) (λ r new is kept. looked_up_gives r new is kept))
-  ask_gives (g.Profile table name kind) x st h sound = gives_text known m es (ValueIs known es) x _ st (λ key. gives_then known m es (RowIs known) (ValueIs known es) (row m table key st) _ (row_gives table key st sound) (λ values new is kept. of_row_gives name kind values new is kept))
-  ask_gives (g.HasProfile table) x st h sound = gives_text known m es (ValueIs known es) x _ st (λ key. gives_then known m es (RowIs known) (ValueIs known es) (row m table key st) _ (row_gives table key st sound) (λ values new _ kept. (tt, kept)))
+  ask_gives (g.Profile table name kind) x st h sound = gives_text known m es (ValueIs known es) x _ st (λ key. gives_then known m es (RowIs known) (ValueIs known es) (row m table.name key st) _ (row_gives table.name key st sound) (λ values new is kept. of_row_gives name.name kind values new is kept))
+  ask_gives (g.HasProfile table) x st h sound = gives_text known m es (ValueIs known es) x _ st (λ key. gives_then known m es (RowIs known) (ValueIs known es) (row m table.name key st) _ (row_gives table.name key st sound) (λ values new _ kept. (tt, kept)))
   ask_gives g.HasTimer x st h sound = gives_timer known m es (ValueIs known es) x _ st h (λ r _. gives_then known m es Any (ValueIs known es) (read.timer m r st) _ (timer_gives r st sound) (λ seen new _ kept. (tt, kept)))
 
   combine_gives : (operator : Joint) (x : Val) (y : Run Val) (st : State) → ValueIs known es x → Gives known m es (ValueIs known es) (y st) → Sound known m es st → Gives known m es (ValueIs known es) (combine operator x y st)

@@ -6,6 +6,7 @@ use Rattle.slee_value.specs.declared.kind.Kind.TheVariants as k
 use Rattle.slee_effect.specs.declared.reference.Ref.{Ref}
 use Rattle.slee_effect.specs.declared.value.Val.{Val}
 use Rattle.script_tree.specs.Tree.{Bytes, Expression}
+use Rattle.script_types.specs.declared.symbol.Symbol.{Symbol}
 use Rattle.script_types.specs.declared.misuse.CheckBad.TheVariants as bad
 use Rattle.script_types.specs.declared.codes.FieldCode.{FieldCode}
 use Rattle.script_types.specs.declared.step.Range.TheVariants as range
@@ -91,8 +92,8 @@ Goes m holds scope xs st = AllAre holds xs × Sound m scope st
 pub over_activities_safe : (m : Setting) (scope : Scope) (st : State) → Sound m scope st → Safe m (Goes m (expected.Value k.Activity) scope) (items m range.Activities st)
 over_activities_safe m scope st fits = keep_then m (Goes m (expected.Value k.Activity) scope) scope (read.activities m st) _ (activities_safe m scope st fits) (λ refs new kept. (activities_are refs, kept))
 
-pub over_children_safe : (m : Setting) (scope : Scope) (relation : Bytes) (block : ℕ) (st : State) → Sound m scope st → Safe m (Goes m (expected.Child block) scope) (items m (range.Children relation) st)
-over_children_safe m scope relation block st fits = keep_then m (Goes m (expected.Child block) scope) scope (read.children m relation st) _ (children_safe m relation scope st fits) (λ refs new kept. (children_are block refs, kept))
+pub over_children_safe : (m : Setting) (scope : Scope) (relation : Symbol Bytes) (block : ℕ) (st : State) → Sound m scope st → Safe m (Goes m (expected.Child block) scope) (items m (range.Children relation) st)
+over_children_safe m scope relation block st fits = keep_then m (Goes m (expected.Child block) scope) scope (read.children m relation.name st) _ (children_safe m relation.name scope st fits) (λ refs new kept. (children_are block refs, kept))
 
 -- arguments of the types of the parameters, with variables that fit
 abbrev pub Given : Setting → List FieldCode → Scope → List Val → State → Type 0

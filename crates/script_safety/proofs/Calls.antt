@@ -8,6 +8,7 @@ use Rattle.slee_effect.specs.declared.reference.Ref.{Ref}
 use Rattle.slee_effect.specs.declared.value.Val.{Val}
 use Rattle.script_tree.specs.Tree.{Bytes, Statements}
 use Rattle.script_types.specs.declared.codes.CodePlace.{CodePlace}
+use Rattle.script_types.specs.declared.symbol.Symbol.{Symbol}
 use Rattle.script_types.specs.Codes.{Codes, Block, Handler}
 use Rattle.script_types.specs.Typing.{Task, handler_task, method_task, task_for}
 use Rattle.script_types.specs.TypingExpressions.{Role, OnException, OnRolledBack, OnRemove}
@@ -115,7 +116,7 @@ handler_steps : (all : Codes) (o : Option HandlerProgram) (steps : Steps) → st
 handler_steps all None steps h go = cc
 handler_steps all (Some program) steps h go = subst (Script all) (some_same program.steps steps h) (go program refl)
 
-script_by : (all : Codes) (n : ℕ) (block : Block) (handlers : List HandlerProgram) (methods : List MethodProgram) (exception rolled_back remove : Option Steps) (masks : List Bytes) (one : BlockProgram) (which : Part) (steps : Steps) →
+script_by : (all : Codes) (n : ℕ) (block : Block) (handlers : List HandlerProgram) (methods : List MethodProgram) (exception rolled_back remove : Option Steps) (masks : List (Symbol Bytes)) (one : BlockProgram) (which : Part) (steps : Steps) →
     handlers_of all block n 0 block.handlers ≡ Ok handlers → callback_of all block (place_of n parts.Exception) OnException block.exception ≡ Ok exception → callback_of all block (place_of n parts.RolledBack) OnRolledBack block.rolled_back ≡ Ok rolled_back → callback_of all block (place_of n parts.Remove) OnRemove block.remove ≡ Ok remove →
     (let p : BlockProgram = record { masks = masks; handlers = handlers; methods = methods; exception = exception; rolled_back = rolled_back; remove = remove } in p) ≡ one → script_in one which ≡ Some steps → Script all steps
 script_by all n block handlers methods exception rolled_back remove masks one (part.On place) steps e c d r is h =

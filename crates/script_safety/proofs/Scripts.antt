@@ -11,7 +11,7 @@ use Rattle.script_tree.specs.declared.tree.Over.TheVariants as over
 use Rattle.script_tree.specs.Tree as tree
 use Rattle.script_tree.specs.Tree.{Bytes, Expression, Statement, Statements, OnEntities}
 use Rattle.script_types.specs.declared.misuse.CheckBad.TheVariants as bad
-use Rattle.script_types.specs.Codes.{relation_named}
+use Rattle.script_types.specs.Codes.{symbol_of, relation_named}
 use Rattle.script_types.specs.TypingResult.{Checked, tested, known}
 use Rattle.script_types.specs.TypingResult as checked
 use Rattle.script_types.specs.TypingExpressions.{not_on_remove}
@@ -103,10 +103,10 @@ children_safe : (m : Setting) (call : Calling) (s : typing.Setting) (scope : Sco
 children_safe m call s scope name relation before loop l at body inner st e h fits =
     let a = bind_ok (known before (relation_named relation s.block)) _ loop l in
     let local : expected.Variable = record { name = name; holds = expected.Child a.0.block } in
-    let is : (let one : Loop = record { scope = scope ++ local ∷ []; range = range.Children relation } in one) ≡ loop = ok_same _ loop a.2 in
+    let is : (let one : Loop = record { scope = scope ++ local ∷ []; range = range.Children (symbol_of s.codes relation) } in one) ≡ loop = ok_same _ loop a.2 in
     let same : loop.scope ≡ scope ++ local ∷ [] = ap (λ o. o.scope) (sym is) in
     subst (λ z. Safe m (Flows m (result_in s.role) scope) (act m call (p.For z inner.steps) st)) (ap (λ o. o.range) is)
-    (loop_safe m call (result_in s.role) s scope local (range.Children relation) at body inner st (over_children_safe m scope relation a.0.block st fits)
+    (loop_safe m call (result_in s.role) s scope local (range.Children (symbol_of s.codes relation)) at body inner st (over_children_safe m scope (symbol_of s.codes relation) a.0.block st fits)
     (subst (λ z. statements_made s z at body ≡ Ok inner) same e) (subst (λ z. GoodSteps m call (result_in s.role) z (statements_made s z at body)) same h))
 
 usage_safe : (m : Setting) (result : Option Kind) (scope : Scope) (name : Bytes) (n : ℤ) (st : State) → Sound m scope st → Safe m (Flows m result scope) (next (effect (ef.Usage m.me name n)) st)

@@ -19,7 +19,8 @@ use Rattle.script_types.specs.declared.misuse.CheckBad.TheVariants as bad
 use Rattle.script_types.specs.declared.codes.FieldCode.{FieldCode}
 use Rattle.script_types.specs.declared.codes.RelationCode.{RelationCode}
 use Rattle.script_types.specs.declared.step.Who.{Who}
-use Rattle.script_types.specs.Codes.{kind_in, any_event, declared_event, relation_named}
+use Rattle.script_types.specs.declared.symbol.Symbol.{Symbol}
+use Rattle.script_types.specs.Codes.{symbol_of, kind_in, any_event, declared_event, relation_named}
 use Rattle.script_types.specs.TypingResult.{Checked, tested, known}
 use Rattle.script_types.specs.TypingResult as checked
 use Rattle.script_types.specs.TypingExpressions.{Role, OnEvent, InMethod, OnException, OnRolledBack, OnRemove, not_on_remove}
@@ -81,10 +82,10 @@ assigning_good m call result s scope at (tree.Variable name x) = step_then m cal
     (safe_then m (Is m variable.kind scope) (Keeps m scope) (eval m term st) _ (eval_safe m scope variable.kind term st (asked_yields m s scope variable.kind (at + 2) x term g) fits)
     (λ y new r. assign_safe m scope name at variable y new e r.0 r.1))))
 assigning_good m call result s scope at (tree.Field name x) = step_then m call result scope (known (at + 2) (kind_in name s.block.fields)) _ (λ kind e. step_then m call result scope (asked_of s scope kind (at + 4) x) _ (λ term g. step_then m call result scope (not_on_remove s at) _ (λ _ _ st fits.
-    goes_on m result scope (doing.assigns m (p.Field name term)) st
+    goes_on m result scope (doing.assigns m (p.Field (symbol_of s.codes name) term)) st
     (safe_then m (Is m kind scope) (Keeps m scope) (eval m term st) _ (eval_safe m scope kind term st (asked_yields m s scope kind (at + 4) x term g) fits) (λ y new r. effect_safe m _ scope new r.1)))))
 assigning_good m call result s scope at (tree.Attribute x name y) = step_then m call result scope (asked_of s scope k.Activity (at + 2) x) _ (λ one e. step_then m call result scope (known (at + 3 + tokens_in x) (attribute_named name s.block)) _ (λ attribute _. step_then m call result scope (asked_of s scope attribute.kind (at + 6 + tokens_in x) y) _ (λ other g. step_then m call result scope (not_on_remove s at) _ (λ _ _ st fits.
-    goes_on m result scope (doing.assigns m (p.Attribute one attribute.key other)) st
+    goes_on m result scope (doing.assigns m (p.Attribute one (symbol_of s.codes attribute.key) other)) st
     (keep_then m (Keeps m scope) scope (doing.activity_of m one st) _ (activity_safe m scope one st (asked_yields m s scope k.Activity (at + 2) x one e) fits) (λ r new kept.
     safe_then m (Is m attribute.kind scope) (Keeps m scope) (eval m other new) _ (eval_safe m scope attribute.kind other new (asked_yields m s scope attribute.kind (at + 6 + tokens_in x) y other g) kept) (λ z newer held.
     keep_then m (Keeps m scope) scope (read.used m r newer) _ (used_safe m r scope newer held.1) (λ _ last kept. effect_safe m _ scope last kept))))))))
@@ -110,11 +111,11 @@ fields_safe m s scope declared given at (field ∷ more) terms done st e fits =
     (safe_then m (Is m a.0 scope) (Keeps m scope) (eval m c.0 st) _ (eval_safe m scope a.0 c.0 st (asked_yields m s scope a.0 (at + 2) field.1 c.0 c.1) fits)
     (λ x new r. fields_safe m s scope declared (field.0 ∷ given) (at + 3 + tokens_in field.1) more d.0 (doing.put_field (field.0, x) done) new d.1 r.1))
 
-mask_safe : (m : Setting) (scope : Scope) (event : Bytes) (on : Bool) (term : Term) (st : State) → Yields m scope k.Activity term → Sound m scope st → Safe m (Keeps m scope) (doing.on_activities m (p.Mask event on term) st)
+mask_safe : (m : Setting) (scope : Scope) (event : Symbol Bytes) (on : Bool) (term : Term) (st : State) → Yields m scope k.Activity term → Sound m scope st → Safe m (Keeps m scope) (doing.on_activities m (p.Mask event on term) st)
 mask_safe m scope event on term st h fits =
     keep_then m (Keeps m scope) scope (doing.activity_of m term st) _ (activity_safe m scope term st h fits) (λ r st fits.
     keep_then m (Keeps m scope) scope (read.used m r st) _ (used_safe m r scope st fits) (λ _ st fits.
-    keep_then m (Keeps m scope) scope (read.attached m r st) _ (attached_safe m r scope st fits) (λ b st fits. safe_tested m (Keeps m scope) f.Detached b (effect (ef.SetMask m.me r event on)) st fits.1 (effect_safe m (ef.SetMask m.me r event on) scope st fits))))
+    keep_then m (Keeps m scope) scope (read.attached m r st) _ (attached_safe m r scope st fits) (λ b st fits. safe_tested m (Keeps m scope) f.Detached b (effect (ef.SetMask m.me r event.name on)) st fits.1 (effect_safe m (ef.SetMask m.me r event.name on) scope st fits))))
 
 pub on_activities_good : (m : Setting) (call : Calling) (result : Option Kind) (s : typing.Setting) (scope : Scope) (at : ℕ) (x : OnActivities) → GoodStep m call result scope (on_activities_of s scope at x)
 on_activities_good m call result s scope at (tree.Attach someone x) = step_then m call result scope (who_of scope (at + 1) someone) _ (λ who d. step_then m call result scope (asked_of s scope k.Activity (at + 3) x) _ (λ term e. step_then m call result scope (not_on_remove s at) _ (λ _ _ st fits.
@@ -128,9 +129,9 @@ on_activities_good m call result s scope at (tree.Detach someone x) = step_then 
     keep_then m (Keeps m scope) scope (doing.activity_of m term st) _ (activity_safe m scope term st (asked_yields m s scope k.Activity (at + 3) x term e) fits) (λ r st fits.
     keep_then m (Keeps m scope) scope (read.used m r st) _ (used_safe m r scope st fits) (λ _ st fits. effect_safe m _ scope st fits)))))))
 on_activities_good m call result s scope at (tree.Mask event x) = step_then m call result scope (known (at + 1) (any_event event s.codes)) _ (λ _ _. step_then m call result scope (asked_of s scope k.Activity (at + 3) x) _ (λ term e. step_then m call result scope (not_on_remove s at) _ (λ _ _ st fits.
-    goes_on m result scope (doing.on_activities m (p.Mask event true term)) st (mask_safe m scope event true term st (asked_yields m s scope k.Activity (at + 3) x term e) fits))))
+    goes_on m result scope (doing.on_activities m (p.Mask (symbol_of s.codes event) true term)) st (mask_safe m scope (symbol_of s.codes event) true term st (asked_yields m s scope k.Activity (at + 3) x term e) fits))))
 on_activities_good m call result s scope at (tree.Unmask event x) = step_then m call result scope (known (at + 1) (any_event event s.codes)) _ (λ _ _. step_then m call result scope (asked_of s scope k.Activity (at + 3) x) _ (λ term e. step_then m call result scope (not_on_remove s at) _ (λ _ _ st fits.
-    goes_on m result scope (doing.on_activities m (p.Mask event false term)) st (mask_safe m scope event false term st (asked_yields m s scope k.Activity (at + 3) x term e) fits))))
+    goes_on m result scope (doing.on_activities m (p.Mask (symbol_of s.codes event) false term)) st (mask_safe m scope (symbol_of s.codes event) false term st (asked_yields m s scope k.Activity (at + 3) x term e) fits))))
 on_activities_good m call result s scope at (tree.Fire name x service fields) = step_then m call result scope (known (at + 1) (declared_event name s.codes)) _ (λ event _. step_then m call result scope (asked_of s scope k.Activity (at + 3) x) _ (λ term e. step_then m call result scope (check_service s (at + 4 + tokens_in x) service) _ (λ _ _.
     step_then m call result scope (fields_of s scope event.fields [] (at + 4 + tokens_in x + tokens_in_tail service) fields) _ (λ terms g. step_then m call result scope (tested bad.Count (at + 1) (are_all_given event.fields (map (λ f. f.0) fields))) _ (λ _ _. step_then m call result scope (not_on_remove s at) _ (λ _ _ st fits.
     goes_on m result scope (doing.on_activities m (p.Fire name term service terms)) st
@@ -156,7 +157,7 @@ rank_of_safe m s scope relation at (Some x) rank st e fits =
 
 pub create_good : (m : Setting) (call : Calling) (result : Option Kind) (s : typing.Setting) (scope : Scope) (at : ℕ) (name child : Bytes) (priority : Option Expression) → GoodStep m call result scope (on_entities_of s scope at (tree.Create name child priority))
 create_good m call result s scope at name child priority = step_then m call result scope (known (at + 1) (relation_named name s.block)) _ (λ relation _. step_then m call result scope (check_new scope child (at + 3)) _ (λ _ _. step_then m call result scope (rank_of s scope relation (at + 5) priority) _ (λ rank e. step_then m call result scope (not_on_remove s at) _ (λ _ _ st fits.
-    goes_on m result (with_child scope child relation.block) (doing.on_entities m (p.Create name rank)) st
+    goes_on m result (with_child scope child relation.block) (doing.on_entities m (p.Create (symbol_of s.codes name) rank)) st
     (keep_then m (Keeps m (with_child scope child relation.block)) scope (doing.rank_of m rank st) _ (rank_of_safe m s scope relation (at + 5) priority rank st e fits) (λ n st fits.
     keep_then m (Keeps m (with_child scope child relation.block)) scope (effect (ef.Create m.me name n) st) _ (effect_safe m (ef.Create m.me name n) scope st fits) (λ _ new kept. declare_safe m scope (record { name = child; holds = expected.Child relation.block }) (Child _) new refl kept)))))))
 
