@@ -23,7 +23,7 @@ program_of stage = map block_program_of stage.blocks.now
 
 -- whose scripts are all tidy
 abbrev pub IsTidyStage : Stage → Type 0
-IsTidyStage stage = IsTidyProgram (program_of stage)
+IsTidyStage stage = IsTidyProgram stage.scene.names.now (program_of stage)
 
 unfoldable pub act_in : Stage → ℕ → Step → Run Flow
 act_in stage depth step = act (given stage) (call_at (given stage) (program_of stage) depth) step

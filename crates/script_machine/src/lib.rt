@@ -11,6 +11,7 @@ mod keys;
 mod kinds;
 mod lent;
 mod machine;
+mod numbering;
 mod observing;
 mod operators;
 mod places;
@@ -32,7 +33,8 @@ pub use kinds::{
 };
 pub use lent::{Lent, initial, is_of};
 pub use machine::{Machine, UNIT_LIMIT};
-pub use observing::{KEY_LIMIT, Looked};
+pub use numbering::{AnswerNumbers, NumberedName, is_same_name, number_of_effect, number_of_key};
+pub use observing::{KEY_LIMIT, Looked, NewKey};
 pub use places::{Place, set_at};
 pub use scalars::Scalar;
 pub use scene::Scene;

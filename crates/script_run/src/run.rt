@@ -84,7 +84,7 @@ fn went_through(alloc: Global, finished: Finished) -> Result<Run, Unfinished>
 /// Runs steps from their start.
 fn run_steps(alloc: Global, stage: &Stage, steps: &[Step]) -> Result<Run, Unfinished>
     requires stage { IsTidyStage stage.now }
-    requires steps { AreTidy (steps_of steps.now) }
+    requires steps { AreTidy stage.now.scene.names.now (steps_of steps.now) }
     ensures { Means (report (all_in stage.now 8 (steps_of steps.now) start)) result }
 {
     let mut machine = Machine::new(alloc);
@@ -113,7 +113,7 @@ pub fn run_in(
     before: &Before,
     known: &Known,
 ) -> Result<Run, Unfinished>
-    requires tidy { IsTidyProgram (map block_program_of blocks.now) }
+    requires tidy { IsTidyProgram names.now (map block_program_of blocks.now) }
     requires effects { length before.now.effects ≤ effect_limit }
     ensures { Means (meaning (kept known.now) (map block_program_of blocks.now) which me arguments.now (before_of before.now)) result }
 {
