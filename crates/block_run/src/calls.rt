@@ -5,7 +5,7 @@ ghost use Rattle.std.specs.List.{AllByRecursion};
 ghost use Rattle.script_types.specs.ProgramOf.{term_of, block_program_of};
 ghost use Rattle.handler_meaning.specs.Steps.{arguments_of, next};
 ghost use Rattle.handler_meaning.specs.Calls.{keep_result, setting_in};
-ghost use Rattle.script_types.specs.Numbers.{IsNumberedTerm};
+ghost use Rattle.script_types.specs.Numbers.{IsNumbered, IsNumberedTerm};
 ghost use Rattle.script_machine.specs.Agreeing.{AgreesAs};
 ghost use Rattle.script_machine.specs.Settings.{setting_of};
 ghost use Rattle.step_run.specs.Flows.{flow_of};

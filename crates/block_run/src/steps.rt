@@ -5,7 +5,7 @@ ghost use Rattle.script_types.specs.ProgramOf.{term_of, step_of, steps_of, call_
 ghost use Rattle.handler_meaning.specs.Running.{ticked, scoped};
 ghost use Rattle.handler_meaning.specs.Terms.{eval};
 ghost use Rattle.handler_meaning.specs.Steps.{repeat, walk};
-ghost use Rattle.script_types.specs.Numbers.{IsNumberedRange, IsNumberedTerm};
+ghost use Rattle.script_types.specs.Numbers.{AreNumberedSteps, IsNumberedRange, IsNumberedStep, IsNumberedTerm};
 ghost use Rattle.script_machine.specs.Agreeing.{AgreesAs};
 ghost use Rattle.step_run.specs.Flows.{flow_of};
 ghost use Rattle.block_run.specs.Tidy.{IsTidy, AreTidy};
@@ -28,7 +28,8 @@ use step_run::{Flow, do_saying};
 fn act(machine: &mut Machine, stage: &Stage, depth: u32, step: &Step) -> Result<Flow, Stop>
     requires names { machine.old.names ≡ stage.now.scene.names.now }
     requires stage { IsTidyStage stage.now }
-    requires step { IsTidy stage.now.scene.names.now (step_of step.now) }
+    requires step { IsTidy (step_of step.now) }
+    requires numbered { IsNumberedStep stage.now.scene.names.now (step_of step.now) }
     ensures agrees { AgreesAs flow_of (act_in stage.now depth (step_of step.now)) machine.old machine.new result }
     ensures spent { machine.new.left ≤ machine.old.left }
     ensures names { machine.new.names ≡ machine.old.names }
@@ -51,7 +52,8 @@ fn act(machine: &mut Machine, stage: &Stage, depth: u32, step: &Step) -> Result<
 fn do_step(machine: &mut Machine, stage: &Stage, depth: u32, step: &Step) -> Result<Flow, Stop>
     requires names { machine.old.names ≡ stage.now.scene.names.now }
     requires stage { IsTidyStage stage.now }
-    requires step { IsTidy stage.now.scene.names.now (step_of step.now) }
+    requires step { IsTidy (step_of step.now) }
+    requires numbered { IsNumberedStep stage.now.scene.names.now (step_of step.now) }
     ensures agrees { AgreesAs flow_of (ticked (act_in stage.now depth (step_of step.now))) machine.old machine.new result }
     ensures spent { machine.new.left ≤ machine.old.left }
     ensures names { machine.new.names ≡ machine.old.names }
@@ -65,7 +67,8 @@ fn do_step(machine: &mut Machine, stage: &Stage, depth: u32, step: &Step) -> Res
 pub fn do_all(machine: &mut Machine, stage: &Stage, depth: u32, body: &[Step]) -> Result<Flow, Stop>
     requires names { machine.old.names ≡ stage.now.scene.names.now }
     requires stage { IsTidyStage stage.now }
-    requires body { AreTidy stage.now.scene.names.now (steps_of body.now) }
+    requires body { AreTidy (steps_of body.now) }
+    requires numbered { AreNumberedSteps stage.now.scene.names.now (steps_of body.now) }
     ensures agrees { AgreesAs flow_of (all_in stage.now depth (steps_of body.now)) machine.old machine.new result }
     ensures spent { machine.new.left ≤ machine.old.left }
     ensures names { machine.new.names ≡ machine.old.names }
@@ -84,7 +87,8 @@ pub fn do_all(machine: &mut Machine, stage: &Stage, depth: u32, body: &[Step]) -
 fn do_block(machine: &mut Machine, stage: &Stage, depth: u32, body: &[Step]) -> Result<Flow, Stop>
     requires names { machine.old.names ≡ stage.now.scene.names.now }
     requires stage { IsTidyStage stage.now }
-    requires body { AreTidy stage.now.scene.names.now (steps_of body.now) }
+    requires body { AreTidy (steps_of body.now) }
+    requires numbered { AreNumberedSteps stage.now.scene.names.now (steps_of body.now) }
     ensures agrees { AgreesAs flow_of (scoped (all_in stage.now depth (steps_of body.now))) machine.old machine.new result }
     ensures spent { machine.new.left ≤ machine.old.left }
     ensures names { machine.new.names ≡ machine.old.names }
@@ -108,8 +112,10 @@ fn do_if(
     requires names { machine.old.names ≡ stage.now.scene.names.now }
     requires test { IsNumberedTerm stage.now.scene.names.now (term_of test.now) }
     requires stage { IsTidyStage stage.now }
-    requires body { AreTidy stage.now.scene.names.now (steps_of body.now) }
-    requires other { AreTidy stage.now.scene.names.now (steps_of other.now) }
+    requires body { AreTidy (steps_of body.now) }
+    requires numbered { AreNumberedSteps stage.now.scene.names.now (steps_of body.now) }
+    requires other { AreTidy (steps_of other.now) }
+    requires numbered_other { AreNumberedSteps stage.now.scene.names.now (steps_of other.now) }
     ensures agrees { AgreesAs flow_of (branched (eval (given stage.now) (term_of test.now)) (all_in stage.now depth (steps_of body.now)) (all_in stage.now depth (steps_of other.now))) machine.old machine.new result }
     ensures spent { machine.new.left ≤ machine.old.left }
     ensures names { machine.new.names ≡ machine.old.names }
@@ -132,7 +138,8 @@ fn repeat(
     requires names { machine.old.names ≡ stage.now.scene.names.now }
     requires test { IsNumberedTerm stage.now.scene.names.now (term_of test.now) }
     requires stage { IsTidyStage stage.now }
-    requires body { AreTidy stage.now.scene.names.now (steps_of body.now) }
+    requires body { AreTidy (steps_of body.now) }
+    requires numbered { AreNumberedSteps stage.now.scene.names.now (steps_of body.now) }
     ensures agrees { AgreesAs flow_of (repeat (eval (given stage.now) (term_of test.now)) (scoped (all_in stage.now depth (steps_of body.now)))) machine.old machine.new result }
     ensures spent { machine.new.left ≤ machine.old.left }
     ensures names { machine.new.names ≡ machine.old.names }
@@ -162,7 +169,8 @@ fn do_for(
     requires names { machine.old.names ≡ stage.now.scene.names.now }
     requires range { IsNumberedRange stage.now.scene.names.now range.now }
     requires stage { IsTidyStage stage.now }
-    requires body { AreTidy stage.now.scene.names.now (steps_of body.now) }
+    requires body { AreTidy (steps_of body.now) }
+    requires numbered { AreNumberedSteps stage.now.scene.names.now (steps_of body.now) }
     ensures agrees { AgreesAs flow_of (goes_over stage.now depth range.now (steps_of body.now)) machine.old machine.new result }
     ensures spent { machine.new.left ≤ machine.old.left }
     ensures names { machine.new.names ≡ machine.old.names }
@@ -184,7 +192,8 @@ fn do_walk(
     requires names { machine.old.names ≡ stage.now.scene.names.now }
     requires range { IsNumberedRange stage.now.scene.names.now range.now }
     requires stage { IsTidyStage stage.now }
-    requires body { AreTidy stage.now.scene.names.now (steps_of body.now) }
+    requires body { AreTidy (steps_of body.now) }
+    requires numbered { AreNumberedSteps stage.now.scene.names.now (steps_of body.now) }
     ensures agrees { AgreesAs flow_of (walk (map (variable_in range.now) items.now) (all_in stage.now depth (steps_of body.now))) machine.old machine.new result }
     ensures spent { machine.new.left ≤ machine.old.left }
     ensures names { machine.new.names ≡ machine.old.names }
@@ -209,7 +218,8 @@ fn do_turn(
 ) -> Result<Flow, Stop>
     requires names { machine.old.names ≡ stage.now.scene.names.now }
     requires stage { IsTidyStage stage.now }
-    requires body { AreTidy stage.now.scene.names.now (steps_of body.now) }
+    requires body { AreTidy (steps_of body.now) }
+    requires numbered { AreNumberedSteps stage.now.scene.names.now (steps_of body.now) }
     ensures agrees { AgreesAs flow_of (turned variable (all_in stage.now depth (steps_of body.now))) machine.old machine.new result }
     ensures spent { machine.new.left ≤ machine.old.left }
     ensures names { machine.new.names ≡ machine.old.names }

@@ -12,6 +12,7 @@ mod kinds;
 mod lent;
 mod machine;
 mod numbering;
+mod numbers;
 mod observing;
 mod operators;
 mod places;
@@ -33,7 +34,8 @@ pub use kinds::{
 };
 pub use lent::{Lent, initial, is_of};
 pub use machine::{Machine, UNIT_LIMIT};
-pub use numbering::{AnswerNumbers, NumberedName, is_same_name, number_of_effect, number_of_key};
+pub use numbering::{AnswerNumbers, NumberedName, is_same_name};
+pub use numbers::{numbers_of_answers, numbers_of_effects, numbers_of_keys};
 pub use observing::{KEY_LIMIT, Looked, NewKey};
 pub use places::{Place, set_at};
 pub use scalars::Scalar;
