@@ -13,6 +13,7 @@ use Rattle.handler_meaning.specs.Calls.{apart, keep_result, setting_in, call_at}
 use Rattle.script_machine.specs.Settings.{setting_of}
 use Rattle.block_run.specs.declared.stage.Stage.{Stage}
 use Rattle.block_run.specs.Loops.{holding}
+use Rattle.script_types.specs.Numbers.{IsNumberedProgram}
 use Rattle.block_run.specs.Tidy.{IsTidyProgram}
 
 abbrev pub given : Stage → Setting
@@ -21,9 +22,9 @@ given stage = setting_of stage.scene
 abbrev pub program_of : Stage → Program
 program_of stage = map block_program_of stage.blocks.now
 
--- whose scripts are all tidy
+-- whose scripts are all tidy, and whose names have their numbers
 abbrev pub IsTidyStage : Stage → Type 0
-IsTidyStage stage = IsTidyProgram (program_of stage)
+IsTidyStage stage = IsTidyProgram (program_of stage) × IsNumberedProgram stage.scene.names.now (program_of stage)
 
 unfoldable pub act_in : Stage → ℕ → Step → Run Flow
 act_in stage depth step = act (given stage) (call_at (given stage) (program_of stage) depth) step

@@ -1,9 +1,11 @@
 //! What stands before a method of a child and behind it: the arguments, the method itself, and its result.
 ghost use Rattle.std.specs.Prelude.{◌≡◌, ◌≤◌, ◌<◌, slice_get, map, OnOk};
 ghost use Rattle.std.specs.Option.{option_copied};
+ghost use Rattle.std.specs.List.{AllByRecursion};
 ghost use Rattle.script_types.specs.ProgramOf.{term_of, block_program_of};
 ghost use Rattle.handler_meaning.specs.Steps.{arguments_of, next};
 ghost use Rattle.handler_meaning.specs.Calls.{keep_result, setting_in};
+ghost use Rattle.script_types.specs.Numbers.{IsNumbered, IsNumberedTerm};
 ghost use Rattle.script_machine.specs.Agreeing.{AgreesAs};
 ghost use Rattle.script_machine.specs.Settings.{setting_of};
 ghost use Rattle.step_run.specs.Flows.{flow_of};
@@ -40,8 +42,11 @@ pub(crate) fn eval_arguments(
     scene: &Scene,
     terms: &[Term],
 ) -> Result<Vec<Variable>, Stop>
+    requires names { machine.old.names ≡ scene.now.names.now }
+    requires terms { AllByRecursion (IsNumberedTerm scene.now.names.now) (map term_of terms.now) }
     ensures agrees { AgreesAs (λ v. v.items) (holding (arguments_of (setting_of scene.now) (map term_of terms.now))) machine.old machine.new result }
     ensures spent { machine.new.left ≤ machine.old.left }
+    ensures names { machine.new.names ≡ machine.old.names }
 {
     let mut arguments = Vec::new(scene.alloc);
     'terms: for term in terms {
@@ -58,9 +63,12 @@ pub(crate) fn prepare(
     depth: u32,
     call: &Call,
 ) -> Result<(Ref, Vec<Variable>), Stop>
+    requires names { machine.old.names ≡ scene.now.names.now }
+    requires call { AllByRecursion (IsNumberedTerm scene.now.names.now) (call_of call.now).arguments }
     ensures agrees { AgreesAs (λ x. (x.0, x.1.items)) (prepares (setting_of scene.now) depth call.now) machine.old machine.new result }
     ensures deep { OnOk result (0 < depth) }
     ensures spent { machine.new.left ≤ machine.old.left }
+    ensures names { machine.new.names ≡ machine.old.names }
 {
     let child = machine.child(scene, call.child)?;
     let arguments = eval_arguments(machine, scene, &call.arguments)?;
@@ -72,6 +80,7 @@ pub(crate) fn prepare(
 
 /// The stage for a child of this block.
 pub(crate) fn stage_for<'a>(stage: &Stage<'a>, block: &'a BlockSteps, child: Ref) -> Stage<'a>
+    requires masks { AllByRecursion (IsNumbered stage.now.scene.names.now) block.now.masks }
     ensures given { given result ≡ setting_in (given stage.now) (block_program_of block.now) child }
     ensures program { program_of result ≡ program_of stage.now }
 {
@@ -79,9 +88,13 @@ pub(crate) fn stage_for<'a>(stage: &Stage<'a>, block: &'a BlockSteps, child: Ref
     Stage {
         scene: Scene {
             alloc: scene.alloc,
+            names: scene.names,
             known: scene.known,
+            known_numbers: scene.known_numbers,
             effects: scene.effects,
+            effect_numbers: scene.effect_numbers,
             keys: scene.keys,
+            key_numbers: scene.key_numbers,
             arguments: scene.arguments,
             me: child,
             masks: block.masks.as_slice(),
@@ -100,6 +113,7 @@ pub(crate) fn keep_result(
 ) -> Result<Flow, Stop>
     ensures agrees { AgreesAs flow_of (next (keep_result keeps (flow_of flow) kind)) machine.old machine.new result }
     ensures spent { machine.new.left ≤ machine.old.left }
+    ensures names { machine.new.names ≡ machine.old.names }
 {
     if !keeps {
         return Ok(Flow::Next);

@@ -2,6 +2,7 @@
 ghost use Rattle.std.specs.Prelude.{◌≡◌, ◌≤◌};
 ghost use Rattle.script_types.specs.ProgramOf.{term_of};
 ghost use Rattle.handler_meaning.specs.Terms.{eval};
+ghost use Rattle.script_types.specs.Numbers.{IsNumberedTerm};
 ghost use Rattle.script_machine.specs.Agreeing.{Agrees};
 ghost use Rattle.script_machine.specs.Settings.{setting_of};
 ghost use Rattle.block_run.specs.Loops.{flag_in};
@@ -13,8 +14,11 @@ use term_run::eval_truth;
 /// What a term gives that is a truth value.
 #[tactic(auto, using(script_machine::proofs::KindLemmas::no_flag_stays))]
 pub(crate) fn eval_flag(machine: &mut Machine, scene: &Scene, term: &Term) -> Result<bool, Stop>
+    requires names { machine.old.names ≡ scene.now.names.now }
+    requires term { IsNumberedTerm scene.now.names.now (term_of term.now) }
     ensures agrees { Agrees (flag_in (eval (setting_of scene.now) (term_of term.now))) machine.old machine.new result }
     ensures spent { machine.new.left ≤ machine.old.left }
+    ensures names { machine.new.names ≡ machine.old.names }
 {
     match eval_truth(machine, scene, term)? {
         Some(flag) => Ok(flag),

@@ -1,6 +1,7 @@
 //! What loops go over.
 ghost use Rattle.std.specs.Prelude.{◌≡◌, ◌≤◌, map};
 ghost use Rattle.handler_meaning.specs.Steps.{items};
+ghost use Rattle.script_types.specs.Numbers.{IsNumberedRange};
 ghost use Rattle.script_machine.specs.Agreeing.{AgreesAs};
 ghost use Rattle.script_machine.specs.Settings.{setting_of};
 ghost use Rattle.block_run.specs.Loops.{variable_in};
@@ -23,8 +24,11 @@ pub fn loop_variable(range: &Range, item: Ref) -> Variable
 
 /// What a loop goes over, as it is when the loop begins.
 pub fn read_items(machine: &mut Machine, scene: &Scene, range: &Range) -> Result<Vec<Ref>, Stop>
+    requires names { machine.old.names ≡ scene.now.names.now }
+    requires range { IsNumberedRange scene.now.names.now range.now }
     ensures agrees { AgreesAs (λ v. map (variable_in range.now) v.items) (items (setting_of scene.now) range.now) machine.old machine.new result }
     ensures spent { machine.new.left ≤ machine.old.left }
+    ensures names { machine.new.names ≡ machine.old.names }
 {
     match range {
         Range::Activities => attached_activities(machine, scene),

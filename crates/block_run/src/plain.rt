@@ -3,6 +3,7 @@ ghost use Rattle.std.specs.Prelude.{◌≡◌, ◌≤◌};
 ghost use Rattle.script_types.specs.ProgramOf.{assigning_of, on_entities_of, on_activities_of, on_timers_of};
 ghost use Rattle.handler_meaning.specs.Doing.{assigns, on_entities, on_activities, on_timers};
 ghost use Rattle.handler_meaning.specs.Steps.{next};
+ghost use Rattle.script_types.specs.Numbers.{IsNumberedAssigning, IsNumberedOnActivities, IsNumberedOnEntities, IsNumberedOnTimers};
 ghost use Rattle.script_machine.specs.Agreeing.{AgreesAs};
 ghost use Rattle.script_machine.specs.Settings.{setting_of};
 ghost use Rattle.step_run.specs.Flows.{flow_of};
@@ -14,8 +15,11 @@ use step_run::{Flow, do_assigning, do_on_activities, do_on_entities, do_on_timer
 
 /// A step that gives a value to something, and then the next one.
 pub(crate) fn assign(machine: &mut Machine, scene: &Scene, step: &Assigning) -> Result<Flow, Stop>
+    requires names { machine.old.names ≡ scene.now.names.now }
+    requires step { IsNumberedAssigning scene.now.names.now (assigning_of step.now) }
     ensures agrees { AgreesAs flow_of (next (assigns (setting_of scene.now) (assigning_of step.now))) machine.old machine.new result }
     ensures spent { machine.new.left ≤ machine.old.left }
+    ensures names { machine.new.names ≡ machine.old.names }
 {
     do_assigning(machine, scene, step)?;
     Ok(Flow::Next)
@@ -27,8 +31,11 @@ pub(crate) fn act_on_entities(
     scene: &Scene,
     step: &OnEntities,
 ) -> Result<Flow, Stop>
+    requires names { machine.old.names ≡ scene.now.names.now }
+    requires step { IsNumberedOnEntities scene.now.names.now (on_entities_of step.now) }
     ensures agrees { AgreesAs flow_of (next (on_entities (setting_of scene.now) (on_entities_of step.now))) machine.old machine.new result }
     ensures spent { machine.new.left ≤ machine.old.left }
+    ensures names { machine.new.names ≡ machine.old.names }
 {
     do_on_entities(machine, scene, step)?;
     Ok(Flow::Next)
@@ -40,9 +47,12 @@ pub(crate) fn act_on_activities(
     scene: &Scene,
     step: &OnActivities,
 ) -> Result<Flow, Stop>
+    requires names { machine.old.names ≡ scene.now.names.now }
+    requires step { IsNumberedOnActivities scene.now.names.now (on_activities_of step.now) }
     requires { FiresOnce (on_activities_of step.now) }
     ensures agrees { AgreesAs flow_of (next (on_activities (setting_of scene.now) (on_activities_of step.now))) machine.old machine.new result }
     ensures spent { machine.new.left ≤ machine.old.left }
+    ensures names { machine.new.names ≡ machine.old.names }
 {
     do_on_activities(machine, scene, step)?;
     Ok(Flow::Next)
@@ -54,8 +64,11 @@ pub(crate) fn act_on_timers(
     scene: &Scene,
     step: &OnTimers,
 ) -> Result<Flow, Stop>
+    requires names { machine.old.names ≡ scene.now.names.now }
+    requires step { IsNumberedOnTimers scene.now.names.now (on_timers_of step.now) }
     ensures agrees { AgreesAs flow_of (next (on_timers (setting_of scene.now) (on_timers_of step.now))) machine.old machine.new result }
     ensures spent { machine.new.left ≤ machine.old.left }
+    ensures names { machine.new.names ≡ machine.old.names }
 {
     do_on_timers(machine, scene, step)?;
     Ok(Flow::Next)

@@ -1,9 +1,11 @@
 //! Steps one behind another, with blocks, loops and calls. A step's unit is spent when it begins.
 ghost use Rattle.std.specs.Prelude.{◌≡◌, ◌≤◌, map};
+ghost use Rattle.std.specs.List.{AllByRecursion};
 ghost use Rattle.script_types.specs.ProgramOf.{term_of, step_of, steps_of, call_of};
 ghost use Rattle.handler_meaning.specs.Running.{ticked, scoped};
 ghost use Rattle.handler_meaning.specs.Terms.{eval};
 ghost use Rattle.handler_meaning.specs.Steps.{repeat, walk};
+ghost use Rattle.script_types.specs.Numbers.{AreNumberedSteps, IsNumberedRange, IsNumberedStep, IsNumberedTerm};
 ghost use Rattle.script_machine.specs.Agreeing.{AgreesAs};
 ghost use Rattle.step_run.specs.Flows.{flow_of};
 ghost use Rattle.block_run.specs.Tidy.{IsTidy, AreTidy};
@@ -24,10 +26,13 @@ use step_run::{Flow, do_saying};
 /// What a step does, behind its unit.
 #[cycle(steps)]
 fn act(machine: &mut Machine, stage: &Stage, depth: u32, step: &Step) -> Result<Flow, Stop>
+    requires names { machine.old.names ≡ stage.now.scene.names.now }
     requires stage { IsTidyStage stage.now }
     requires step { IsTidy (step_of step.now) }
+    requires numbered { IsNumberedStep stage.now.scene.names.now (step_of step.now) }
     ensures agrees { AgreesAs flow_of (act_in stage.now depth (step_of step.now)) machine.old machine.new result }
     ensures spent { machine.new.left ≤ machine.old.left }
+    ensures names { machine.new.names ≡ machine.old.names }
 {
     match step {
         Step::Assign(x) => assign(machine, &stage.scene, x),
@@ -45,10 +50,13 @@ fn act(machine: &mut Machine, stage: &Stage, depth: u32, step: &Step) -> Result<
 /// A step.
 #[cycle(steps)]
 fn do_step(machine: &mut Machine, stage: &Stage, depth: u32, step: &Step) -> Result<Flow, Stop>
+    requires names { machine.old.names ≡ stage.now.scene.names.now }
     requires stage { IsTidyStage stage.now }
     requires step { IsTidy (step_of step.now) }
+    requires numbered { IsNumberedStep stage.now.scene.names.now (step_of step.now) }
     ensures agrees { AgreesAs flow_of (ticked (act_in stage.now depth (step_of step.now))) machine.old machine.new result }
     ensures spent { machine.new.left ≤ machine.old.left }
+    ensures names { machine.new.names ≡ machine.old.names }
 {
     machine.tick()?;
     act(machine, stage, depth, step)
@@ -57,10 +65,13 @@ fn do_step(machine: &mut Machine, stage: &Stage, depth: u32, step: &Step) -> Res
 /// Steps one behind another.
 #[cycle(steps)]
 pub fn do_all(machine: &mut Machine, stage: &Stage, depth: u32, body: &[Step]) -> Result<Flow, Stop>
+    requires names { machine.old.names ≡ stage.now.scene.names.now }
     requires stage { IsTidyStage stage.now }
     requires body { AreTidy (steps_of body.now) }
+    requires numbered { AreNumberedSteps stage.now.scene.names.now (steps_of body.now) }
     ensures agrees { AgreesAs flow_of (all_in stage.now depth (steps_of body.now)) machine.old machine.new result }
     ensures spent { machine.new.left ≤ machine.old.left }
+    ensures names { machine.new.names ≡ machine.old.names }
 {
     'steps: for step in body {
         match do_step(machine, stage, depth, step)? {
@@ -74,10 +85,13 @@ pub fn do_all(machine: &mut Machine, stage: &Stage, depth: u32, body: &[Step]) -
 /// A block, whose variables are forgotten behind it.
 #[cycle(steps)]
 fn do_block(machine: &mut Machine, stage: &Stage, depth: u32, body: &[Step]) -> Result<Flow, Stop>
+    requires names { machine.old.names ≡ stage.now.scene.names.now }
     requires stage { IsTidyStage stage.now }
     requires body { AreTidy (steps_of body.now) }
+    requires numbered { AreNumberedSteps stage.now.scene.names.now (steps_of body.now) }
     ensures agrees { AgreesAs flow_of (scoped (all_in stage.now depth (steps_of body.now))) machine.old machine.new result }
     ensures spent { machine.new.left ≤ machine.old.left }
+    ensures names { machine.new.names ≡ machine.old.names }
 {
     let outer = machine.variable_count();
     let flow = do_all(machine, stage, depth, body)?;
@@ -95,11 +109,16 @@ fn do_if(
     other: &[Step],
     test: &Term,
 ) -> Result<Flow, Stop>
+    requires names { machine.old.names ≡ stage.now.scene.names.now }
+    requires test { IsNumberedTerm stage.now.scene.names.now (term_of test.now) }
     requires stage { IsTidyStage stage.now }
     requires body { AreTidy (steps_of body.now) }
+    requires numbered { AreNumberedSteps stage.now.scene.names.now (steps_of body.now) }
     requires other { AreTidy (steps_of other.now) }
+    requires numbered_other { AreNumberedSteps stage.now.scene.names.now (steps_of other.now) }
     ensures agrees { AgreesAs flow_of (branched (eval (given stage.now) (term_of test.now)) (all_in stage.now depth (steps_of body.now)) (all_in stage.now depth (steps_of other.now))) machine.old machine.new result }
     ensures spent { machine.new.left ≤ machine.old.left }
+    ensures names { machine.new.names ≡ machine.old.names }
 {
     if eval_flag(machine, &stage.scene, test)? {
         return do_block(machine, stage, depth, body);
@@ -116,10 +135,14 @@ fn repeat(
     body: &[Step],
     test: &Term,
 ) -> Result<Flow, Stop>
+    requires names { machine.old.names ≡ stage.now.scene.names.now }
+    requires test { IsNumberedTerm stage.now.scene.names.now (term_of test.now) }
     requires stage { IsTidyStage stage.now }
     requires body { AreTidy (steps_of body.now) }
+    requires numbered { AreNumberedSteps stage.now.scene.names.now (steps_of body.now) }
     ensures agrees { AgreesAs flow_of (repeat (eval (given stage.now) (term_of test.now)) (scoped (all_in stage.now depth (steps_of body.now)))) machine.old machine.new result }
     ensures spent { machine.new.left ≤ machine.old.left }
+    ensures names { machine.new.names ≡ machine.old.names }
 {
     let most = u64::from(machine.left()) + 1;
     'turns: for turn in 0..most {
@@ -143,10 +166,14 @@ fn do_for(
     body: &[Step],
     range: &Range,
 ) -> Result<Flow, Stop>
+    requires names { machine.old.names ≡ stage.now.scene.names.now }
+    requires range { IsNumberedRange stage.now.scene.names.now range.now }
     requires stage { IsTidyStage stage.now }
     requires body { AreTidy (steps_of body.now) }
+    requires numbered { AreNumberedSteps stage.now.scene.names.now (steps_of body.now) }
     ensures agrees { AgreesAs flow_of (goes_over stage.now depth range.now (steps_of body.now)) machine.old machine.new result }
     ensures spent { machine.new.left ≤ machine.old.left }
+    ensures names { machine.new.names ≡ machine.old.names }
 {
     let items = read_items(machine, &stage.scene, range)?;
     do_walk(machine, stage, depth, body, range, &items)
@@ -162,10 +189,14 @@ fn do_walk(
     range: &Range,
     items: &[Ref],
 ) -> Result<Flow, Stop>
+    requires names { machine.old.names ≡ stage.now.scene.names.now }
+    requires range { IsNumberedRange stage.now.scene.names.now range.now }
     requires stage { IsTidyStage stage.now }
     requires body { AreTidy (steps_of body.now) }
+    requires numbered { AreNumberedSteps stage.now.scene.names.now (steps_of body.now) }
     ensures agrees { AgreesAs flow_of (walk (map (variable_in range.now) items.now) (all_in stage.now depth (steps_of body.now))) machine.old machine.new result }
     ensures spent { machine.new.left ≤ machine.old.left }
+    ensures names { machine.new.names ≡ machine.old.names }
 {
     'items: for item in items {
         match do_turn(machine, stage, depth, body, loop_variable(range, *item))? {
@@ -185,10 +216,13 @@ fn do_turn(
     body: &[Step],
     variable: Variable,
 ) -> Result<Flow, Stop>
+    requires names { machine.old.names ≡ stage.now.scene.names.now }
     requires stage { IsTidyStage stage.now }
     requires body { AreTidy (steps_of body.now) }
+    requires numbered { AreNumberedSteps stage.now.scene.names.now (steps_of body.now) }
     ensures agrees { AgreesAs flow_of (turned variable (all_in stage.now depth (steps_of body.now))) machine.old machine.new result }
     ensures spent { machine.new.left ≤ machine.old.left }
+    ensures names { machine.new.names ≡ machine.old.names }
 {
     let outer = machine.variable_count();
     machine.declare(variable)?;
@@ -200,9 +234,12 @@ fn do_turn(
 /// `call NAME.NAME(e, e) as NAME;`
 #[cycle(steps)]
 fn do_call(machine: &mut Machine, stage: &Stage, depth: u32, call: &Call) -> Result<Flow, Stop>
+    requires names { machine.old.names ≡ stage.now.scene.names.now }
+    requires call { AllByRecursion (IsNumberedTerm stage.now.scene.names.now) (call_of call.now).arguments }
     requires stage { IsTidyStage stage.now }
     ensures agrees { AgreesAs flow_of (invokes stage.now depth (call_of call.now)) machine.old machine.new result }
     ensures spent { machine.new.left ≤ machine.old.left }
+    ensures names { machine.new.names ≡ machine.old.names }
 {
     let (child, arguments) = prepare(machine, &stage.scene, depth, call)?;
     enter(machine, stage, depth - 1, call, child, arguments)
@@ -218,9 +255,12 @@ fn enter(
     child: Ref,
     arguments: Vec<Variable>,
 ) -> Result<Flow, Stop>
+    requires names { machine.old.names ≡ stage.now.scene.names.now }
+    requires call { AllByRecursion (IsNumberedTerm stage.now.scene.names.now) (call_of call.now).arguments }
     requires stage { IsTidyStage stage.now }
     ensures agrees { AgreesAs flow_of (enters stage.now depth call.now child arguments.items) machine.old machine.new result }
     ensures spent { machine.new.left ≤ machine.old.left }
+    ensures names { machine.new.names ≡ machine.old.names }
 {
     let Some(block) = block_at(stage.blocks, call.block) else {
         return Err(Stop::Unchecked);

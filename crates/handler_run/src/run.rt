@@ -32,7 +32,8 @@ pub fn run_script(
     ensures { IfOk result (λ run. meaning_of_run run ≡ meaning (kept known.now) (kept_program codes.now) which me arguments.now (before_of before.now)) }
 {
     let blocks = codes.programs.as_slice();
-    match run_in(alloc, blocks, which, me, arguments, before, known) {
+    let names = &codes.names;
+    match run_in(alloc, names, blocks, which, me, arguments, before, known) {
         Ok(run) => Ok(run),
         Err(Unfinished::NoMemory) => Err(NoMemory),
         Err(Unfinished::Unchecked) => unreachable!(),

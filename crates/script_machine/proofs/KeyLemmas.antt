@@ -1,11 +1,12 @@
 -- Keys, names and numbers compared from either side.
-use Rattle.std.proofs.Common.{◌≡◌, ℕ, zero, suc, ◌==◌, List, [], ◌∷◌, Bool, true, false, ◌||◌, Option, Some, None, refl, sym, ap, ◌∙◌, arith}
+use Rattle.std.proofs.Common.{◌≡◌, ℕ, zero, suc, ◌==◌, List, [], ◌∷◌, Bool, true, false, ◌||◌, Option, Some, None, refl, sym, ap, ◌∙◌, arith, ◌<◌, length, map, get_or}
 use Rattle.std.specs.Prelude.{slice_get}
 use Rattle.std.specs.List.{list_any}
 use Rattle.handler_meaning.specs.declared.key.Key.{Key}
 use Rattle.handler_meaning.specs.Seeing.{same_key}
 use Rattle.std.specs.Str.{bytes_eq}
 use Rattle.std.proofs.lemmas.Slice.Eq.{bytes_eq-Decides}
+use Rattle.std.proofs.lemmas.List.{get_or-map}
 
 or_true : (b : Bool) → (b || true) ≡ true
 or_true true = refl
@@ -38,3 +39,11 @@ either_turned true true = refl
 either_turned true false = refl
 either_turned false true = refl
 either_turned false false = refl
+
+-- the number of what stands in a place stands in that place among the numbers
+pub number_there : {A B : Type 0} → (f : A → B) (xs : List A) (ns : List B) (i : ℕ) (x : A) (n : B) → ns ≡ map f xs → i < length xs → x ≡ get_or xs i x → n ≡ get_or ns i n → n ≡ f x
+number_there f xs ns i x n same within there number = number ∙ ap (λ zs. get_or zs i n) same ∙ get_or-map f xs i x n within ∙ ap f (sym there)
+
+-- what is the same of all of them is the same of the one in a place
+pub same_there : {A B : Type 0} → (f g : A → B) (xs : List A) (i : ℕ) (x : A) → map f xs ≡ map g xs → i < length xs → x ≡ get_or xs i x → f x ≡ g x
+same_there f g xs i x same within there = number_there g xs (map f xs) i x (f x) same within there (ap f there ∙ sym (get_or-map f xs i x (f x) within))

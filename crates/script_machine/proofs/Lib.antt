@@ -5,3 +5,4 @@ pub mod VariableLemmas
 pub mod EffectLemmas
 pub mod FlagLemmas
 pub mod FoundLemmas
+pub mod NamingLemmas

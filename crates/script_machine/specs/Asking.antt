@@ -1,9 +1,12 @@
 -- The key that is asked for by one whose names are lent.
-use Rattle.std.specs.Prelude.{◌≡◌, List, [], ◌∷◌, ◌++◌, Option, Some, None, Result, Ok, Err, box_value}
+use Rattle.std.specs.Prelude.{◌≡◌, ℕ, List, [], ◌∷◌, ◌++◌, Option, Some, None, Result, Ok, Err, box_value}
 use Rattle.std.specs.Option.{option_copied}
 use Rattle.handler_meaning.specs.declared.seen.Seen.{Seen}
 use Rattle.handler_meaning.specs.Running.{State, Ending, Gave, Run}
 use Rattle.script_machine.specs.Agreeing.{Stops}
+use Rattle.script_machine.specs.Machines.{MachineState, state_of}
+use Rattle.script_machine.specs.Numbering.{key_number, numbers_seen}
+use Rattle.script_machine.specs.declared.observing.NewKey.{NewKey}
 use Rattle.script_machine.specs.declared.observing.Looked.{Looked}
 use Rattle.handler_meaning.specs.declared.key.Key.{Key}
 use Rattle.handler_meaning.specs.declared.key.Key.TheVariants as k
@@ -13,18 +16,34 @@ use Rattle.script_machine.specs.declared.stop.Stop.{Stop}
 use Rattle.script_machine.specs.declared.stop.Stop.TheVariants as stop
 
 abbrev pub key_asked : Asked → Key
-key_asked (a.Field e name) = k.Field e name.now
-key_asked (a.Children e relation) = k.Children e relation.now
+key_asked (a.Field e name) = k.Field e name.now.name
+key_asked (a.Children e relation) = k.Children e relation.now.name
 key_asked (a.Priority e) = k.Priority e
 key_asked (a.AcState x) = k.AcState x
-key_asked (a.Attr x name) = k.Attr x name.now
+key_asked (a.Attr x name) = k.Attr x name.now.name
 key_asked (a.Attached e x) = k.Attached e x
 key_asked (a.Mask e x) = k.Mask e x
 key_asked (a.Named name) = k.Named name.now
 key_asked (a.Timer t) = k.Timer t
-key_asked (a.Profile table name) = k.Profile table.now name.now
+key_asked (a.Profile table name) = k.Profile table.now.name name.now
 key_asked a.Now = k.Now
 key_asked (a.Activities e) = k.Activities e
+
+-- the number of its name
+abbrev pub asked_number : Asked → Option ℕ
+asked_number (a.Field e name) = name.now.number
+asked_number (a.Children e relation) = relation.now.number
+asked_number (a.Attr x name) = name.now.number
+asked_number (a.Profile table name) = table.now.number
+asked_number _ = None
+
+-- it is that of the key's name
+abbrev pub IsNumberedAsked : List (List ℕ) → Asked → Type 0
+IsNumberedAsked names asked = asked_number asked ≡ key_number names (key_asked asked)
+
+abbrev pub AreNumberedAsked : List (List ℕ) → Option Asked → Type 0
+AreNumberedAsked names None = Unit {0}
+AreNumberedAsked names (Some asked) = IsNumberedAsked names asked
 
 -- a run stops for want of an answer to this key, or of memory
 abbrev pub Wants : Key → Stop → Type 0
@@ -41,7 +60,22 @@ with_key (Some key) st = record st { keys = st.keys ++ key ∷ [] }
 abbrev pub noted : Option Key → Option Seen → Run (Option Seen)
 noted key seen st = Gave seen (with_key key st)
 
--- what asking for a key gives, before it is counted
-abbrev pub Peeks : Ending (Option Seen) → State → Result Looked Stop → Type 0
-Peeks ending st (Ok looked) = ending ≡ noted looked.key (option_copied looked.seen) st
-Peeks ending st (Err e) = Stops ending st e
+-- the key of one that is new
+abbrev pub new_key : Option NewKey → Option Key
+new_key None = None
+new_key (Some x) = Some x.key
+
+-- a new key has the number of its name
+abbrev pub IsNumberedNew : List (List ℕ) → Option NewKey → Type 0
+IsNumberedNew names None = Unit {0}
+IsNumberedNew names (Some x) = x.number ≡ key_number names x.key
+
+-- what asking for a key gives, before it is counted: with the numbers of the names in it, and of that in a new key
+pub record Found (names : List (List ℕ)) (ending : Ending (Option Seen)) (st : MachineState) (looked : Looked) : Type 0 where
+  pub gives : ending ≡ noted (new_key looked.key) (option_copied looked.seen) (state_of st)
+  pub numbers : looked.numbers.now ≡ numbers_seen names (option_copied looked.seen)
+  pub new : IsNumberedNew names looked.key
+
+abbrev pub Peeks : List (List ℕ) → Ending (Option Seen) → MachineState → Result Looked Stop → Type 0
+Peeks names ending st (Ok looked) = Found names ending st looked
+Peeks names ending st (Err e) = Stops ending st e

@@ -6,7 +6,8 @@ use Rattle.slee_effect.specs.declared.value.Val.TheVariants.{Plain}
 use Rattle.slee_effect.specs.declared.effect.Effect.{Effect}
 use Rattle.slee_effect.specs.declared.effect.Effect.TheVariants as ef
 use Rattle.handler_meaning.specs.Answers.{initial}
-use Rattle.handler_meaning.specs.Running.{State, Variable}
+use Rattle.handler_meaning.specs.Running.{Variable}
+use Rattle.script_machine.specs.Machines.{MachineState}
 use Rattle.handler_meaning.specs.Values.{int}
 use Rattle.script_machine.specs.Variables.{value_in}
 use Rattle.script_machine.specs.declared.lent.Lent.{Lent}
@@ -21,7 +22,7 @@ value_lent (lent.Text t) = Plain (v.Text t.now)
 value_lent (lent.Initial q) = initial q
 
 -- what a run holds that terms don't change: its variables and its effects
-unfoldable pub standing : State → List Variable × List Effect
+unfoldable pub standing : MachineState → List Variable × List Effect
 standing st = (st.variables, st.effects)
 
 -- the value of a variable, and that which an effect gives to a field or an attribute; where there is none, a number

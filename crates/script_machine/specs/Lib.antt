@@ -4,3 +4,5 @@ pub mod Agreeing
 pub mod Kinds
 pub mod Asking
 pub mod Lending
+pub mod Machines
+pub mod Numbering

@@ -28,7 +28,7 @@ pub fn is_choice(joint: Joint) -> bool
     }
 }
 
-impl Machine {
+impl Machine<'_> {
     /// A number less than nothing by as much as this one is more.
     pub fn negative(&self, n: i64) -> Result<i64, Stop>
         ensures { AgreesAs int (number (neg_ℤ n)) self.now self.now result }

@@ -70,7 +70,7 @@ fn is_same_flag(x: bool, y: bool) -> bool
     if x { y } else { !y }
 }
 
-impl Machine {
+impl Machine<'_> {
     /// Whether two values of a type are the same.
     #[tactic(auto, using(crate::proofs::KindLemmas::no_int_stays, crate::proofs::KindLemmas::no_text_stays, crate::proofs::KindLemmas::no_flag_stays, crate::proofs::KindLemmas::no_activity_stays, crate::proofs::KindLemmas::no_timer_stays, crate::proofs::KindLemmas::activity_given, crate::proofs::KindLemmas::timer_given))]
     fn same_values(&self, kind: Kind, x: Lent, y: Lent) -> Result<bool, Stop>

@@ -15,7 +15,7 @@ pub struct Finished {
     pub effects: Vec<Effect>,
 }
 
-impl Machine {
+impl Machine<'_> {
     /// The units that are left.
     pub fn left(&self) -> u32
         ensures { result ≡ self.now.left }
@@ -47,9 +47,9 @@ impl Machine {
 
     /// What the run read and did.
     pub fn finish(self) -> Finished
-        ensures asked { result.is_asked ≡ self.asked }
-        ensures keys { result.keys.items ≡ self.keys }
-        ensures effects { result.effects.items ≡ self.effects }
+        ensures asked { result.is_asked ≡ self.entry.asked }
+        ensures keys { result.keys.items ≡ self.entry.keys }
+        ensures effects { result.effects.items ≡ self.entry.effects }
     {
         Finished {
             is_asked: self.is_asked,

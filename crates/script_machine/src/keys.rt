@@ -1,33 +1,62 @@
-//! Keys: whether one is that which is asked for, whether one was observed, and the answer that was kept for one.
-ghost use Rattle.std.specs.Prelude.{◌≡◌, ◌||◌, slice_get};
+//! Keys: whether one is that which is asked for, whether one was observed, and the answer that was kept for one. Names in keys are told apart by their numbers.
+ghost use Rattle.std.specs.Prelude.{◌≡◌, ◌||◌, IsTrue, map, slice_get};
 ghost use Rattle.std.specs.List.{list_any};
 ghost use Rattle.std.specs.Option.{option_copied};
 ghost use Rattle.handler_meaning.specs.Seeing.{same_key};
 ghost use Rattle.handler_meaning.specs.Answers.{kept};
-ghost use Rattle.script_machine.specs.Asking.{key_asked};
+ghost use Rattle.script_machine.specs.Asking.{key_asked, IsNumberedAsked};
+ghost use Rattle.script_machine.specs.Numbering.{key_number, answer_numbers, numbers_seen};
 
-use crate::Asked;
+use crate::numbering::{AnswerNumbers, NumberedName, is_same_name};
+use crate::{Asked, Scene};
 use handler_meaning::{Key, Seen};
+use script_types::NamedList;
+use slee_value::Text;
 
-/// Whether a key is that which is asked for.
-#[tactic(auto, using(crate::proofs::KeyLemmas::names_turned, crate::proofs::KeyLemmas::numbers_turned))]
+/// Keys with the numbers of their names.
+#[derive(Debug, Clone, Copy)]
+pub(crate) struct NumberedKeys<'a> {
+    pub(crate) keys: &'a [Key],
+    pub(crate) numbers: &'a [Option<usize>],
+}
+
+/// Whether a key, whose name has this number, is that which is asked for.
 #[inline(always)]
-pub(crate) fn is_asked(one: &Key, asked: &Asked) -> bool
+#[tactic(auto, using(crate::proofs::KeyLemmas::names_turned, crate::proofs::KeyLemmas::numbers_turned))]
+pub(crate) fn is_asked(
+    names: &NamedList<Text>,
+    one: &Key,
+    number: Option<usize>,
+    asked: &Asked,
+) -> bool
+    requires number { number ≡ key_number names.now one.now }
+    requires asked { IsNumberedAsked names.now asked.now }
     ensures is { result ≡ same_key one.now (key_asked asked.now) }
     ensures turned { result ≡ same_key (key_asked asked.now) one.now }
 {
     match (one, asked) {
-        (Key::Field(e, x), Asked::Field(f, y)) => e.0 == f.0 && x.as_bytes() == y.as_bytes(),
-        (Key::Children(e, x), Asked::Children(f, y)) => e.0 == f.0 && x.as_bytes() == y.as_bytes(),
+        (Key::Field(e, x), Asked::Field(f, y)) => {
+            let name = x.as_str();
+            e.0 == f.0 && is_same_name(names, NumberedName { name, number }, NumberedName::of_name(y))
+        }
+        (Key::Children(e, x), Asked::Children(f, y)) => {
+            let name = x.as_str();
+            e.0 == f.0 && is_same_name(names, NumberedName { name, number }, NumberedName::of_name(y))
+        }
         (Key::Priority(e), Asked::Priority(f)) => e.0 == f.0,
         (Key::AcState(a), Asked::AcState(b)) => a.0 == b.0,
-        (Key::Attr(a, x), Asked::Attr(b, y)) => a.0 == b.0 && x.as_bytes() == y.as_bytes(),
+        (Key::Attr(a, x), Asked::Attr(b, y)) => {
+            let name = x.as_str();
+            a.0 == b.0 && is_same_name(names, NumberedName { name, number }, NumberedName::of_text(y))
+        }
         (Key::Attached(e, a), Asked::Attached(f, b)) => e.0 == f.0 && a.0 == b.0,
         (Key::Mask(e, a), Asked::Mask(f, b)) => e.0 == f.0 && a.0 == b.0,
         (Key::Named(x), Asked::Named(y)) => x.as_bytes() == y.as_bytes(),
         (Key::Timer(t), Asked::Timer(u)) => t.0 == u.0,
         (Key::Profile(t, x), Asked::Profile(u, y)) => {
-            t.as_bytes() == u.as_bytes() && x.as_bytes() == y.as_bytes()
+            let name = t.as_str();
+            is_same_name(names, NumberedName { name, number }, NumberedName::of_name(u))
+                && x.as_bytes() == y.as_bytes()
         }
         (Key::Now, Asked::Now) => true,
         (Key::Activities(e), Asked::Activities(f)) => e.0 == f.0,
@@ -37,70 +66,95 @@ pub(crate) fn is_asked(one: &Key, asked: &Asked) -> bool
 
 /// Whether one of these keys is that which is asked for.
 #[inline(never)]
-pub(crate) fn has_key(keys: &[Key], asked: &Asked) -> bool
-    ensures { result ≡ list_any (same_key (key_asked asked.now)) keys.now }
+#[tactic(auto, using(crate::proofs::KeyLemmas::number_there))]
+pub(crate) fn has_key(names: &NamedList<Text>, given: NumberedKeys, asked: &Asked) -> bool
+    requires numbers { given.numbers.now ≡ map (key_number names.now) given.keys.now }
+    requires asked { IsNumberedAsked names.now asked.now }
+    ensures { result ≡ list_any (same_key (key_asked asked.now)) given.entry.keys.now }
 {
-    for key in keys {
-        if is_asked(key, asked) {
+    let keys = given.keys;
+    let numbers = given.numbers;
+    'keys: for place in 0..keys.len() {
+        if is_asked(names, &keys[place], numbers[place], asked) {
             return true;
         }
     }
     false
 }
 
-fn key_at(keys: &[Key], place: usize) -> Option<&Key>
-    ensures { option_copied result ≡ slice_get keys.now place }
+/// Whether the key in this place is that which is asked for.
+#[inline(always)]
+fn is_asked_at(names: &NamedList<Text>, given: NumberedKeys, place: usize, asked: &Asked) -> bool
+    requires numbers { given.numbers.now ≡ map (key_number names.now) given.keys.now }
+    requires asked { IsNumberedAsked names.now asked.now }
+    ensures { IsTrue result → IsTrue (list_any (same_key (key_asked asked.now)) given.entry.keys.now) }
 {
-    keys.get(place)
+    place < given.keys.len() && is_asked(names, &given.keys[place], given.numbers[place], asked)
 }
 
-/// The same, where it may well be the key in this place.
+/// Whether one of these keys is that which is asked for. It may well be the one in this place.
 #[inline(always)]
-#[tactic(auto, using(crate::proofs::KeyLemmas::any_there))]
-fn has_key_near(keys: &[Key], place: usize, asked: &Asked) -> bool
-    ensures { result ≡ list_any (same_key (key_asked asked.now)) keys.now }
+fn has_key_near(names: &NamedList<Text>, given: NumberedKeys, place: usize, asked: &Asked) -> bool
+    requires numbers { given.numbers.now ≡ map (key_number names.now) given.keys.now }
+    requires asked { IsNumberedAsked names.now asked.now }
+    ensures { result ≡ list_any (same_key (key_asked asked.now)) given.entry.keys.now }
 {
-    match key_at(keys, place) {
-        Some(key) if is_asked(key, asked) => true,
-        _ => has_key(keys, asked),
-    }
+    is_asked_at(names, given, place, asked) || has_key(names, given, asked)
 }
 
 /// Whether one of these keys, those before first, is that which is asked for. It may well be the one in this place.
 #[inline(always)]
 #[tactic(auto, using(crate::proofs::KeyLemmas::either_turned))]
-pub(crate) fn is_counted(before: &[Key], own: &[Key], place: usize, asked: &Asked) -> bool
-    ensures { result ≡ (list_any (same_key (key_asked asked.now)) before.now || list_any (same_key (key_asked asked.now)) own.now) }
+pub(crate) fn is_counted(
+    names: &NamedList<Text>,
+    before: NumberedKeys,
+    own: NumberedKeys,
+    place: usize,
+    asked: &Asked,
+) -> bool
+    requires before { before.numbers.now ≡ map (key_number names.now) before.keys.now }
+    requires own { own.numbers.now ≡ map (key_number names.now) own.keys.now }
+    requires asked { IsNumberedAsked names.now asked.now }
+    ensures { result ≡ (list_any (same_key (key_asked asked.now)) before.entry.keys.now || list_any (same_key (key_asked asked.now)) own.entry.keys.now) }
 {
-    if place < before.len() {
-        return has_key_near(before, place, asked) || has_key(own, asked);
+    if place < before.keys.len() {
+        return has_key_near(names, before, place, asked) || has_key(names, own, asked);
     }
-    has_key_near(own, place - before.len(), asked) || has_key(before, asked)
+    has_key_near(names, own, place - before.keys.len(), asked) || has_key(names, before, asked)
 }
 
-/// What was kept for a key: the answer, if there is one, and how many stand before it.
+/// What was kept for a key: the answer with the numbers of the names in it, if there is one, and how many stand before it.
 #[derive(Debug, Clone, Copy)]
 pub(crate) struct Kept<'a> {
     pub(crate) seen: Option<&'a Seen>,
+    pub(crate) numbers: &'a [Option<usize>],
     pub(crate) place: usize,
 }
 
 /// The answer that was kept for the key that is asked for.
 #[inline(always)]
-pub(crate) fn kept_answer<'a>(known: &'a [(Key, Seen)], asked: &Asked) -> Kept<'a>
-    ensures { option_copied result.seen ≡ kept known.now (key_asked asked.now) }
+#[tactic(auto, using(crate::proofs::KeyLemmas::number_there))]
+pub(crate) fn kept_answer<'a>(scene: &Scene<'a>, asked: &Asked) -> Kept<'a>
+    requires { IsNumberedAsked scene.now.names.now asked.now }
+    ensures seen { option_copied result.seen ≡ kept scene.now.known.now (key_asked asked.now) }
+    ensures numbers { result.numbers.now ≡ numbers_seen scene.now.names.now (option_copied result.seen) }
 {
+    let known = scene.known;
+    let numbers = scene.known_numbers;
     'known: for place in 0..known.len() {
         let (key, seen) = &known[place];
-        if is_asked(key, asked) {
+        let number = &numbers[place];
+        if is_asked(scene.names, key, number.key, asked) {
             return Kept {
                 seen: Some(seen),
+                numbers: number.seen.as_slice(),
                 place,
             };
         }
     }
     Kept {
         seen: None,
+        numbers: &[],
         place: known.len(),
     }
 }

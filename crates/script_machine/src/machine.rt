@@ -1,13 +1,16 @@
-//! The state of a run: its variables, the units that are left, its keys and its effects.
+//! The state of a run: its variables, the units that are left, its keys and its effects, with the numbers of the names in these.
 ghost use Rattle.std.specs.Prelude.{◌≡◌, ◌≤◌, ◌+◌, OnOk, OnErr, false};
 ghost use Rattle.handler_meaning.specs.Running.{tick, declare, assign};
 ghost use Rattle.handler_meaning.specs.Meaning.{start};
 ghost use Rattle.script_machine.specs.Agreeing.{Agrees};
 ghost use Rattle.script_machine.specs.Lending.{standing};
+ghost use Rattle.script_machine.specs.Machines.{state_of};
 
 use crate::{Stop, Variable};
 use handler_meaning::{FailKind, Key};
+use script_types::NamedList;
 use slee_effect::{Effect, Val};
+use slee_value::Text;
 use std::alloc::Global;
 use std::marker::Model;
 
@@ -15,39 +18,48 @@ use std::marker::Model;
 pub const UNIT_LIMIT: u32 = 10_000;
 
 /// A run so far.
-#[derive(Debug, Drop)]
-pub struct Machine {
+#[derive(Drop)]
+pub struct Machine<'a> {
+    pub(crate) names: &'a NamedList<Text>,
     pub(crate) variables: Vec<Variable>,
     pub(crate) left: u32,
     pub(crate) is_asked: bool,
     pub(crate) keys: Vec<Key>,
+    pub(crate) key_numbers: Vec<Option<usize>>,
     pub(crate) effects: Vec<Effect>,
+    pub(crate) effect_numbers: Vec<Option<usize>>,
     /// How many bytes the effects have.
     pub(crate) bytes: u32,
 }
 
-impl Model for Machine {
-    ghost use Rattle.std.specs.Prelude.{◌≡◌, ◌≤◌, length};
-    ghost use Rattle.handler_meaning.specs.Running.{State, bytes_of, effect_limit, effect_bytes_limit};
+impl<'a> Model for Machine<'a> {
+    ghost use Rattle.std.specs.Prelude.{◌≡◌, ◌≤◌, length, map};
+    ghost use Rattle.handler_meaning.specs.Running.{bytes_of, effect_limit, effect_bytes_limit};
+    ghost use Rattle.script_machine.specs.Machines.{MachineState};
+    ghost use Rattle.script_machine.specs.Numbering.{effect_number, key_number};
 
-    ghost Value = { State };
+    ghost Value = { MachineState };
 
-    ghost view = { λ m. record { variables = m.variables.items; left = m.left; asked = m.is_asked; keys = m.keys.items; effects = m.effects.items } };
+    ghost view = { λ m. record { variables = m.variables.items; left = m.left; asked = m.is_asked; keys = m.keys.items; effects = m.effects.items; names = m.names.now } };
 
-    ghost invariant = { λ m. (m.bytes ≡ bytes_of m.effects.items) × (m.bytes ≤ effect_bytes_limit) × (length m.effects.items ≤ effect_limit) };
+    ghost invariant = { λ m. (m.bytes ≡ bytes_of m.effects.items) × (m.bytes ≤ effect_bytes_limit) × (length m.effects.items ≤ effect_limit) × (m.key_numbers.items ≡ map (key_number m.names.now) m.keys.items) × (m.effect_numbers.items ≡ map (effect_number m.names.now) m.effects.items) };
 }
 
-impl Machine {
+impl<'a> Machine<'a> {
     /// The state before the first step.
-    pub fn new(alloc: Global) -> Self
-        ensures { result ≡ start }
+    pub fn new(alloc: Global, names: &'a NamedList<Text>) -> Self
+        ensures state { state_of result ≡ start }
+        ensures names { result.names ≡ names.now }
     {
         Machine {
+            names,
             variables: Vec::new(alloc),
             left: UNIT_LIMIT,
             is_asked: false,
             keys: Vec::new(alloc),
+            key_numbers: Vec::new(alloc),
             effects: Vec::new(alloc),
+            effect_numbers: Vec::new(alloc),
             bytes: 0,
         }
     }
@@ -58,6 +70,7 @@ impl Machine {
         ensures agrees { Agrees tick self.old self.new result }
         ensures less { OnOk result (self.new.left + 1 ≡ self.old.left) }
         ensures spent { self.new.left ≤ self.old.left }
+        ensures names { self.new.names ≡ self.old.names }
         ensures kept { standing self.new ≡ standing self.old }
     {
         if self.left == 0 {
@@ -71,6 +84,7 @@ impl Machine {
     pub fn declare(&mut self, variable: Variable) -> Result<(), Stop>
         ensures agrees { Agrees (declare variable) self.old self.new result }
         ensures spent { self.new.left ≤ self.old.left }
+        ensures names { self.new.names ≡ self.old.names }
     {
         self.variables.push(variable)?;
         Ok(())
@@ -80,6 +94,7 @@ impl Machine {
     pub fn assign(&mut self, place: usize, value: Val) -> Result<(), Stop>
         ensures agrees { Agrees (assign place value) self.old self.new result }
         ensures spent { self.new.left ≤ self.old.left }
+        ensures names { self.new.names ≡ self.old.names }
     {
         if place < self.variables.len() {
             self.variables[place] = Variable::of_value(value);

@@ -1,13 +1,16 @@
 //! Asking for the state by keys.
-ghost use Rattle.std.specs.Prelude.{◌≡◌, ◌≤◌, option_map, Some};
+ghost use Rattle.std.specs.Prelude.{◌≡◌, ◌≤◌, ◌||◌, option_map, Some};
+ghost use Rattle.std.specs.List.{list_any};
 ghost use Rattle.std.specs.Option.{option_copied};
+ghost use Rattle.handler_meaning.specs.Seeing.{same_key};
 ghost use Rattle.handler_meaning.specs.Running.{look};
 ghost use Rattle.script_machine.specs.Agreeing.{AgreesAs};
-ghost use Rattle.script_machine.specs.Asking.{key_asked, Wants, Peeks, noted};
+ghost use Rattle.script_machine.specs.Asking.{key_asked, AreNumberedAsked, IsNumberedAsked, IsNumberedNew, Wants, Peeks, new_key, noted};
 ghost use Rattle.script_machine.specs.Lending.{standing};
+ghost use Rattle.script_machine.specs.Machines.{state_of};
 ghost use Rattle.script_machine.specs.Settings.{setting_of};
 
-use crate::keys::{Kept, is_counted, kept_answer};
+use crate::keys::{Kept, NumberedKeys, is_counted, kept_answer};
 use crate::{Asked, Machine, Scene, Stop};
 use handler_meaning::{FailKind, Key, Seen};
 use std::alloc::Global;
@@ -15,11 +18,19 @@ use std::alloc::Global;
 /// How many keys a transaction may read.
 pub const KEY_LIMIT: usize = 64;
 
-/// What was found under a key, and the key itself where it is new and not counted yet.
+/// A key that isn't counted yet, with the number of its name.
+#[derive(Debug, Drop)]
+pub struct NewKey {
+    pub key: Key,
+    pub number: Option<usize>,
+}
+
+/// What was found under a key with the numbers of the names in it, and the key itself where it is new and not counted yet.
 #[derive(Debug, Drop)]
 pub struct Looked<'a> {
     pub seen: Option<&'a Seen>,
-    pub key: Option<Key>,
+    pub numbers: &'a [Option<usize>],
+    pub key: Option<NewKey>,
 }
 
 /// Nothing is known of this key.
@@ -35,25 +46,51 @@ fn need(alloc: Global, asked: &Asked) -> Stop
     }
 }
 
-impl Machine {
+impl Machine<'_> {
+    /// Whether the key is counted, by this run or before it. It may well be the one in this place.
+    #[inline(always)]
+    fn is_counted(&self, scene: &Scene, place: usize, asked: &Asked) -> bool
+        requires names { self.now.names ≡ scene.now.names.now }
+        requires asked { IsNumberedAsked scene.now.names.now asked.now }
+        ensures { result ≡ (list_any (same_key (key_asked asked.now)) scene.now.keys.now || list_any (same_key (key_asked asked.now)) self.now.keys) }
+    {
+        let before = NumberedKeys {
+            keys: scene.keys,
+            numbers: scene.key_numbers,
+        };
+        let own = NumberedKeys {
+            keys: &self.keys,
+            numbers: &self.key_numbers,
+        };
+        is_counted(scene.names, before, own, place, asked)
+    }
+
     /// What is known of a key, which isn't counted yet. What is new has no key, and nothing is asked for.
     #[tactic(auto, unfolding(handler_meaning::specs::Running::observe))]
-    pub fn peek<'a>(&self, scene: &Scene<'a>, asked: Option<Asked>) -> Result<Looked<'a>, Stop>
-        ensures { Peeks (look (setting_of scene.now) (option_map key_asked asked.entry) self.now) self.now result }
+    pub fn peek<'s>(&self, scene: &Scene<'s>, asked: Option<Asked>) -> Result<Looked<'s>, Stop>
+        requires names { self.now.names ≡ scene.now.names.now }
+        requires asked { AreNumberedAsked scene.now.names.now asked }
+        ensures { Peeks scene.now.names.now (look (setting_of scene.now) (option_map key_asked asked.entry) (state_of self.now)) self.now result }
     {
         let Some(asked) = asked else {
             return Ok(Looked {
                 seen: None,
+                numbers: &[],
                 key: None,
             });
         };
-        let Kept { seen, place } = kept_answer(scene.known, &asked);
+        let Kept {
+            seen,
+            numbers,
+            place,
+        } = kept_answer(scene, &asked);
         // Keys mostly stand in the order in which their answers were asked for.
-        if is_counted(scene.keys, &self.keys, place, &asked) {
+        if self.is_counted(scene, place, &asked) {
             return match seen {
                 None => Err(need(scene.alloc, &asked)),
-                Some(seen) => Ok(Looked {
-                    seen: Some(seen),
+                Some(_) => Ok(Looked {
+                    seen,
+                    numbers,
                     key: None,
                 }),
             };
@@ -61,29 +98,40 @@ impl Machine {
         if scene.keys.len() + self.keys.len() >= KEY_LIMIT {
             return Err(Stop::Broken(FailKind::Observed));
         }
-        let Some(seen) = seen else {
+        if seen.is_none() {
             return Err(need(scene.alloc, &asked));
+        }
+        let key = NewKey {
+            key: asked.to_key(scene.alloc)?,
+            number: asked.number(),
         };
-        let key = asked.to_key(scene.alloc)?;
         Ok(Looked {
-            seen: Some(seen),
+            seen,
+            numbers,
             key: Some(key),
         })
     }
 
     /// Counts the key under which something was found.
     #[tactic(auto, unfolding(crate::specs::Lending::standing))]
-    pub fn note<'a>(&mut self, looked: Looked<'a>) -> Result<Option<&'a Seen>, Stop>
-        ensures agrees { AgreesAs option_copied (noted looked.entry.key (option_copied looked.entry.seen)) self.old self.new result }
+    pub fn note<'s>(&mut self, looked: Looked<'s>) -> Result<Option<&'s Seen>, Stop>
+        requires { IsNumberedNew self.old.names looked.key }
+        ensures agrees { AgreesAs option_copied (noted (new_key looked.entry.key) (option_copied looked.entry.seen)) self.old self.new result }
         ensures spent { self.new.left ≤ self.old.left }
+        ensures names { self.new.names ≡ self.old.names }
         ensures kept { standing self.new ≡ standing self.old }
         ensures effects { self.new.effects ≡ self.old.effects }
     {
-        let Looked { seen, key } = looked;
+        let Looked { seen, key, .. } = looked;
         match key {
             None => Ok(seen),
-            Some(key) => {
+            Some(NewKey { key, number }) => {
+                self.key_numbers.reserve(1)?;
                 self.keys.push(key)?;
+                match self.key_numbers.push(number) {
+                    Ok(()) => {}
+                    Err(_) => unreachable!(),
+                }
                 Ok(seen)
             }
         }
@@ -91,9 +139,12 @@ impl Machine {
 
     /// What is known of a key, which is counted where it is new.
     #[inline(never)]
-    fn look_first<'a>(&mut self, scene: &Scene<'a>, asked: Asked) -> Result<Option<&'a Seen>, Stop>
+    fn look_first<'s>(&mut self, scene: &Scene<'s>, asked: Asked) -> Result<Option<&'s Seen>, Stop>
+        requires names { self.old.names ≡ scene.now.names.now }
+        requires asked { IsNumberedAsked scene.now.names.now asked }
         ensures agrees { AgreesAs option_copied (look (setting_of scene.now) (Some (key_asked asked.entry))) self.old self.new result }
         ensures spent { self.new.left ≤ self.old.left }
+        ensures names { self.new.names ≡ self.old.names }
         ensures kept { standing self.new ≡ standing self.old }
     {
         let looked = self.peek(scene, Some(asked))?;
@@ -103,20 +154,23 @@ impl Machine {
     /// What is known of a key, which is counted. What is new has no key, and nothing is asked for.
     #[inline(always)]
     #[tactic(auto, unfolding(handler_meaning::specs::Running::observe))]
-    pub fn look<'a>(
+    pub fn look<'s>(
         &mut self,
-        scene: &Scene<'a>,
+        scene: &Scene<'s>,
         asked: Option<Asked>,
-    ) -> Result<Option<&'a Seen>, Stop>
+    ) -> Result<Option<&'s Seen>, Stop>
+        requires names { self.old.names ≡ scene.now.names.now }
+        requires asked { AreNumberedAsked scene.now.names.now asked }
         ensures agrees { AgreesAs option_copied (look (setting_of scene.now) (option_map key_asked asked.entry)) self.old self.new result }
         ensures spent { self.new.left ≤ self.old.left }
+        ensures names { self.new.names ≡ self.old.names }
         ensures kept { standing self.new ≡ standing self.old }
     {
         let Some(asked) = asked else {
             return Ok(None);
         };
-        let Kept { seen, place } = kept_answer(scene.known, &asked);
-        if seen.is_some() && is_counted(scene.keys, &self.keys, place, &asked) {
+        let Kept { seen, place, .. } = kept_answer(scene, &asked);
+        if seen.is_some() && self.is_counted(scene, place, &asked) {
             return Ok(seen);
         }
         self.look_first(scene, asked)

@@ -13,7 +13,7 @@ use slee_effect::Val;
 use slee_value::Value;
 use std::alloc::Global;
 
-impl Machine {
+impl Machine<'_> {
     /// The right side of `and` or `or`, to which the left one left the choice.
     #[tactic(auto, using(crate::proofs::KindLemmas::no_flag_stays))]
     fn right_flag(&self, x: Lent, y: Lent) -> Result<Val, Stop>

@@ -54,7 +54,7 @@ pub fn set_at(effects: &[Effect], place: usize) -> Lent
     }
 }
 
-impl Machine {
+impl Machine<'_> {
     /// The place of a variable that holds a value.
     #[inline(always)]
     #[tactic(auto, using(crate::proofs::VariableLemmas::value_found), unfolding(crate::specs::Lending::standing))]

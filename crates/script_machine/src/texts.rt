@@ -22,7 +22,7 @@ fn decimal(alloc: Global, n: i64) -> Result<Text, NoMemory>
     Ok(Text::from(n.to_string(alloc)?))
 }
 
-impl Machine {
+impl Machine<'_> {
     /// Two texts as one.
     fn joined(&self, alloc: Global, m: &str, n: &str) -> Result<Text, Stop>
         ensures { AgreesAs text (joined m.now n.now) self.now self.now result }

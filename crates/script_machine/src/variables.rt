@@ -34,7 +34,7 @@ pub fn is_removed(entity: Ref, effects: &[Effect]) -> bool
     effects.iter().any(|effect| removes(entity, effect))
 }
 
-impl Machine {
+impl Machine<'_> {
     /// The value of the variable in this place as it stands there.
     #[tactic(auto, using(crate::proofs::VariableLemmas::value_found))]
     pub fn variable_value(&self, place: usize) -> Result<&Val, Stop>

@@ -5,6 +5,7 @@ use Rattle.slee_effect.specs.declared.value.Val.{Val}
 use Rattle.slee_effect.specs.declared.effect.Effect.{Effect}
 use Rattle.slee_effect.specs.declared.effect.Effect.TheVariants as ef
 use Rattle.handler_meaning.specs.Overlay.{same_ref}
+use Rattle.script_types.specs.Numbers.{IsNumbered}
 use Rattle.script_machine.specs.Lending.{set_by}
 use Rattle.script_reading.specs.declared.fields.Property.{Property}
 use Rattle.script_reading.specs.declared.fields.Property.TheVariants as property
@@ -23,8 +24,13 @@ sets_attribute a key (ef.SetAttr activity other value) = same_ref activity a && 
 sets_attribute a key other = false
 
 abbrev pub sets_property : Property → Effect → Bool
-sets_property (property.Field e name) effect = sets_field e name.now effect
-sets_property (property.Attribute a key) effect = sets_attribute a key.now effect
+sets_property (property.Field e name) effect = sets_field e name.now.name effect
+sets_property (property.Attribute a key) effect = sets_attribute a key.now.name effect
+
+-- the property's name has its number
+abbrev pub IsNumberedProperty : List (List ℕ) → Property → Type 0
+IsNumberedProperty names (property.Field e name) = IsNumbered names name.now
+IsNumberedProperty names (property.Attribute a key) = IsNumbered names key.now
 
 -- the value that was set last, behind one effect more, and behind all
 abbrev pub set_behind : (Effect → Bool) → Effect → Option Val → Option Val

@@ -32,6 +32,11 @@ set_where same on None = None
 set_where true on (Some masked) = Some on
 set_where false on (Some masked) = Some masked
 
+-- whether an effect masks the event, or no longer does so
+abbrev pub mask_is_on : List ℕ → Effect → Bool
+mask_is_on event (ef.SetMask entity activity other on) = bytes_eq event other
+mask_is_on event other = false
+
 -- what an effect does to it, where `first` tells whether attaching masks the event
 abbrev pub mask_after : List ℕ → Bool → Ref → Ref → Effect → Option Bool → Option Bool
 mask_after event first e a (ef.Attach entity activity) x = if same_ref entity e && same_ref activity a then or_first first x else x

@@ -1,11 +1,22 @@
 -- What is asked of a row of a profile table, whose name is a value that has to be a text.
-use Rattle.std.specs.Prelude.{ℕ, List, Option, is_some}
+use Rattle.std.specs.Prelude.{◌≡◌, ℕ, List, map, Option, Some, None, is_some}
+use Rattle.script_types.specs.Codes.{number_in}
+use Rattle.script_reading.specs.declared.rows.NumberedRow.{NumberedRow}
 use Rattle.slee_value.specs.declared.kind.Kind.{Kind}
 use Rattle.slee_value.specs.declared.value.Value.{Value}
 use Rattle.slee_effect.specs.declared.value.Val.{Val}
 use Rattle.handler_meaning.specs.Running.{Setting, Run, ◌>>=◌, give}
 use Rattle.handler_meaning.specs.Terms.{row, of_row}
 use Rattle.handler_meaning.specs.Values.{flag, with_text}
+
+-- a row that is lent, and that its names have the numbers beside it
+abbrev pub row_lent : Option NumberedRow → Option (List (List ℕ × Value))
+row_lent None = None
+row_lent (Some x) = Some x.row.now
+
+abbrev pub AreNumberedIn : List (List ℕ) → Option NumberedRow → Type 0
+AreNumberedIn names None = Unit {0}
+AreNumberedIn names (Some x) = x.numbers.now ≡ map (λ f. number_in names f.0) x.row.now
 
 -- the row itself
 abbrev pub row_of : Setting → List ℕ → Val → Run (Option (List (List ℕ × Value)))

@@ -1,11 +1,11 @@
 //! Activities: whether one is there, and in which state.
-ghost use Rattle.std.specs.Prelude.{◌≡◌, ◌≤◌, ◌<◌, ◌+◌, ◌++◌, ◌^◌, length, option_map};
+ghost use Rattle.std.specs.Prelude.{◌≡◌, List, ℕ, ◌≤◌, ◌<◌, ◌+◌, ◌++◌, ◌^◌, length, option_map};
 ghost use Rattle.handler_meaning.specs.Overlay.{overlay, overlay_from, activities_by, activity_after};
 ghost use Rattle.handler_meaning.specs.Observing as read;
 ghost use Rattle.handler_meaning.specs.Observing.{key_of};
 ghost use Rattle.handler_meaning.specs.declared.key.Key.TheVariants as k;
 ghost use Rattle.script_machine.specs.Agreeing.{Agrees};
-ghost use Rattle.script_machine.specs.Asking.{key_asked};
+ghost use Rattle.script_machine.specs.Asking.{AreNumberedAsked, key_asked};
 ghost use Rattle.script_machine.specs.Lending.{standing};
 ghost use Rattle.script_machine.specs.Settings.{setting_of};
 
@@ -70,7 +70,8 @@ fn state_laid(
 }
 
 fn state_key(activity: Ref) -> Option<Asked<'static>>
-    ensures { option_map key_asked result ≡ key_of (λ n. k.AcState (record { 0 = n })) activity }
+    ensures key { option_map key_asked result ≡ key_of (λ n. k.AcState (record { 0 = n })) activity }
+    ensures numbered { (names : List (List ℕ)) → AreNumberedAsked names result }
 {
     match activity {
         Ref::Known(number) => Some(Asked::AcState(ActivityId(number))),
@@ -80,8 +81,10 @@ fn state_key(activity: Ref) -> Option<Asked<'static>>
 
 /// What is seen of an activity, if it is there.
 pub fn state_of(machine: &mut Machine, scene: &Scene, activity: Ref) -> Result<Option<AcSeen>, Stop>
+    requires names { machine.old.names ≡ scene.now.names.now }
     ensures agrees { Agrees (read.state_of (setting_of scene.now) activity) machine.old machine.new result }
     ensures spent { machine.new.left ≤ machine.old.left }
+    ensures names { machine.new.names ≡ machine.old.names }
     ensures kept { standing machine.new ≡ standing machine.old }
 {
     let seen = machine.look(scene, state_key(activity))?;
@@ -90,8 +93,10 @@ pub fn state_of(machine: &mut Machine, scene: &Scene, activity: Ref) -> Result<O
 
 /// What is seen of an activity that is used, which has to be there.
 pub fn used(machine: &mut Machine, scene: &Scene, activity: Ref) -> Result<AcSeen, Stop>
+    requires names { machine.old.names ≡ scene.now.names.now }
     ensures agrees { Agrees (read.used (setting_of scene.now) activity) machine.old machine.new result }
     ensures spent { machine.new.left ≤ machine.old.left }
+    ensures names { machine.new.names ≡ machine.old.names }
     ensures kept { standing machine.new ≡ standing machine.old }
 {
     match state_of(machine, scene, activity)? {
@@ -102,8 +107,10 @@ pub fn used(machine: &mut Machine, scene: &Scene, activity: Ref) -> Result<AcSee
 
 /// The same of one that has to be Active.
 pub fn used_active(machine: &mut Machine, scene: &Scene, activity: Ref) -> Result<AcSeen, Stop>
+    requires names { machine.old.names ≡ scene.now.names.now }
     ensures agrees { Agrees (read.used_active (setting_of scene.now) activity) machine.old machine.new result }
     ensures spent { machine.new.left ≤ machine.old.left }
+    ensures names { machine.new.names ≡ machine.old.names }
     ensures kept { standing machine.new ≡ standing machine.old }
 {
     let seen = used(machine, scene, activity)?;

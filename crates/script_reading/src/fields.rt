@@ -1,62 +1,95 @@
 //! Fields and attributes, with effects done to them.
-ghost use Rattle.std.specs.Prelude.{◌≡◌, ◌≤◌, option_map, unwrap_or, slice_get};
+    requires property { IsNumberedProperty scene.now.names.now property }
+ghost use Rattle.std.specs.Prelude.{◌≡◌, ◌≤◌, List, ℕ, map, option_map, unwrap_or, slice_get};
 ghost use Rattle.std.specs.Option.{option_copied};
 ghost use Rattle.handler_meaning.specs.Answers.{fit, held_in, initial};
 ghost use Rattle.handler_meaning.specs.Observing as read;
 ghost use Rattle.handler_meaning.specs.Observing.{key_of};
 ghost use Rattle.handler_meaning.specs.declared.key.Key.TheVariants as k;
 ghost use Rattle.script_machine.specs.Agreeing.{AgreesAs, EndsFinding};
-ghost use Rattle.script_machine.specs.Asking.{key_asked};
+ghost use Rattle.script_types.specs.Numbers.{IsNumbered};
+ghost use Rattle.script_machine.specs.Asking.{AreNumberedAsked, key_asked};
+ghost use Rattle.script_machine.specs.Machines.{state_of};
+ghost use Rattle.script_machine.specs.Numbering.{effect_number};
 ghost use Rattle.script_machine.specs.Lending.{value_lent, value_at, standing, set_by};
 ghost use Rattle.script_machine.specs.Settings.{setting_of};
-ghost use Rattle.script_reading.specs.Done.{sets_property, last_set};
+ghost use Rattle.script_reading.specs.Done.{IsNumberedProperty, sets_property, last_set};
 
+use crate::effects::{NumberedEffects, effects_before, own_effects};
 use handler_meaning::Seen;
-use script_machine::{Asked, Lent, Machine, Place, Scalar, Scene, Stop, is_same_ref, set_at};
+use script_machine::{
+    Asked, Lent, Machine, NumberedName, Place, Scalar, Scene, Stop, is_same_name, is_same_ref,
+    set_at,
+};
+use script_types::{NamedList, Symbol};
 use slee_effect::{Effect, Ref};
 use slee_value::{ActivityId, EntityId, Kind, Name, Text};
 
 /// A field of an entity, or an attribute of an activity.
 #[derive(Debug, Clone, Copy)]
 pub(crate) enum Property<'a> {
-    Field(Ref, &'a Name),
-    Attribute(Ref, &'a Text),
+    Field(Ref, &'a Symbol<Name>),
+    Attribute(Ref, &'a Symbol<Text>),
 }
 
-/// Whether an effect gives a value to the property.
+/// Whether an effect, whose name has this number, gives a value to the property.
 #[inline(always)]
-fn sets_property(property: Property, effect: &Effect) -> bool
+fn sets_property(
+    names: &NamedList<Text>,
+    property: Property,
+    effect: &Effect,
+    number: Option<usize>,
+) -> bool
+    requires number { number ≡ effect_number names.now effect.now }
+    requires property { IsNumberedProperty names.now property }
     ensures { result ≡ sets_property property.entry effect.now }
 {
     match (property, effect) {
         (
-            Property::Field(entity, name),
+            Property::Field(entity, symbol),
             Effect::SetField {
                 entity: other,
                 name: field,
                 ..
             },
-        ) => { is_same_ref(*other, entity) && field.as_bytes() == name.as_bytes() }
+        ) => {
+            let name = field.as_str();
+            is_same_ref(*other, entity)
+                && is_same_name(names, NumberedName { name, number }, NumberedName::of_name(symbol))
+        }
         (
-            Property::Attribute(activity, key),
+            Property::Attribute(activity, symbol),
             Effect::SetAttr {
                 activity: other,
                 key: attribute,
                 ..
             },
-        ) => is_same_ref(*other, activity) && attribute.as_bytes() == key.as_bytes(),
+        ) => {
+            let name = attribute.as_str();
+            is_same_ref(*other, activity)
+                && is_same_name(names, NumberedName { name, number }, NumberedName::of_text(symbol))
+        }
         _ => false,
     }
 }
 
 /// The place of the last effect that gives a value to the property.
 #[inline(always)]
-fn last_set(property: Property, effects: &[Effect]) -> Option<usize>
-    ensures { option_map (λ i. set_by (slice_get effects.now i)) result ≡ last_set (sets_property property.entry) effects.now }
+#[tactic(auto, using(script_machine::proofs::KeyLemmas::number_there))]
+fn last_set(
+    names: &NamedList<Text>,
+    property: Property,
+    given: NumberedEffects,
+) -> Option<usize>
+    requires numbers { given.numbers.now ≡ map (effect_number names.now) given.effects.now }
+    requires property { IsNumberedProperty names.now property }
+    ensures { option_map (λ i. set_by (slice_get given.entry.effects.now i)) result ≡ last_set (sets_property property.entry) given.entry.effects.now }
 {
+    let effects = given.effects;
+    let numbers = given.numbers;
     'effects: for behind in 0..effects.len() {
         let place = effects.len() - 1 - behind;
-        if sets_property(property, &effects[place]) {
+        if sets_property(names, property, &effects[place], numbers[place]) {
             return Some(place);
         }
     }
@@ -78,9 +111,10 @@ fn lend_earlier<'a>(
     kind: Kind,
     seen: Option<&'a Seen>,
 ) -> Lent<'a>
+    requires { IsNumberedProperty scene.now.names.now property }
     ensures { value_lent result ≡ fit kind (unwrap_or (last_set (sets_property property.entry) scene.now.effects.now) (held_in kind (option_copied seen.entry))) }
 {
-    match last_set(property, scene.effects) {
+    match last_set(scene.names, property, effects_before(scene)) {
         Some(place) => set_at(scene.effects, place).fit(kind),
         None => Lent::held_in(kind, seen).fit(kind),
     }
@@ -96,9 +130,11 @@ fn property_place<'a>(
     kind: Kind,
     seen: Option<&'a Seen>,
 ) -> Place<'a>
+    requires names { machine.now.names ≡ scene.now.names.now }
+    requires property { IsNumberedProperty scene.now.names.now property }
     ensures { value_at (standing machine.now) result ≡ fit kind (unwrap_or (last_set (sets_property property.entry) machine.now.effects) (unwrap_or (last_set (sets_property property.entry) scene.now.effects.now) (held_in kind (option_copied seen.entry)))) }
 {
-    let Some(place) = last_set(property, machine.effects()) else {
+    let Some(place) = last_set(scene.names, property, own_effects(machine)) else {
         return Place::Outside(lend_earlier(scene, property, kind, seen));
     };
     if set_at(machine.effects(), place).is_of(kind) {
@@ -118,14 +154,15 @@ fn lend_property<'a, 's: 'a>(
 ) -> Lent<'a>
     ensures { value_lent result ≡ fit kind (unwrap_or (last_set (sets_property property.entry) machine.now.effects) (unwrap_or (last_set (sets_property property.entry) scene.now.effects.now) (held_in kind (option_copied seen.entry)))) }
 {
-    match last_set(property, machine.effects()) {
+    match last_set(scene.names, property, own_effects(machine)) {
         Some(place) => set_at(machine.effects(), place).fit(kind),
         None => lend_earlier(scene, property, kind, seen),
     }
 }
 
-fn field_key(entity: Ref, name: &Name) -> Option<Asked>
-    ensures { option_map key_asked result ≡ key_of (λ n. k.Field (record { 0 = n }) name.now) entity }
+fn field_key(entity: Ref, name: &Symbol<Name>) -> Option<Asked>
+    ensures key { option_map key_asked result ≡ key_of (λ n. k.Field (record { 0 = n }) name.now.name) entity }
+    ensures numbered { (names : List (List ℕ)) → IsNumbered names name.now → AreNumberedAsked names result }
 {
     match entity {
         Ref::Known(number) => Some(Asked::Field(EntityId(number), name)),
@@ -133,8 +170,9 @@ fn field_key(entity: Ref, name: &Name) -> Option<Asked>
     }
 }
 
-fn attribute_key(activity: Ref, key: &Text) -> Option<Asked>
-    ensures { option_map key_asked result ≡ key_of (λ n. k.Attr (record { 0 = n }) key.now) activity }
+fn attribute_key(activity: Ref, key: &Symbol<Text>) -> Option<Asked>
+    ensures key { option_map key_asked result ≡ key_of (λ n. k.Attr (record { 0 = n }) key.now.name) activity }
+    ensures numbered { (names : List (List ℕ)) → IsNumbered names key.now → AreNumberedAsked names result }
 {
     match activity {
         Ref::Known(number) => Some(Asked::Attr(ActivityId(number), key)),
@@ -147,11 +185,14 @@ fn attribute_key(activity: Ref, key: &Text) -> Option<Asked>
 pub fn field<'a>(
     machine: &mut Machine,
     scene: &Scene<'a>,
-    name: &Name,
+    name: &Symbol<Name>,
     kind: Kind,
 ) -> Result<Place<'a>, Stop>
-    ensures agrees { AgreesAs (value_at (standing machine.new)) (read.field (setting_of scene.now) name.now kind) machine.old machine.new result }
+    requires names { machine.old.names ≡ scene.now.names.now }
+    requires numbered { IsNumbered scene.now.names.now name.now }
+    ensures agrees { AgreesAs (value_at (standing machine.new)) (read.field (setting_of scene.now) name.now.name kind) machine.old machine.new result }
     ensures spent { machine.new.left ≤ machine.old.left }
+    ensures names { machine.new.names ≡ machine.old.names }
     ensures kept { standing machine.new ≡ standing machine.old }
 {
     let seen = machine.look(scene, field_key(scene.me, name))?;
@@ -164,11 +205,14 @@ pub fn field<'a>(
 pub fn field_scalar<T: Scalar>(
     machine: &mut Machine,
     scene: &Scene,
-    name: &Name,
+    name: &Symbol<Name>,
     kind: Kind,
 ) -> Result<Option<T>, Stop>
-    ensures finds { EndsFinding T.value_of T.is_other (read.field (setting_of scene.now) name.now kind machine.old) machine.new result }
+    requires names { machine.old.names ≡ scene.now.names.now }
+    requires numbered { IsNumbered scene.now.names.now name.now }
+    ensures finds { EndsFinding T.value_of T.is_other (read.field (setting_of scene.now) name.now.name kind (state_of machine.old)) machine.new result }
     ensures spent { machine.new.left ≤ machine.old.left }
+    ensures names { machine.new.names ≡ machine.old.names }
     ensures kept { standing machine.new ≡ standing machine.old }
 {
     let seen = machine.look(scene, field_key(scene.me, name))?;
@@ -182,12 +226,15 @@ pub fn field_scalar<T: Scalar>(
 pub fn attribute<'a>(
     machine: &mut Machine,
     scene: &Scene<'a>,
-    key: &Text,
+    key: &Symbol<Text>,
     kind: Kind,
     activity: Ref,
 ) -> Result<Place<'a>, Stop>
-    ensures agrees { AgreesAs (value_at (standing machine.new)) (read.attribute (setting_of scene.now) key.now kind activity) machine.old machine.new result }
+    requires names { machine.old.names ≡ scene.now.names.now }
+    requires numbered { IsNumbered scene.now.names.now key.now }
+    ensures agrees { AgreesAs (value_at (standing machine.new)) (read.attribute (setting_of scene.now) key.now.name kind activity) machine.old machine.new result }
     ensures spent { machine.new.left ≤ machine.old.left }
+    ensures names { machine.new.names ≡ machine.old.names }
     ensures kept { standing machine.new ≡ standing machine.old }
 {
     let seen = machine.look(scene, attribute_key(activity, key))?;
@@ -200,12 +247,15 @@ pub fn attribute<'a>(
 pub fn attribute_scalar<T: Scalar>(
     machine: &mut Machine,
     scene: &Scene,
-    key: &Text,
+    key: &Symbol<Text>,
     kind: Kind,
     activity: Ref,
 ) -> Result<Option<T>, Stop>
-    ensures finds { EndsFinding T.value_of T.is_other (read.attribute (setting_of scene.now) key.now kind activity machine.old) machine.new result }
+    requires names { machine.old.names ≡ scene.now.names.now }
+    requires numbered { IsNumbered scene.now.names.now key.now }
+    ensures finds { EndsFinding T.value_of T.is_other (read.attribute (setting_of scene.now) key.now.name kind activity (state_of machine.old)) machine.new result }
     ensures spent { machine.new.left ≤ machine.old.left }
+    ensures names { machine.new.names ≡ machine.old.names }
     ensures kept { standing machine.new ≡ standing machine.old }
 {
     let seen = machine.look(scene, attribute_key(activity, key))?;

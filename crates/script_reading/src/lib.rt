@@ -4,6 +4,7 @@
 mod activities;
 mod answers;
 mod counts;
+mod effects;
 mod fields;
 mod lists;
 mod masks;

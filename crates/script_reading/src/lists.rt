@@ -1,6 +1,7 @@
 //! Lists that are read, with effects done to them: the children of a relation, and an entity's activities.
-ghost use Rattle.std.specs.Prelude.{◌≡◌, ◌≤◌, ◌<◌, ◌+◌, ◌++◌, ◌^◌, length, map, IfOk, OnOk, option_map};
+ghost use Rattle.std.specs.Prelude.{◌≡◌, List, ℕ, ◌≤◌, ◌<◌, ◌+◌, ◌++◌, ◌^◌, length, map, IfOk, OnOk, option_map};
 ghost use Rattle.std.specs.Option.{option_copied};
+ghost use Rattle.slee_effect.specs.declared.reference.Ref.{Ref};
 ghost use Rattle.slee_effect.specs.declared.reference.Ref.TheVariants as ref;
 ghost use Rattle.handler_meaning.specs.Answers.{ids_in};
 ghost use Rattle.handler_meaning.specs.Overlay.{overlay, overlay_from, entities_by, activities_by, children_after, activities_after};
@@ -8,36 +9,37 @@ ghost use Rattle.handler_meaning.specs.Observing as read;
 ghost use Rattle.handler_meaning.specs.Observing.{key_of};
 ghost use Rattle.handler_meaning.specs.declared.key.Key.TheVariants as k;
 ghost use Rattle.script_machine.specs.Agreeing.{AgreesAs};
-ghost use Rattle.script_machine.specs.Asking.{key_asked};
+ghost use Rattle.script_machine.specs.Asking.{AreNumberedAsked, key_asked};
+ghost use Rattle.script_types.specs.Numbers.{IsNumbered};
 ghost use Rattle.script_machine.specs.Lending.{standing};
+ghost use Rattle.script_machine.specs.Numbering.{effect_number};
+ghost use Rattle.script_reading.specs.Counting.{creates};
 ghost use Rattle.script_machine.specs.Settings.{setting_of};
 ghost use Rattle.script_reading.specs.Done.{done};
 
 use crate::answers::known_in;
+use crate::counts::creates;
+use crate::effects::{NumberedEffects, effects_before, own_effects};
 use crate::refs::{cut, put};
 use crate::things::{Thing, count_made, made_by};
 use handler_meaning::Seen;
 use script_machine::{Asked, Machine, Scene, Stop, is_same_ref};
+use script_types::{NamedList, Symbol};
 use slee_effect::{Effect, Ref};
-use slee_value::{EntityId, Name, NoMemory};
+use slee_value::{EntityId, Name, NoMemory, Text};
 
-/// Does an effect, before which so many entities were made, to the children of a relation.
+/// Does an effect, before which so many entities were made and which may create a child of the relation, to its children.
 fn change_children(
-    entity: Ref,
-    relation: &Name,
+    is_created: bool,
     made: u32,
     effect: &Effect,
     refs: &mut Vec<Ref>,
 ) -> Result<(), NoMemory>
-    ensures { OnOk result (refs.new.items ≡ children_after entity relation.now made effect.now refs.old.items) }
+    ensures { OnOk result ((entity : Ref) (relation : List ℕ) → is_created ≡ creates entity relation effect.now → refs.new.items ≡ children_after entity relation made effect.now refs.old.items) }
 {
     match effect {
-        Effect::Create {
-            parent,
-            relation: other,
-            priority: _,
-        } => {
-            if is_same_ref(*parent, entity) && other.as_bytes() == relation.as_bytes() {
+        Effect::Create { .. } => {
+            if is_created {
                 refs.push(Ref::Fresh(made))?;
             }
         }
@@ -48,19 +50,27 @@ fn change_children(
 }
 
 /// Does effects, before which so many entities were made, to the children of a relation.
+#[tactic(auto, using(script_machine::proofs::KeyLemmas::number_there))]
 fn do_to_children(
+    names: &NamedList<Text>,
     entity: Ref,
-    relation: &Name,
+    relation: &Symbol<Name>,
     before: u32,
-    effects: &[Effect],
+    given: NumberedEffects,
     refs: &mut Vec<Ref>,
 ) -> Result<(), NoMemory>
-    requires { before + length effects.now < 2 ^ 32 }
-    ensures { OnOk result (refs.new.items ≡ overlay_from entities_by (children_after entity relation.now) before effects.now refs.old.items) }
+    requires few { before + length given.effects.now < 2 ^ 32 }
+    requires numbers { given.numbers.now ≡ map (effect_number names.now) given.effects.now }
+    requires relation { IsNumbered names.now relation.now }
+    ensures { OnOk result (refs.new.items ≡ overlay_from entities_by (children_after entity relation.now.name) before given.entry.effects.now refs.old.items) }
 {
+    let effects = given.effects;
+    let numbers = given.numbers;
     let mut made = before;
-    for effect in effects {
-        change_children(entity, relation, made, effect, refs)?;
+    'effects: for place in 0..effects.len() {
+        let effect = &effects[place];
+        let is_created = creates(names, entity, relation, effect, numbers[place]);
+        change_children(is_created, made, effect, refs)?;
         made += made_by(Thing::Entity, effect);
     }
     Ok(())
@@ -70,20 +80,25 @@ fn do_to_children(
 fn children_laid(
     machine: &Machine,
     scene: &Scene,
-    relation: &Name,
+    relation: &Symbol<Name>,
     seen: Option<&Seen>,
 ) -> Result<Vec<Ref>, NoMemory>
-    ensures { IfOk result (λ refs. refs.items ≡ overlay entities_by (children_after scene.now.me relation.now) (scene.now.effects.now ++ machine.now.effects) (map ref.Known (ids_in (option_copied seen.entry)))) }
+    requires names { machine.now.names ≡ scene.now.names.now }
+    ensures { IfOk result (λ refs. refs.items ≡ overlay entities_by (children_after scene.now.me relation.now.name) (scene.now.effects.now ++ machine.now.effects) (map ref.Known (ids_in (option_copied seen.entry)))) }
 {
     let mut refs = known_in(scene.alloc, seen)?;
-    do_to_children(scene.me, relation, 0, scene.effects, &mut refs)?;
+    let names = scene.names;
+    let earlier = effects_before(scene);
+    do_to_children(names, scene.me, relation, 0, earlier, &mut refs)?;
     let before = count_made(Thing::Entity, scene.effects);
-    do_to_children(scene.me, relation, before, machine.effects(), &mut refs)?;
+    let own = own_effects(machine);
+    do_to_children(names, scene.me, relation, before, own, &mut refs)?;
     Ok(refs)
 }
 
-pub(crate) fn children_key(entity: Ref, relation: &Name) -> Option<Asked>
-    ensures { option_map key_asked result ≡ key_of (λ n. k.Children (record { 0 = n }) relation.now) entity }
+pub(crate) fn children_key(entity: Ref, relation: &Symbol<Name>) -> Option<Asked>
+    ensures key { option_map key_asked result ≡ key_of (λ n. k.Children (record { 0 = n }) relation.now.name) entity }
+    ensures numbered { (names : List (List ℕ)) → IsNumbered names relation.now → AreNumberedAsked names result }
 {
     match entity {
         Ref::Known(number) => Some(Asked::Children(EntityId(number), relation)),
@@ -92,9 +107,15 @@ pub(crate) fn children_key(entity: Ref, relation: &Name) -> Option<Asked>
 }
 
 /// The children of a relation, new ones last.
-pub fn children(machine: &mut Machine, scene: &Scene, relation: &Name) -> Result<Vec<Ref>, Stop>
-    ensures agrees { AgreesAs (λ refs. refs.items) (read.children (setting_of scene.now) relation.now) machine.old machine.new result }
+pub fn children(
+    machine: &mut Machine,
+    scene: &Scene,
+    relation: &Symbol<Name>,
+) -> Result<Vec<Ref>, Stop>
+    requires names { machine.old.names ≡ scene.now.names.now }
+    ensures agrees { AgreesAs (λ refs. refs.items) (read.children (setting_of scene.now) relation.now.name) machine.old machine.new result }
     ensures spent { machine.new.left ≤ machine.old.left }
+    ensures names { machine.new.names ≡ machine.old.names }
     ensures kept { standing machine.new ≡ standing machine.old }
 {
     let seen = machine.look(scene, children_key(scene.me, relation))?;
@@ -144,7 +165,8 @@ fn activities_laid(
 }
 
 fn activities_key(entity: Ref) -> Option<Asked<'static>>
-    ensures { option_map key_asked result ≡ key_of (λ n. k.Activities (record { 0 = n })) entity }
+    ensures key { option_map key_asked result ≡ key_of (λ n. k.Activities (record { 0 = n })) entity }
+    ensures numbered { (names : List (List ℕ)) → AreNumberedAsked names result }
 {
     match entity {
         Ref::Known(number) => Some(Asked::Activities(EntityId(number))),
@@ -154,8 +176,10 @@ fn activities_key(entity: Ref) -> Option<Asked<'static>>
 
 /// The activities to which the entity is attached, new ones last.
 pub fn attached_activities(machine: &mut Machine, scene: &Scene) -> Result<Vec<Ref>, Stop>
+    requires names { machine.old.names ≡ scene.now.names.now }
     ensures agrees { AgreesAs (λ refs. refs.items) (read.activities (setting_of scene.now)) machine.old machine.new result }
     ensures spent { machine.new.left ≤ machine.old.left }
+    ensures names { machine.new.names ≡ machine.old.names }
     ensures kept { standing machine.new ≡ standing machine.old }
 {
     let seen = machine.look(scene, activities_key(scene.me))?;

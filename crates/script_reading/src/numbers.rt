@@ -1,11 +1,11 @@
 //! Numbers that are read: the time, and priorities.
-ghost use Rattle.std.specs.Prelude.{◌≡◌, ◌≤◌, ◌<◌, ◌+◌, ◌++◌, ◌^◌, length, option_map};
+ghost use Rattle.std.specs.Prelude.{◌≡◌, List, ℕ, ◌≤◌, ◌<◌, ◌+◌, ◌++◌, ◌^◌, length, option_map};
 ghost use Rattle.handler_meaning.specs.Overlay.{overlay, overlay_from, entities_by, priority_after};
 ghost use Rattle.handler_meaning.specs.Observing as read;
 ghost use Rattle.handler_meaning.specs.Observing.{key_of};
 ghost use Rattle.handler_meaning.specs.declared.key.Key.TheVariants as k;
 ghost use Rattle.script_machine.specs.Agreeing.{Agrees};
-ghost use Rattle.script_machine.specs.Asking.{key_asked};
+ghost use Rattle.script_machine.specs.Asking.{AreNumberedAsked, key_asked};
 ghost use Rattle.script_machine.specs.Lending.{standing};
 ghost use Rattle.script_machine.specs.Settings.{setting_of};
 
@@ -17,8 +17,10 @@ use slee_value::EntityId;
 
 /// The time.
 pub fn now(machine: &mut Machine, scene: &Scene) -> Result<i64, Stop>
+    requires names { machine.old.names ≡ scene.now.names.now }
     ensures agrees { Agrees (read.now (setting_of scene.now)) machine.old machine.new result }
     ensures spent { machine.new.left ≤ machine.old.left }
+    ensures names { machine.new.names ≡ machine.old.names }
     ensures kept { standing machine.new ≡ standing machine.old }
 {
     let seen = machine.look(scene, Some(Asked::Now))?;
@@ -67,7 +69,8 @@ fn priority_laid(machine: &Machine, scene: &Scene, entity: Ref, first: i64) -> i
 }
 
 fn priority_key(entity: Ref) -> Option<Asked<'static>>
-    ensures { option_map key_asked result ≡ key_of (λ n. k.Priority (record { 0 = n })) entity }
+    ensures key { option_map key_asked result ≡ key_of (λ n. k.Priority (record { 0 = n })) entity }
+    ensures numbered { (names : List (List ℕ)) → AreNumberedAsked names result }
 {
     match entity {
         Ref::Known(number) => Some(Asked::Priority(EntityId(number))),
@@ -77,8 +80,10 @@ fn priority_key(entity: Ref) -> Option<Asked<'static>>
 
 /// The priority of an entity.
 pub fn priority(machine: &mut Machine, scene: &Scene, entity: Ref) -> Result<i64, Stop>
+    requires names { machine.old.names ≡ scene.now.names.now }
     ensures agrees { Agrees (read.priority (setting_of scene.now) entity) machine.old machine.new result }
     ensures spent { machine.new.left ≤ machine.old.left }
+    ensures names { machine.new.names ≡ machine.old.names }
     ensures kept { standing machine.new ≡ standing machine.old }
 {
     let seen = machine.look(scene, priority_key(entity))?;

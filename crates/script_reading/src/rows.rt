@@ -1,5 +1,5 @@
 //! Rows of profile tables, which no effect changes.
-ghost use Rattle.std.specs.Prelude.{◌≡◌, ◌≤◌};
+ghost use Rattle.std.specs.Prelude.{◌≡◌, ◌≤◌, IfOk, map};
 ghost use Rattle.std.specs.Option.{option_copied, option_map};
 ghost use Rattle.slee_effect.specs.declared.value.Val.TheVariants.{Plain};
 ghost use Rattle.handler_meaning.specs.Answers.{value_under};
@@ -7,37 +7,70 @@ ghost use Rattle.handler_meaning.specs.Values.{flag};
 ghost use Rattle.script_machine.specs.Agreeing.{AgreesAs};
 ghost use Rattle.script_machine.specs.Lending.{value_at, standing};
 ghost use Rattle.script_machine.specs.Settings.{setting_of};
-ghost use Rattle.script_reading.specs.Rows.{row_of, profile_value, has_profile};
+ghost use Rattle.script_types.specs.Codes.{number_in};
+ghost use Rattle.script_types.specs.Numbers.{IsNumbered};
+ghost use Rattle.script_reading.specs.Rows.{AreNumberedIn, row_lent, row_of, profile_value, has_profile};
 
 use crate::answers::row_in;
 use handler_meaning::FailKind;
-use script_machine::{Asked, Lent, Machine, Place, Scene, Stop, text_of};
-use slee_value::{Kind, Name, Payload, Value};
+use script_machine::{
+    Asked, Lent, Machine, NumberedName, Place, Scene, Stop, is_same_name, text_of,
+};
+use script_types::{NamedList, Symbol};
+use slee_value::{Kind, Name, Payload, Text, Value};
+
+/// A row with the numbers of its attributes' names.
+#[derive(Debug, Clone, Copy)]
+struct NumberedRow<'a> {
+    row: &'a Payload,
+    numbers: &'a [Option<usize>],
+}
 
 /// A row of a table, whose name is the text in this place, if it is there.
 #[tactic(auto, using(script_machine::proofs::KindLemmas::no_text_stays))]
 fn profile_row<'a>(
     machine: &mut Machine,
     scene: &Scene<'a>,
-    table: &Name,
+    table: &Symbol<Name>,
     key: &Place,
-) -> Result<Option<&'a Payload>, Stop>
-    ensures agrees { AgreesAs option_copied (row_of (setting_of scene.now) table.now (value_at (standing machine.old) key.now)) machine.old machine.new result }
+) -> Result<Option<NumberedRow<'a>>, Stop>
+    requires names { machine.old.names ≡ scene.now.names.now }
+    requires table { IsNumbered scene.now.names.now table.now }
+    ensures agrees { AgreesAs row_lent (row_of (setting_of scene.now) table.now.name (value_at (standing machine.old) key.now)) machine.old machine.new result }
+    ensures numbers { IfOk result (AreNumberedIn scene.now.names.now) }
     ensures spent { machine.new.left ≤ machine.old.left }
+    ensures names { machine.new.names ≡ machine.old.names }
     ensures kept { standing machine.new ≡ standing machine.old }
 {
     let name = text_of(machine.lend(key))?;
     let looked = machine.peek(scene, Some(Asked::Profile(table, name)))?;
+    let numbers = looked.numbers;
     let seen = machine.note(looked)?;
-    Ok(row_in(seen))
+    match row_in(seen) {
+        Some(row) => Ok(Some(NumberedRow { row, numbers })),
+        None => Ok(None),
+    }
 }
 
 /// The value that stands under a name.
-fn value_under<'a>(fields: &'a [(Name, Value)], name: &Name) -> Option<&'a Value>
-    ensures { option_map Plain (option_copied result) ≡ value_under name.now fields.now }
+#[tactic(auto, using(script_machine::proofs::KeyLemmas::number_there))]
+fn value_under<'a>(
+    names: &NamedList<Text>,
+    row: NumberedRow<'a>,
+    name: &Symbol<Name>,
+) -> Option<&'a Value>
+    requires numbers { row.numbers.now ≡ map (λ f. number_in names.now f.0) row.row.now }
+    requires name { IsNumbered names.now name.now }
+    ensures { option_map Plain (option_copied result) ≡ value_under name.now.name row.entry.row.now }
 {
-    for (other, value) in fields {
-        if other.as_bytes() == name.as_bytes() {
+    let fields = row.row.as_slice();
+    'fields: for place in 0..fields.len() {
+        let (other, value) = &fields[place];
+        let field = NumberedName {
+            name: other.as_str(),
+            number: row.numbers[place],
+        };
+        if is_same_name(names, field, NumberedName::of_name(name)) {
             return Some(value);
         }
     }
@@ -48,19 +81,23 @@ fn value_under<'a>(fields: &'a [(Name, Value)], name: &Name) -> Option<&'a Value
 pub fn profile_value<'a>(
     machine: &mut Machine,
     scene: &Scene<'a>,
-    table: &Name,
+    table: &Symbol<Name>,
     key: &Place,
-    name: &Name,
+    name: &Symbol<Name>,
     kind: Kind,
 ) -> Result<Place<'a>, Stop>
-    ensures agrees { AgreesAs (value_at (standing machine.new)) (profile_value (setting_of scene.now) table.now (value_at (standing machine.old) key.now) name.now kind) machine.old machine.new result }
+    requires names { machine.old.names ≡ scene.now.names.now }
+    requires table { IsNumbered scene.now.names.now table.now }
+    requires name { IsNumbered scene.now.names.now name.now }
+    ensures agrees { AgreesAs (value_at (standing machine.new)) (profile_value (setting_of scene.now) table.now.name (value_at (standing machine.old) key.now) name.now.name kind) machine.old machine.new result }
     ensures spent { machine.new.left ≤ machine.old.left }
+    ensures names { machine.new.names ≡ machine.old.names }
     ensures kept { standing machine.new ≡ standing machine.old }
 {
     let Some(row) = profile_row(machine, scene, table, key)? else {
         return Err(Stop::Broken(FailKind::NoRow));
     };
-    let Some(value) = value_under(row.as_slice(), name) else {
+    let Some(value) = value_under(scene.names, row, name) else {
         return Err(Stop::Broken(FailKind::NoRow));
     };
     let value = Lent::Held(value);
@@ -74,11 +111,14 @@ pub fn profile_value<'a>(
 pub fn has_profile(
     machine: &mut Machine,
     scene: &Scene,
-    table: &Name,
+    table: &Symbol<Name>,
     key: &Place,
 ) -> Result<bool, Stop>
-    ensures agrees { AgreesAs flag (has_profile (setting_of scene.now) table.now (value_at (standing machine.old) key.now)) machine.old machine.new result }
+    requires names { machine.old.names ≡ scene.now.names.now }
+    requires table { IsNumbered scene.now.names.now table.now }
+    ensures agrees { AgreesAs flag (has_profile (setting_of scene.now) table.now.name (value_at (standing machine.old) key.now)) machine.old machine.new result }
     ensures spent { machine.new.left ≤ machine.old.left }
+    ensures names { machine.new.names ≡ machine.old.names }
     ensures kept { standing machine.new ≡ standing machine.old }
 {
     Ok(profile_row(machine, scene, table, key)?.is_some())

@@ -1,12 +1,12 @@
 //! Attachments, and the activity on which a name or a timer stands.
-ghost use Rattle.std.specs.Prelude.{◌≡◌, ◌≤◌, ◌<◌, ◌+◌, ◌++◌, ◌^◌, length, option_map};
+ghost use Rattle.std.specs.Prelude.{◌≡◌, List, ℕ, ◌≤◌, ◌<◌, ◌+◌, ◌++◌, ◌^◌, length, option_map};
 ghost use Rattle.handler_meaning.specs.Overlay.{overlay, overlay_from, activities_by, timers_by, attached_after, named_after, timer_after, stands_on};
 ghost use Rattle.handler_meaning.specs.Observing as read;
 ghost use Rattle.handler_meaning.specs.Observing.{key_of, key_of_two};
 ghost use Rattle.handler_meaning.specs.Values.{with_text};
 ghost use Rattle.handler_meaning.specs.declared.key.Key.TheVariants as k;
 ghost use Rattle.script_machine.specs.Agreeing.{Agrees};
-ghost use Rattle.script_machine.specs.Asking.{key_asked};
+ghost use Rattle.script_machine.specs.Asking.{AreNumberedAsked, key_asked};
 ghost use Rattle.script_machine.specs.Lending.{standing, value_at};
 ghost use Rattle.script_machine.specs.Settings.{setting_of};
 ghost use Rattle.script_reading.specs.Done.{done};
@@ -39,7 +39,8 @@ fn attached_over(entity: Ref, activity: Ref, effects: &[Effect], first: bool) ->
 }
 
 fn attached_key(entity: Ref, activity: Ref) -> Option<Asked<'static>>
-    ensures { option_map key_asked result ≡ key_of_two (λ m n. k.Attached (record { 0 = m }) (record { 0 = n })) entity activity }
+    ensures key { option_map key_asked result ≡ key_of_two (λ m n. k.Attached (record { 0 = m }) (record { 0 = n })) entity activity }
+    ensures numbered { (names : List (List ℕ)) → AreNumberedAsked names result }
 {
     match (entity, activity) {
         (Ref::Known(entity), Ref::Known(activity)) => {
@@ -59,8 +60,10 @@ fn attached_laid(machine: &Machine, scene: &Scene, activity: Ref, first: bool) -
 
 /// Whether the entity is attached to the activity.
 pub fn attached(machine: &mut Machine, scene: &Scene, activity: Ref) -> Result<bool, Stop>
+    requires names { machine.old.names ≡ scene.now.names.now }
     ensures agrees { Agrees (read.attached (setting_of scene.now) activity) machine.old machine.new result }
     ensures spent { machine.new.left ≤ machine.old.left }
+    ensures names { machine.new.names ≡ machine.old.names }
     ensures kept { standing machine.new ≡ standing machine.old }
 {
     let seen = machine.look(scene, attached_key(scene.me, activity))?;
@@ -95,8 +98,10 @@ fn named_laid(machine: &Machine, scene: &Scene, name: &str, first: Option<Ref>) 
 
 /// The activity for which a name stands.
 pub fn named(machine: &mut Machine, scene: &Scene, name: &Text) -> Result<Option<Ref>, Stop>
+    requires names { machine.old.names ≡ scene.now.names.now }
     ensures agrees { Agrees (read.named (setting_of scene.now) name.now) machine.old machine.new result }
     ensures spent { machine.new.left ≤ machine.old.left }
+    ensures names { machine.new.names ≡ machine.old.names }
     ensures kept { standing machine.new ≡ standing machine.old }
 {
     let name = name.as_str();
@@ -107,8 +112,10 @@ pub fn named(machine: &mut Machine, scene: &Scene, name: &Text) -> Result<Option
 /// The activity for which the text in this place stands.
 #[tactic(auto, using(script_machine::proofs::KindLemmas::no_text_stays))]
 pub fn named_in(machine: &mut Machine, scene: &Scene, place: &Place) -> Result<Option<Ref>, Stop>
+    requires names { machine.old.names ≡ scene.now.names.now }
     ensures agrees { Agrees (with_text (value_at (standing machine.old) place.now) (read.named (setting_of scene.now))) machine.old machine.new result }
     ensures spent { machine.new.left ≤ machine.old.left }
+    ensures names { machine.new.names ≡ machine.old.names }
     ensures kept { standing machine.new ≡ standing machine.old }
 {
     let name = text_of(machine.lend(place))?;
@@ -165,7 +172,8 @@ fn timer_laid(machine: &Machine, scene: &Scene, timer: Ref, first: Option<Ref>) 
 }
 
 fn timer_key(timer: Ref) -> Option<Asked<'static>>
-    ensures { option_map key_asked result ≡ key_of (λ n. k.Timer (record { 0 = n })) timer }
+    ensures key { option_map key_asked result ≡ key_of (λ n. k.Timer (record { 0 = n })) timer }
+    ensures numbered { (names : List (List ℕ)) → AreNumberedAsked names result }
 {
     match timer {
         Ref::Known(number) => Some(Asked::Timer(TimerId(number))),
@@ -175,8 +183,10 @@ fn timer_key(timer: Ref) -> Option<Asked<'static>>
 
 /// The activity on which a timer stands.
 pub fn timer(machine: &mut Machine, scene: &Scene, timer: Ref) -> Result<Option<Ref>, Stop>
+    requires names { machine.old.names ≡ scene.now.names.now }
     ensures agrees { Agrees (read.timer (setting_of scene.now) timer) machine.old machine.new result }
     ensures spent { machine.new.left ≤ machine.old.left }
+    ensures names { machine.new.names ≡ machine.old.names }
     ensures kept { standing machine.new ≡ standing machine.old }
 {
     let seen = machine.look(scene, timer_key(timer))?;

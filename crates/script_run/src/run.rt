@@ -1,5 +1,6 @@
 //! Whole runs.
 ghost use Rattle.std.specs.Prelude.{◌≡◌, ◌≤◌, length, map};
+ghost use Rattle.script_types.specs.Numbers.{AreNumberedSteps, IsNumberedProgram};
 ghost use Rattle.script_types.specs.ProgramOf.{steps_of, block_program_of};
 ghost use Rattle.handler_meaning.specs.Answers.{kept};
 ghost use Rattle.handler_meaning.specs.Running.{effect_limit};
@@ -14,8 +15,10 @@ use crate::words::word_of;
 use crate::{Before, Keys, Known};
 use block_run::{Stage, block_at, do_all};
 use handler_meaning::{Args, FailKind, Key, Outcome, Which};
-use script_machine::{Finished, Machine, Scene, Stop};
-use script_types::{BlockSteps, Step};
+use script_machine::{
+    Finished, Machine, Scene, Stop, numbers_of_answers, numbers_of_effects, numbers_of_keys,
+};
+use script_types::{BlockSteps, NamedList, Step};
 use slee_effect::{Effects, Ref};
 use slee_value::{EntityId, NoMemory, Text};
 use std::alloc::Global;
@@ -85,9 +88,10 @@ fn went_through(alloc: Global, finished: Finished) -> Result<Run, Unfinished>
 fn run_steps(alloc: Global, stage: &Stage, steps: &[Step]) -> Result<Run, Unfinished>
     requires stage { IsTidyStage stage.now }
     requires steps { AreTidy (steps_of steps.now) }
+    requires numbered { AreNumberedSteps stage.now.scene.names.now (steps_of steps.now) }
     ensures { Means (report (all_in stage.now 8 (steps_of steps.now) start)) result }
 {
-    let mut machine = Machine::new(alloc);
+    let mut machine = Machine::new(alloc, stage.scene.names);
     let end = do_all(&mut machine, stage, CALL_DEPTH, steps);
     let finished = machine.finish();
     match end {
@@ -106,6 +110,7 @@ fn run_steps(alloc: Global, stage: &Stage, steps: &[Step]) -> Result<Run, Unfini
 /// What a script of a block means for an entity, over the answers that are known.
 pub fn run_in(
     alloc: Global,
+    names: &NamedList<Text>,
     blocks: &[BlockSteps],
     which: Which,
     me: EntityId,
@@ -114,6 +119,7 @@ pub fn run_in(
     known: &Known,
 ) -> Result<Run, Unfinished>
     requires tidy { IsTidyProgram (map block_program_of blocks.now) }
+    requires numbered { IsNumberedProgram names.now (map block_program_of blocks.now) }
     requires effects { length before.now.effects ≤ effect_limit }
     ensures { Means (meaning (kept known.now) (map block_program_of blocks.now) which me arguments.now (before_of before.now)) result }
 {
@@ -123,12 +129,19 @@ pub fn run_in(
     let Some(steps) = script_in(block, which.part) else {
         return Err(Unfinished::Unchecked);
     };
+    let known_numbers = numbers_of_answers(alloc, names, known.as_slice())?;
+    let effect_numbers = numbers_of_effects(alloc, names, before.effects.as_slice())?;
+    let key_numbers = numbers_of_keys(alloc, names, before.keys.as_slice())?;
     let stage = Stage {
         scene: Scene {
             alloc,
+            names,
             known: known.as_slice(),
+            known_numbers: &known_numbers,
             effects: before.effects.as_slice(),
+            effect_numbers: &effect_numbers,
             keys: before.keys.as_slice(),
+            key_numbers: &key_numbers,
             arguments,
             me: Ref::Known(me.0),
             masks: block.masks.as_slice(),

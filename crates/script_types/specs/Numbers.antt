@@ -14,7 +14,7 @@ use Rattle.script_types.specs.Program as p
 use Rattle.script_types.specs.Program.{Term, Single, Ask, Compare, Combine, Assigning, Rank, OnEntities, OnActivities, OnTimers, Saying, Call, Step, Steps, BlockProgram, Program}
 
 -- the symbol has the number of its name
-unfoldable pub IsNumbered : List Bytes → Symbol Bytes → Type 0
+abbrev pub IsNumbered : List Bytes → Symbol Bytes → Type 0
 IsNumbered names x = x.number ≡ number_in names x.name
 
 abbrev pub IsNumberedAtom : List Bytes → Atom → Type 0

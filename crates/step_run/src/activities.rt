@@ -3,6 +3,7 @@ ghost use Rattle.std.specs.Prelude.{◌≡◌, ◌≤◌};
 ghost use Rattle.script_types.specs.Program as p;
 ghost use Rattle.script_types.specs.ProgramOf.{term_of, on_activities_of};
 ghost use Rattle.handler_meaning.specs.Doing.{on_activities};
+ghost use Rattle.script_types.specs.Numbers.{IsNumberedOnActivities, IsNumberedTerm};
 ghost use Rattle.script_machine.specs.Agreeing.{Agrees};
 ghost use Rattle.script_machine.specs.Settings.{setting_of};
 ghost use Rattle.step_run.specs.Firing.{FiresOnce};
@@ -20,8 +21,10 @@ use term_run::eval_activity;
 
 /// `null as NAME;`
 fn make_null(machine: &mut Machine, scene: &Scene) -> Result<(), Stop>
+    requires names { machine.old.names ≡ scene.now.names.now }
     ensures agrees { Agrees (on_activities (setting_of scene.now) p.Null) machine.old machine.new result }
     ensures spent { machine.new.left ≤ machine.old.left }
+    ensures names { machine.new.names ≡ machine.old.names }
 {
     let number = next_number(machine, scene, Thing::Activity);
     machine.add_effect(Effect::NewNull)?;
@@ -30,8 +33,11 @@ fn make_null(machine: &mut Machine, scene: &Scene) -> Result<(), Stop>
 
 /// `end e;`
 fn end_null(machine: &mut Machine, scene: &Scene, term: &Term) -> Result<(), Stop>
+    requires names { machine.old.names ≡ scene.now.names.now }
+    requires term { IsNumberedTerm scene.now.names.now (term_of term.now) }
     ensures agrees { Agrees (on_activities (setting_of scene.now) (p.End (term_of term.now))) machine.old machine.new result }
     ensures spent { machine.new.left ≤ machine.old.left }
+    ensures names { machine.new.names ≡ machine.old.names }
 {
     let activity = eval_activity(machine, scene, term)?;
     if !used_active(machine, scene, activity)?.null {
@@ -46,9 +52,12 @@ pub fn do_on_activities(
     scene: &Scene,
     step: &OnActivities,
 ) -> Result<(), Stop>
+    requires names { machine.old.names ≡ scene.now.names.now }
+    requires step { IsNumberedOnActivities scene.now.names.now (on_activities_of step.now) }
     requires { FiresOnce (on_activities_of step.now) }
     ensures agrees { Agrees (on_activities (setting_of scene.now) (on_activities_of step.now)) machine.old machine.new result }
     ensures spent { machine.new.left ≤ machine.old.left }
+    ensures names { machine.new.names ≡ machine.old.names }
 {
     match step {
         OnActivities::Attach(someone, term) => attach(machine, scene, *someone, term),

@@ -3,6 +3,7 @@ ghost use Rattle.std.specs.Prelude.{◌≡◌, ◌≤◌};
 ghost use Rattle.script_types.specs.Program as p;
 ghost use Rattle.script_types.specs.ProgramOf.{term_of, assigning_of};
 ghost use Rattle.handler_meaning.specs.Doing.{assigns};
+ghost use Rattle.script_types.specs.Numbers.{IsNumbered, IsNumberedAssigning, IsNumberedTerm};
 ghost use Rattle.script_machine.specs.Agreeing.{Agrees};
 ghost use Rattle.script_machine.specs.Settings.{setting_of};
 
@@ -16,8 +17,11 @@ use term_run::{eval, eval_activity};
 
 /// `let NAME = e;`
 fn declare_value(machine: &mut Machine, scene: &Scene, term: &Term) -> Result<(), Stop>
+    requires names { machine.old.names ≡ scene.now.names.now }
+    requires term { IsNumberedTerm scene.now.names.now (term_of term.now) }
     ensures agrees { Agrees (assigns (setting_of scene.now) (p.New (term_of term.now))) machine.old machine.new result }
     ensures spent { machine.new.left ≤ machine.old.left }
+    ensures names { machine.new.names ≡ machine.old.names }
 {
     let x = eval(machine, scene, term)?;
     machine.declare(Variable::of_value(x))
@@ -25,25 +29,34 @@ fn declare_value(machine: &mut Machine, scene: &Scene, term: &Term) -> Result<()
 
 /// `NAME = e;`
 fn assign_value(machine: &mut Machine, scene: &Scene, place: usize, term: &Term) -> Result<(), Stop>
+    requires names { machine.old.names ≡ scene.now.names.now }
+    requires term { IsNumberedTerm scene.now.names.now (term_of term.now) }
     ensures agrees { Agrees (assigns (setting_of scene.now) (p.Variable place (term_of term.now))) machine.old machine.new result }
     ensures spent { machine.new.left ≤ machine.old.left }
+    ensures names { machine.new.names ≡ machine.old.names }
 {
     let x = eval(machine, scene, term)?;
     machine.assign(place, x)
 }
 
 /// `self.NAME = e;`
-fn set_field(machine: &mut Machine, scene: &Scene, name: &Name, term: &Term) -> Result<(), Stop>
+fn set_field(machine: &mut Machine, scene: &Scene, name: &Symbol<Name>, term: &Term) -> Result<(), Stop>
+    requires names { machine.old.names ≡ scene.now.names.now }
+    requires name { IsNumbered scene.now.names.now name.now }
+    requires term { IsNumberedTerm scene.now.names.now (term_of term.now) }
     ensures agrees { Agrees (assigns (setting_of scene.now) (p.Field name.now (term_of term.now))) machine.old machine.new result }
     ensures spent { machine.new.left ≤ machine.old.left }
+    ensures names { machine.new.names ≡ machine.old.names }
 {
     let value = eval(machine, scene, term)?;
-    let name = text_of_name(scene.alloc, name)?;
-    machine.add_effect(Effect::SetField {
+    let number = name.number;
+    let name = text_of_name(scene.alloc, &name.name)?;
+    let effect = Effect::SetField {
         entity: scene.me,
         name,
         value,
-    })
+    };
+    machine.add_numbered_effect(effect, number)
 }
 
 /// `attr(e, NAME) = e;`
@@ -51,27 +64,37 @@ fn set_attribute(
     machine: &mut Machine,
     scene: &Scene,
     place: &Term,
-    key: &Text,
+    key: &Symbol<Text>,
     term: &Term,
 ) -> Result<(), Stop>
+    requires names { machine.old.names ≡ scene.now.names.now }
+    requires place { IsNumberedTerm scene.now.names.now (term_of place.now) }
+    requires key { IsNumbered scene.now.names.now key.now }
+    requires term { IsNumberedTerm scene.now.names.now (term_of term.now) }
     ensures agrees { Agrees (assigns (setting_of scene.now) (p.Attribute (term_of place.now) key.now (term_of term.now))) machine.old machine.new result }
     ensures spent { machine.new.left ≤ machine.old.left }
+    ensures names { machine.new.names ≡ machine.old.names }
 {
     let activity = eval_activity(machine, scene, place)?;
     let value = eval(machine, scene, term)?;
     used(machine, scene, activity)?;
-    let key = key.copy(scene.alloc)?;
-    machine.add_effect(Effect::SetAttr {
+    let number = key.number;
+    let key = key.name.copy(scene.alloc)?;
+    let effect = Effect::SetAttr {
         activity,
         key,
         value,
-    })
+    };
+    machine.add_numbered_effect(effect, number)
 }
 
 /// A step that gives a value to something.
 pub fn do_assigning(machine: &mut Machine, scene: &Scene, step: &Assigning) -> Result<(), Stop>
+    requires names { machine.old.names ≡ scene.now.names.now }
+    requires step { IsNumberedAssigning scene.now.names.now (assigning_of step.now) }
     ensures agrees { Agrees (assigns (setting_of scene.now) (assigning_of step.now)) machine.old machine.new result }
     ensures spent { machine.new.left ≤ machine.old.left }
+    ensures names { machine.new.names ≡ machine.old.names }
 {
     match step {
         Assigning::New(term) => declare_value(machine, scene, term),

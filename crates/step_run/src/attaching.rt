@@ -3,6 +3,7 @@ ghost use Rattle.std.specs.Prelude.{◌≡◌, ◌≤◌};
 ghost use Rattle.script_types.specs.Program as p;
 ghost use Rattle.script_types.specs.ProgramOf.{term_of};
 ghost use Rattle.handler_meaning.specs.Doing.{who, on_activities};
+ghost use Rattle.script_types.specs.Numbers.{IsNumbered, IsNumberedTerm};
 ghost use Rattle.script_machine.specs.Agreeing.{Agrees};
 ghost use Rattle.script_machine.specs.Settings.{setting_of};
 
@@ -31,8 +32,11 @@ pub(crate) fn attach(
     someone: Who,
     term: &Term,
 ) -> Result<(), Stop>
+    requires names { machine.old.names ≡ scene.now.names.now }
+    requires term { IsNumberedTerm scene.now.names.now (term_of term.now) }
     ensures agrees { Agrees (on_activities (setting_of scene.now) (p.Attach someone (term_of term.now))) machine.old machine.new result }
     ensures spent { machine.new.left ≤ machine.old.left }
+    ensures names { machine.new.names ≡ machine.old.names }
 {
     let entity = who(machine, scene, someone)?;
     let activity = eval_activity(machine, scene, term)?;
@@ -47,8 +51,11 @@ pub(crate) fn detach(
     someone: Who,
     term: &Term,
 ) -> Result<(), Stop>
+    requires names { machine.old.names ≡ scene.now.names.now }
+    requires term { IsNumberedTerm scene.now.names.now (term_of term.now) }
     ensures agrees { Agrees (on_activities (setting_of scene.now) (p.Detach someone (term_of term.now))) machine.old machine.new result }
     ensures spent { machine.new.left ≤ machine.old.left }
+    ensures names { machine.new.names ≡ machine.old.names }
 {
     let entity = who(machine, scene, someone)?;
     let activity = eval_activity(machine, scene, term)?;
@@ -60,23 +67,28 @@ pub(crate) fn detach(
 pub(crate) fn set_mask(
     machine: &mut Machine,
     scene: &Scene,
-    event: &Text,
+    event: &Symbol<Text>,
     on: bool,
     term: &Term,
 ) -> Result<(), Stop>
+    requires names { machine.old.names ≡ scene.now.names.now }
+    requires event { IsNumbered scene.now.names.now event.now }
+    requires term { IsNumberedTerm scene.now.names.now (term_of term.now) }
     ensures agrees { Agrees (on_activities (setting_of scene.now) (p.Mask event.now on (term_of term.now))) machine.old machine.new result }
     ensures spent { machine.new.left ≤ machine.old.left }
+    ensures names { machine.new.names ≡ machine.old.names }
 {
     let activity = eval_activity(machine, scene, term)?;
     used(machine, scene, activity)?;
     if !attached(machine, scene, activity)? {
         return Err(Stop::Broken(FailKind::Detached));
     }
-    let event = event.copy(scene.alloc)?;
-    machine.add_effect(Effect::SetMask {
+    let number = event.number;
+    let effect = Effect::SetMask {
         entity: scene.me,
         activity,
-        event,
+        event: event.name.copy(scene.alloc)?,
         on,
-    })
+    };
+    machine.add_numbered_effect(effect, number)
 }

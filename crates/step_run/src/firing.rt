@@ -1,8 +1,10 @@
 //! Events that are fired.
 ghost use Rattle.std.specs.Prelude.{◌≡◌, ◌≤◌, [], IfOk, OnOk, map, length};
+ghost use Rattle.std.specs.List.{AllByRecursion};
 ghost use Rattle.script_types.specs.Program as p;
 ghost use Rattle.script_types.specs.ProgramOf.{term_of, field_term_of};
 ghost use Rattle.handler_meaning.specs.Doing.{on_activities, fields_of, put_field};
+ghost use Rattle.script_types.specs.Numbers.{IsNumberedTerm};
 ghost use Rattle.script_machine.specs.Agreeing.{Agrees, AgreesAs};
 ghost use Rattle.script_machine.specs.Settings.{setting_of};
 ghost use Rattle.step_run.specs.Firing.{place_in, AreApart, names_in};
@@ -48,8 +50,11 @@ fn eval_fields(
     scene: &Scene,
     fields: &[FieldTerm],
 ) -> Result<Vec<(Text, Val)>, Stop>
+    requires names { machine.old.names ≡ scene.now.names.now }
+    requires fields { AllByRecursion (λ field. IsNumberedTerm scene.now.names.now field.1) (map field_term_of fields.now) }
     ensures agrees { AgreesAs (λ v. v.items) (fields_of (setting_of scene.now) (map field_term_of fields.now) []) machine.old machine.new result }
     ensures spent { machine.new.left ≤ machine.old.left }
+    ensures names { machine.new.names ≡ machine.old.names }
 {
     let mut done = Vec::new(scene.alloc);
     'fields: for field in fields {
@@ -78,9 +83,13 @@ pub(crate) fn fire(
     service: &Option<Text>,
     fields: &[FieldTerm],
 ) -> Result<(), Stop>
+    requires names { machine.old.names ≡ scene.now.names.now }
+    requires term { IsNumberedTerm scene.now.names.now (term_of term.now) }
+    requires fields { AllByRecursion (λ field. IsNumberedTerm scene.now.names.now field.1) (map field_term_of fields.now) }
     requires { AreApart [] (names_in (map field_term_of fields.now)) }
     ensures agrees { Agrees (on_activities (setting_of scene.now) (p.Fire event.now (term_of term.now) service.now (map field_term_of fields.now))) machine.old machine.new result }
     ensures spent { machine.new.left ≤ machine.old.left }
+    ensures names { machine.new.names ≡ machine.old.names }
 {
     let activity = eval_activity(machine, scene, term)?;
     let fields = FiredFields::from_vec(eval_fields(machine, scene, fields)?);

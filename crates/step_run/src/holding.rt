@@ -3,6 +3,7 @@ ghost use Rattle.std.specs.Prelude.{◌≡◌, ◌≤◌};
 ghost use Rattle.script_types.specs.Program as p;
 ghost use Rattle.script_types.specs.ProgramOf.{term_of};
 ghost use Rattle.handler_meaning.specs.Doing.{on_activities};
+ghost use Rattle.script_types.specs.Numbers.{IsNumberedTerm};
 ghost use Rattle.script_machine.specs.Agreeing.{Agrees};
 ghost use Rattle.script_machine.specs.Settings.{setting_of};
 
@@ -16,8 +17,11 @@ use term_run::{eval_activity, eval_int};
 
 /// `suspend e;`
 pub(crate) fn suspend(machine: &mut Machine, scene: &Scene, term: &Term) -> Result<(), Stop>
+    requires names { machine.old.names ≡ scene.now.names.now }
+    requires term { IsNumberedTerm scene.now.names.now (term_of term.now) }
     ensures agrees { Agrees (on_activities (setting_of scene.now) (p.Suspend (term_of term.now))) machine.old machine.new result }
     ensures spent { machine.new.left ≤ machine.old.left }
+    ensures names { machine.new.names ≡ machine.old.names }
 {
     let span = eval_int(machine, scene, term)?;
     if !is_within(1, LAST_MOMENT, span) {
@@ -35,8 +39,11 @@ pub(crate) fn suspend(machine: &mut Machine, scene: &Scene, term: &Term) -> Resu
 
 /// `resume e;`
 pub(crate) fn resume(machine: &mut Machine, scene: &Scene, term: &Term) -> Result<(), Stop>
+    requires names { machine.old.names ≡ scene.now.names.now }
+    requires term { IsNumberedTerm scene.now.names.now (term_of term.now) }
     ensures agrees { Agrees (on_activities (setting_of scene.now) (p.Resume (term_of term.now))) machine.old machine.new result }
     ensures spent { machine.new.left ≤ machine.old.left }
+    ensures names { machine.new.names ≡ machine.old.names }
 {
     let activity = eval_activity(machine, scene, term)?;
     used(machine, scene, activity)?;

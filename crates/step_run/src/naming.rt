@@ -3,6 +3,7 @@ ghost use Rattle.std.specs.Prelude.{◌≡◌, ◌≤◌};
 ghost use Rattle.script_types.specs.Program as p;
 ghost use Rattle.script_types.specs.ProgramOf.{term_of};
 ghost use Rattle.handler_meaning.specs.Doing.{on_activities};
+ghost use Rattle.script_types.specs.Numbers.{IsNumberedTerm};
 ghost use Rattle.script_machine.specs.Agreeing.{Agrees};
 ghost use Rattle.script_machine.specs.Settings.{setting_of};
 
@@ -20,8 +21,12 @@ pub(crate) fn bind(
     key: &Term,
     term: &Term,
 ) -> Result<(), Stop>
+    requires names { machine.old.names ≡ scene.now.names.now }
+    requires key { IsNumberedTerm scene.now.names.now (term_of key.now) }
+    requires term { IsNumberedTerm scene.now.names.now (term_of term.now) }
     ensures agrees { Agrees (on_activities (setting_of scene.now) (p.Bind (term_of key.now) (term_of term.now))) machine.old machine.new result }
     ensures spent { machine.new.left ≤ machine.old.left }
+    ensures names { machine.new.names ≡ machine.old.names }
 {
     let name = eval_text(machine, scene, key)?;
     let activity = eval_activity(machine, scene, term)?;
@@ -37,8 +42,11 @@ pub(crate) fn bind(
 
 /// `unbind e;`
 pub(crate) fn unbind(machine: &mut Machine, scene: &Scene, key: &Term) -> Result<(), Stop>
+    requires names { machine.old.names ≡ scene.now.names.now }
+    requires key { IsNumberedTerm scene.now.names.now (term_of key.now) }
     ensures agrees { Agrees (on_activities (setting_of scene.now) (p.Unbind (term_of key.now))) machine.old machine.new result }
     ensures spent { machine.new.left ≤ machine.old.left }
+    ensures names { machine.new.names ≡ machine.old.names }
 {
     let name = eval_text(machine, scene, key)?;
     if named(machine, scene, &name)?.is_none() {

@@ -3,6 +3,7 @@ ghost use Rattle.std.specs.Prelude.{◌≡◌, ◌≤◌};
 ghost use Rattle.script_types.specs.Program as p;
 ghost use Rattle.script_types.specs.ProgramOf.{term_of, saying_of};
 ghost use Rattle.handler_meaning.specs.Steps.{says};
+ghost use Rattle.script_types.specs.Numbers.{IsNumberedSaying, IsNumberedTerm};
 ghost use Rattle.script_machine.specs.Agreeing.{AgreesAs};
 ghost use Rattle.script_machine.specs.Settings.{setting_of};
 ghost use Rattle.step_run.specs.Flows.{flow_of};
@@ -16,8 +17,11 @@ use term_run::{eval, eval_int, eval_text};
 
 /// `emit e;`
 fn emit(machine: &mut Machine, scene: &Scene, term: &Term) -> Result<Flow, Stop>
+    requires names { machine.old.names ≡ scene.now.names.now }
+    requires term { IsNumberedTerm scene.now.names.now (term_of term.now) }
     ensures agrees { AgreesAs flow_of (says (setting_of scene.now) (p.Emit (term_of term.now))) machine.old machine.new result }
     ensures spent { machine.new.left ≤ machine.old.left }
+    ensures names { machine.new.names ≡ machine.old.names }
 {
     let text = eval_text(machine, scene, term)?;
     machine.add_effect(Effect::Emit {
@@ -29,8 +33,11 @@ fn emit(machine: &mut Machine, scene: &Scene, term: &Term) -> Result<Flow, Stop>
 
 /// `usage NAME e;`
 fn count_usage(machine: &mut Machine, scene: &Scene, name: &Text, term: &Term) -> Result<Flow, Stop>
+    requires names { machine.old.names ≡ scene.now.names.now }
+    requires term { IsNumberedTerm scene.now.names.now (term_of term.now) }
     ensures agrees { AgreesAs flow_of (says (setting_of scene.now) (p.Usage name.now (term_of term.now))) machine.old machine.new result }
     ensures spent { machine.new.left ≤ machine.old.left }
+    ensures names { machine.new.names ≡ machine.old.names }
 {
     let amount = eval_int(machine, scene, term)?;
     let name = name.copy(scene.alloc)?;
@@ -44,8 +51,11 @@ fn count_usage(machine: &mut Machine, scene: &Scene, name: &Text, term: &Term) -
 
 /// A step that says something or ends the script.
 pub fn do_saying(machine: &mut Machine, scene: &Scene, step: &Saying) -> Result<Flow, Stop>
+    requires names { machine.old.names ≡ scene.now.names.now }
+    requires step { IsNumberedSaying scene.now.names.now (saying_of step.now) }
     ensures agrees { AgreesAs flow_of (says (setting_of scene.now) (saying_of step.now)) machine.old machine.new result }
     ensures spent { machine.new.left ≤ machine.old.left }
+    ensures names { machine.new.names ≡ machine.old.names }
 {
     match step {
         Saying::Emit(term) => emit(machine, scene, term),

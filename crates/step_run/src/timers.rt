@@ -3,6 +3,7 @@ ghost use Rattle.std.specs.Prelude.{◌≡◌, ◌≤◌};
 ghost use Rattle.script_types.specs.Program as p;
 ghost use Rattle.script_types.specs.ProgramOf.{term_of, recurrence_of, on_timers_of};
 ghost use Rattle.handler_meaning.specs.Doing.{repeat_of, repeats_well, is_within, on_timers};
+ghost use Rattle.script_types.specs.Numbers.{IsNumberedOnTimers, IsNumberedRepeat, IsNumberedTerm};
 ghost use Rattle.script_machine.specs.Agreeing.{Agrees};
 ghost use Rattle.script_machine.specs.Settings.{setting_of};
 
@@ -20,8 +21,11 @@ fn repeat_of(
     scene: &Scene,
     repeat: &Option<Recurrence>,
 ) -> Result<(i64, i64), Stop>
+    requires names { machine.old.names ≡ scene.now.names.now }
+    requires repeat { IsNumberedRepeat scene.now.names.now (recurrence_of repeat.now) }
     ensures agrees { Agrees (repeat_of (setting_of scene.now) (recurrence_of repeat.now)) machine.old machine.new result }
     ensures spent { machine.new.left ≤ machine.old.left }
+    ensures names { machine.new.names ≡ machine.old.names }
 {
     match repeat {
         None => Ok((0, 1)),
@@ -45,8 +49,11 @@ fn repeats_well(repeat: &Option<Recurrence>, times: (i64, i64)) -> bool
 
 /// `timer NAME on e at e every e times e keep all;`
 fn start_timer(machine: &mut Machine, scene: &Scene, timer: &TimerStart) -> Result<(), Stop>
+    requires names { machine.old.names ≡ scene.now.names.now }
+    requires timer { IsNumberedOnTimers scene.now.names.now (p.Start (term_of timer.now.activity) (term_of timer.now.start) (recurrence_of timer.now.repeat) timer.now.keep) }
     ensures agrees { Agrees (on_timers (setting_of scene.now) (p.Start (term_of timer.now.activity) (term_of timer.now.start) (recurrence_of timer.now.repeat) timer.now.keep)) machine.old machine.new result }
     ensures spent { machine.new.left ≤ machine.old.left }
+    ensures names { machine.new.names ≡ machine.old.names }
 {
     let activity = eval_activity(machine, scene, &timer.activity)?;
     let start = eval_int(machine, scene, &timer.start)?;
@@ -68,8 +75,11 @@ fn start_timer(machine: &mut Machine, scene: &Scene, timer: &TimerStart) -> Resu
 
 /// `cancel e;`
 fn cancel(machine: &mut Machine, scene: &Scene, term: &Term) -> Result<(), Stop>
+    requires names { machine.old.names ≡ scene.now.names.now }
+    requires term { IsNumberedTerm scene.now.names.now (term_of term.now) }
     ensures agrees { Agrees (on_timers (setting_of scene.now) (p.Cancel (term_of term.now))) machine.old machine.new result }
     ensures spent { machine.new.left ≤ machine.old.left }
+    ensures names { machine.new.names ≡ machine.old.names }
 {
     let timer = eval_timer(machine, scene, term)?;
     machine.add_effect(Effect::CancelTimer { timer })
@@ -77,8 +87,11 @@ fn cancel(machine: &mut Machine, scene: &Scene, term: &Term) -> Result<(), Stop>
 
 /// A step on timers.
 pub fn do_on_timers(machine: &mut Machine, scene: &Scene, step: &OnTimers) -> Result<(), Stop>
+    requires names { machine.old.names ≡ scene.now.names.now }
+    requires step { IsNumberedOnTimers scene.now.names.now (on_timers_of step.now) }
     ensures agrees { Agrees (on_timers (setting_of scene.now) (on_timers_of step.now)) machine.old machine.new result }
     ensures spent { machine.new.left ≤ machine.old.left }
+    ensures names { machine.new.names ≡ machine.old.names }
 {
     match step {
         OnTimers::Start(timer) => start_timer(machine, scene, timer),

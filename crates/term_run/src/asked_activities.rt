@@ -3,13 +3,16 @@ ghost use Rattle.std.specs.Prelude.{◌≡◌, ◌≤◌};
 ghost use Rattle.script_types.specs.declared.term.Question.TheVariants as q;
 ghost use Rattle.handler_meaning.specs.Terms.{ask, is_active};
 ghost use Rattle.handler_meaning.specs.Values.{flag};
+ghost use Rattle.script_types.specs.Numbers.{IsNumbered};
 ghost use Rattle.script_machine.specs.Agreeing.{AgreesAs, EndsFinding};
 ghost use Rattle.script_machine.specs.Lending.{value_at, standing};
+ghost use Rattle.script_machine.specs.Machines.{state_of};
 ghost use Rattle.script_machine.specs.Settings.{setting_of};
 
 use handler_meaning::AcSeen;
 use script_machine::{Machine, Place, Scalar, Scene, Stop, activity_of};
 use script_reading::{attached, attribute, attribute_scalar, is_masked, state_of, used};
+use script_types::Symbol;
 use slee_value::{Kind, Text};
 
 fn is_active(seen: Option<AcSeen>) -> bool
@@ -24,8 +27,10 @@ fn is_active(seen: Option<AcSeen>) -> bool
 /// `active(a)`
 #[tactic(auto, using(script_machine::proofs::KindLemmas::no_activity_stays, script_machine::proofs::KindLemmas::activity_given))]
 pub(crate) fn ask_active(machine: &mut Machine, scene: &Scene, x: &Place) -> Result<bool, Stop>
+    requires names { machine.old.names ≡ scene.now.names.now }
     ensures agrees { AgreesAs flag (ask (setting_of scene.now) q.Active (value_at (standing machine.old) x.now)) machine.old machine.new result }
     ensures spent { machine.new.left ≤ machine.old.left }
+    ensures names { machine.new.names ≡ machine.old.names }
     ensures kept { standing machine.new ≡ standing machine.old }
 {
     let activity = activity_of(machine.lend(x))?;
@@ -36,8 +41,10 @@ pub(crate) fn ask_active(machine: &mut Machine, scene: &Scene, x: &Place) -> Res
 /// `attached(a)`
 #[tactic(auto, using(script_machine::proofs::KindLemmas::no_activity_stays, script_machine::proofs::KindLemmas::activity_given))]
 pub(crate) fn ask_attached(machine: &mut Machine, scene: &Scene, x: &Place) -> Result<bool, Stop>
+    requires names { machine.old.names ≡ scene.now.names.now }
     ensures agrees { AgreesAs flag (ask (setting_of scene.now) q.Attached (value_at (standing machine.old) x.now)) machine.old machine.new result }
     ensures spent { machine.new.left ≤ machine.old.left }
+    ensures names { machine.new.names ≡ machine.old.names }
     ensures kept { standing machine.new ≡ standing machine.old }
 {
     let activity = activity_of(machine.lend(x))?;
@@ -50,12 +57,15 @@ pub(crate) fn ask_attached(machine: &mut Machine, scene: &Scene, x: &Place) -> R
 pub(crate) fn ask_attribute<'a>(
     machine: &mut Machine,
     scene: &Scene<'a>,
-    key: &Text,
+    key: &Symbol<Text>,
     kind: Kind,
     x: &Place,
 ) -> Result<Place<'a>, Stop>
+    requires names { machine.old.names ≡ scene.now.names.now }
+    requires key { IsNumbered scene.now.names.now key.now }
     ensures agrees { AgreesAs (value_at (standing machine.new)) (ask (setting_of scene.now) (q.Attribute key.now kind) (value_at (standing machine.old) x.now)) machine.old machine.new result }
     ensures spent { machine.new.left ≤ machine.old.left }
+    ensures names { machine.new.names ≡ machine.old.names }
     ensures kept { standing machine.new ≡ standing machine.old }
 {
     let activity = activity_of(machine.lend(x))?;
@@ -68,12 +78,15 @@ pub(crate) fn ask_attribute<'a>(
 pub(crate) fn ask_attribute_scalar<T: Scalar>(
     machine: &mut Machine,
     scene: &Scene,
-    key: &Text,
+    key: &Symbol<Text>,
     kind: Kind,
     x: &Place,
 ) -> Result<Option<T>, Stop>
-    ensures finds { EndsFinding T.value_of T.is_other (ask (setting_of scene.now) (q.Attribute key.now kind) (value_at (standing machine.old) x.now) machine.old) machine.new result }
+    requires names { machine.old.names ≡ scene.now.names.now }
+    requires key { IsNumbered scene.now.names.now key.now }
+    ensures finds { EndsFinding T.value_of T.is_other (ask (setting_of scene.now) (q.Attribute key.now kind) (value_at (standing machine.old) x.now) (state_of machine.old)) machine.new result }
     ensures spent { machine.new.left ≤ machine.old.left }
+    ensures names { machine.new.names ≡ machine.old.names }
     ensures kept { standing machine.new ≡ standing machine.old }
 {
     let activity = activity_of(machine.lend(x))?;
@@ -86,11 +99,14 @@ pub(crate) fn ask_attribute_scalar<T: Scalar>(
 pub(crate) fn ask_masked(
     machine: &mut Machine,
     scene: &Scene,
-    event: &Text,
+    event: &Symbol<Text>,
     x: &Place,
 ) -> Result<bool, Stop>
+    requires names { machine.old.names ≡ scene.now.names.now }
+    requires event { IsNumbered scene.now.names.now event.now }
     ensures agrees { AgreesAs flag (ask (setting_of scene.now) (q.Masked event.now) (value_at (standing machine.old) x.now)) machine.old machine.new result }
     ensures spent { machine.new.left ≤ machine.old.left }
+    ensures names { machine.new.names ≡ machine.old.names }
     ensures kept { standing machine.new ≡ standing machine.old }
 {
     let activity = activity_of(machine.lend(x))?;

@@ -26,8 +26,10 @@ pub fn activity_value(activity: Ref) -> Val
 /// `bound(e)`
 #[tactic(auto, using(crate::proofs::AskedLemmas::bound_asked))]
 pub(crate) fn ask_bound(machine: &mut Machine, scene: &Scene, x: &Place) -> Result<bool, Stop>
+    requires names { machine.old.names ≡ scene.now.names.now }
     ensures agrees { AgreesAs flag (ask (setting_of scene.now) q.Bound (value_at (standing machine.old) x.now)) machine.old machine.new result }
     ensures spent { machine.new.left ≤ machine.old.left }
+    ensures names { machine.new.names ≡ machine.old.names }
     ensures kept { standing machine.new ≡ standing machine.old }
 {
     let activity = named_in(machine, scene, x)?;
@@ -37,8 +39,10 @@ pub(crate) fn ask_bound(machine: &mut Machine, scene: &Scene, x: &Place) -> Resu
 /// `lookup(e)`
 #[tactic(auto, using(crate::proofs::AskedLemmas::lookup_asked))]
 pub(crate) fn ask_lookup(machine: &mut Machine, scene: &Scene, x: &Place) -> Result<Val, Stop>
+    requires names { machine.old.names ≡ scene.now.names.now }
     ensures agrees { Agrees (ask (setting_of scene.now) q.Lookup (value_at (standing machine.old) x.now)) machine.old machine.new result }
     ensures spent { machine.new.left ≤ machine.old.left }
+    ensures names { machine.new.names ≡ machine.old.names }
     ensures kept { standing machine.new ≡ standing machine.old }
 {
     match named_in(machine, scene, x)? {

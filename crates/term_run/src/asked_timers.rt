@@ -13,8 +13,10 @@ use script_reading::timer;
 /// `has_timer(e)`
 #[tactic(auto, using(script_machine::proofs::KindLemmas::no_timer_stays, script_machine::proofs::KindLemmas::timer_given))]
 pub(crate) fn ask_has_timer(machine: &mut Machine, scene: &Scene, x: &Place) -> Result<bool, Stop>
+    requires names { machine.old.names ≡ scene.now.names.now }
     ensures agrees { AgreesAs flag (ask (setting_of scene.now) q.HasTimer (value_at (standing machine.old) x.now)) machine.old machine.new result }
     ensures spent { machine.new.left ≤ machine.old.left }
+    ensures names { machine.new.names ≡ machine.old.names }
     ensures kept { standing machine.new ≡ standing machine.old }
 {
     let one = timer_of(machine.lend(x))?;

@@ -4,14 +4,16 @@ ghost use Rattle.std.specs.Option.{option_copied};
 ghost use Rattle.handler_meaning.specs.Values.{int, flag};
 ghost use Rattle.handler_meaning.specs.Terms.{single, or_initial, field_at};
 ghost use Rattle.script_types.specs.declared.term.Atom.TheVariants as a;
+ghost use Rattle.script_types.specs.Numbers.{IsNumbered, IsNumberedAtom};
 ghost use Rattle.script_machine.specs.Agreeing.{AgreesAs, EndsFinding};
 ghost use Rattle.script_machine.specs.Lending.{value_lent, value_at, standing};
 ghost use Rattle.script_machine.specs.declared.places.Place.TheVariants as place;
+ghost use Rattle.script_machine.specs.Machines.{state_of};
 ghost use Rattle.script_machine.specs.Settings.{setting_of};
 
 use script_machine::{Lent, Machine, Place, Scalar, Scene, Stop};
 use script_reading::{count_children, field, field_scalar, now, priority};
-use script_types::Atom;
+use script_types::{Atom, Symbol};
 use slee_effect::Val;
 use slee_value::{Kind, Name, Value};
 
@@ -48,8 +50,10 @@ pub(crate) fn made_flag<'a>(truth: bool) -> Place<'a>
 /// The place of the time.
 #[inline(never)]
 fn time_place<'a>(machine: &mut Machine, scene: &Scene) -> Result<Place<'a>, Stop>
+    requires names { machine.old.names ≡ scene.now.names.now }
     ensures agrees { AgreesAs (value_at (standing machine.new)) (single (setting_of scene.now) a.Now) machine.old machine.new result }
     ensures spent { machine.new.left ≤ machine.old.left }
+    ensures names { machine.new.names ≡ machine.old.names }
     ensures kept { standing machine.new ≡ standing machine.old }
 {
     Ok(made_number(now(machine, scene)?))
@@ -57,9 +61,12 @@ fn time_place<'a>(machine: &mut Machine, scene: &Scene) -> Result<Place<'a>, Sto
 
 /// The place of the count of the children of a relation.
 #[inline(never)]
-fn count_place<'a>(machine: &mut Machine, scene: &Scene, relation: &Name) -> Result<Place<'a>, Stop>
+fn count_place<'a>(machine: &mut Machine, scene: &Scene, relation: &Symbol<Name>) -> Result<Place<'a>, Stop>
+    requires names { machine.old.names ≡ scene.now.names.now }
+    requires relation { IsNumbered scene.now.names.now relation.now }
     ensures agrees { AgreesAs (value_at (standing machine.new)) (single (setting_of scene.now) (a.Count relation.now)) machine.old machine.new result }
     ensures spent { machine.new.left ≤ machine.old.left }
+    ensures names { machine.new.names ≡ machine.old.names }
     ensures kept { standing machine.new ≡ standing machine.old }
 {
     Ok(made_number(count_children(machine, scene, relation)?))
@@ -68,8 +75,10 @@ fn count_place<'a>(machine: &mut Machine, scene: &Scene, relation: &Name) -> Res
 /// The place of the priority of the child in this place of the scope.
 #[inline(never)]
 fn priority_place<'a>(machine: &mut Machine, scene: &Scene, place: usize) -> Result<Place<'a>, Stop>
+    requires names { machine.old.names ≡ scene.now.names.now }
     ensures agrees { AgreesAs (value_at (standing machine.new)) (single (setting_of scene.now) (a.Priority place)) machine.old machine.new result }
     ensures spent { machine.new.left ≤ machine.old.left }
+    ensures names { machine.new.names ≡ machine.old.names }
     ensures kept { standing machine.new ≡ standing machine.old }
 {
     let child = machine.child(scene, place)?;
@@ -83,8 +92,11 @@ pub(crate) fn single<'a, 's: 'a>(
     scene: &Scene<'s>,
     atom: &'a Atom,
 ) -> Result<Place<'a>, Stop>
+    requires names { machine.old.names ≡ scene.now.names.now }
+    requires atom { IsNumberedAtom scene.now.names.now atom.now }
     ensures agrees { AgreesAs (value_at (standing machine.new)) (single (setting_of scene.now) atom.now) machine.old machine.new result }
     ensures spent { machine.new.left ≤ machine.old.left }
+    ensures names { machine.new.names ≡ machine.old.names }
     ensures kept { standing machine.new ≡ standing machine.old }
 {
     match atom {
@@ -106,7 +118,7 @@ pub(crate) fn single<'a, 's: 'a>(
 /// The number or truth value in the variable in this place, if it holds one.
 #[inline(always)]
 fn slot_scalar<T: Scalar>(machine: &Machine, scene: &Scene, place: usize) -> Result<Option<T>, Stop>
-    ensures { EndsFinding T.value_of T.is_other (single (setting_of scene.now) (a.Slot place) machine.now) machine.now result }
+    ensures { EndsFinding T.value_of T.is_other (single (setting_of scene.now) (a.Slot place) (state_of machine.now)) machine.now result }
 {
     let value = machine.variable_value(place)?;
     Ok(T::within(Lent::Set(value)))
@@ -119,8 +131,11 @@ fn placed_scalar<T: Scalar>(
     scene: &Scene,
     atom: &Atom,
 ) -> Result<Option<T>, Stop>
-    ensures finds { EndsFinding T.value_of T.is_other (single (setting_of scene.now) atom.now machine.old) machine.new result }
+    requires names { machine.old.names ≡ scene.now.names.now }
+    requires atom { IsNumberedAtom scene.now.names.now atom.now }
+    ensures finds { EndsFinding T.value_of T.is_other (single (setting_of scene.now) atom.now (state_of machine.old)) machine.new result }
     ensures spent { machine.new.left ≤ machine.old.left }
+    ensures names { machine.new.names ≡ machine.old.names }
     ensures kept { standing machine.new ≡ standing machine.old }
 {
     let place = single(machine, scene, atom)?;
@@ -134,8 +149,11 @@ pub(crate) fn single_scalar<T: Scalar>(
     scene: &Scene,
     atom: &Atom,
 ) -> Result<Option<T>, Stop>
-    ensures finds { EndsFinding T.value_of T.is_other (single (setting_of scene.now) atom.now machine.old) machine.new result }
+    requires names { machine.old.names ≡ scene.now.names.now }
+    requires atom { IsNumberedAtom scene.now.names.now atom.now }
+    ensures finds { EndsFinding T.value_of T.is_other (single (setting_of scene.now) atom.now (state_of machine.old)) machine.new result }
     ensures spent { machine.new.left ≤ machine.old.left }
+    ensures names { machine.new.names ≡ machine.old.names }
     ensures kept { standing machine.new ≡ standing machine.old }
 {
     match atom {

@@ -10,6 +10,7 @@ use script_machine::{Machine, Stop};
 pub(crate) fn spend(machine: &mut Machine, units: usize) -> Result<(), Stop>
     ensures agrees { Agrees (spend units) machine.old machine.new result }
     ensures spent { machine.new.left ≤ machine.old.left }
+    ensures names { machine.new.names ≡ machine.old.names }
     ensures kept { standing machine.new ≡ standing machine.old }
 {
     'units: for _unit in 0..units {

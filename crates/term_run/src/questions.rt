@@ -4,8 +4,10 @@ ghost use Rattle.script_types.specs.declared.term.Atom.TheVariants as a;
 ghost use Rattle.script_types.specs.declared.term.Question.TheVariants as q;
 ghost use Rattle.handler_meaning.specs.Terms.{ask};
 ghost use Rattle.handler_meaning.specs.Values.{int, flag};
+ghost use Rattle.script_types.specs.Numbers.{IsNumberedQuestion};
 ghost use Rattle.script_machine.specs.Agreeing.{AgreesAs, EndsFinding};
 ghost use Rattle.script_machine.specs.Lending.{value_lent, value_at, standing};
+ghost use Rattle.script_machine.specs.Machines.{state_of};
 ghost use Rattle.script_machine.specs.Settings.{setting_of};
 ghost use Rattle.term_run.specs.Links.{measured};
 
@@ -59,8 +61,11 @@ pub(crate) fn ask<'a>(
     question: &Question,
     x: &Place,
 ) -> Result<Place<'a>, Stop>
+    requires names { machine.old.names ≡ scene.now.names.now }
+    requires question { IsNumberedQuestion scene.now.names.now question.now }
     ensures agrees { AgreesAs (value_at (standing machine.new)) (ask (setting_of scene.now) question.now (value_at (standing machine.old) x.now)) machine.old machine.new result }
     ensures spent { machine.new.left ≤ machine.old.left }
+    ensures names { machine.new.names ≡ machine.old.names }
     ensures kept { standing machine.new ≡ standing machine.old }
 {
     let alloc = scene.alloc;
@@ -89,8 +94,11 @@ pub(crate) fn ask_scalar<T: Scalar>(
     question: &Question,
     x: &Place,
 ) -> Result<Option<T>, Stop>
-    ensures finds { EndsFinding T.value_of T.is_other (ask (setting_of scene.now) question.now (value_at (standing machine.old) x.now) machine.old) machine.new result }
+    requires names { machine.old.names ≡ scene.now.names.now }
+    requires question { IsNumberedQuestion scene.now.names.now question.now }
+    ensures finds { EndsFinding T.value_of T.is_other (ask (setting_of scene.now) question.now (value_at (standing machine.old) x.now) (state_of machine.old)) machine.new result }
     ensures spent { machine.new.left ≤ machine.old.left }
+    ensures names { machine.new.names ≡ machine.old.names }
     ensures kept { standing machine.new ≡ standing machine.old }
 {
     match question {

@@ -1,11 +1,14 @@
 //! Terms with all that stands in them. A term's unit is spent before its parts. A value is lent where it stands, and numbers and truth values go ways of their own.
 ghost use Rattle.std.specs.Prelude.{◌≡◌, ◌≤◌, ◌<◌, OnOk, true, false};
+ghost use Rattle.std.specs.List.{AllByRecursion};
 ghost use Rattle.handler_meaning.specs.Terms.{eval};
 ghost use Rattle.handler_meaning.specs.Values.{int, flag};
 ghost use Rattle.script_types.specs.ProgramOf.{term_of, ask_of, compare_of, combine_of};
+ghost use Rattle.script_types.specs.Numbers.{IsNumberedQuestion, IsNumberedTerm};
 ghost use Rattle.script_machine.specs.Agreeing.{Agrees, AgreesAs, EndsFinding};
 ghost use Rattle.script_machine.specs.Kinds.{NoInt, NoFlag, is_arithmetic, is_choice, is_of_numbers};
 ghost use Rattle.script_machine.specs.Lending.{value_at, standing};
+ghost use Rattle.script_machine.specs.Machines.{state_of};
 ghost use Rattle.script_machine.specs.Settings.{setting_of};
 ghost use Rattle.term_run.specs.Links.{linked, chained, compared, applied, asked};
 
@@ -22,8 +25,11 @@ use slee_value::Value;
 
 /// What a term gives.
 pub fn eval(machine: &mut Machine, scene: &Scene, term: &Term) -> Result<Val, Stop>
+    requires names { machine.old.names ≡ scene.now.names.now }
+    requires term { IsNumberedTerm scene.now.names.now (term_of term.now) }
     ensures agrees { Agrees (eval (setting_of scene.now) (term_of term.now)) machine.old machine.new result }
     ensures spent { machine.new.left ≤ machine.old.left }
+    ensures names { machine.new.names ≡ machine.old.names }
 {
     match term {
         Term::Chain(first, more) => eval_chain(machine, scene, first, more),
@@ -34,8 +40,11 @@ pub fn eval(machine: &mut Machine, scene: &Scene, term: &Term) -> Result<Val, St
 /// What a term gives, taken from where it stands.
 #[inline(never)]
 fn eval_found(machine: &mut Machine, scene: &Scene, term: &Term) -> Result<Val, Stop>
+    requires names { machine.old.names ≡ scene.now.names.now }
+    requires term { IsNumberedTerm scene.now.names.now (term_of term.now) }
     ensures agrees { Agrees (eval (setting_of scene.now) (term_of term.now)) machine.old machine.new result }
     ensures spent { machine.new.left ≤ machine.old.left }
+    ensures names { machine.new.names ≡ machine.old.names }
 {
     let place = find(machine, scene, term)?;
     Ok(machine.owned(scene.alloc, place)?)
@@ -49,8 +58,11 @@ pub(crate) fn find<'a, 's: 'a>(
     scene: &Scene<'s>,
     term: &'a Term,
 ) -> Result<Place<'a>, Stop>
+    requires names { machine.old.names ≡ scene.now.names.now }
+    requires term { IsNumberedTerm scene.now.names.now (term_of term.now) }
     ensures agrees { AgreesAs (value_at (standing machine.new)) (eval (setting_of scene.now) (term_of term.now)) machine.old machine.new result }
     ensures spent { machine.new.left ≤ machine.old.left }
+    ensures names { machine.new.names ≡ machine.old.names }
     ensures kept { standing machine.new ≡ standing machine.old }
 {
     match term {
@@ -71,8 +83,11 @@ pub(crate) fn eval_number(
     scene: &Scene,
     term: &Term,
 ) -> Result<Option<i64>, Stop>
-    ensures finds { EndsFinding int NoInt (eval (setting_of scene.now) (term_of term.now) machine.old) machine.new result }
+    requires names { machine.old.names ≡ scene.now.names.now }
+    requires term { IsNumberedTerm scene.now.names.now (term_of term.now) }
+    ensures finds { EndsFinding int NoInt (eval (setting_of scene.now) (term_of term.now) (state_of machine.old)) machine.new result }
     ensures spent { machine.new.left ≤ machine.old.left }
+    ensures names { machine.new.names ≡ machine.old.names }
     ensures kept { standing machine.new ≡ standing machine.old }
 {
     match term {
@@ -92,8 +107,11 @@ pub(crate) fn eval_number(
 /// The truth value that a term gives, if it gives one.
 #[cycle(terms)]
 pub fn eval_truth(machine: &mut Machine, scene: &Scene, term: &Term) -> Result<Option<bool>, Stop>
-    ensures finds { EndsFinding flag NoFlag (eval (setting_of scene.now) (term_of term.now) machine.old) machine.new result }
+    requires names { machine.old.names ≡ scene.now.names.now }
+    requires term { IsNumberedTerm scene.now.names.now (term_of term.now) }
+    ensures finds { EndsFinding flag NoFlag (eval (setting_of scene.now) (term_of term.now) (state_of machine.old)) machine.new result }
     ensures spent { machine.new.left ≤ machine.old.left }
+    ensures names { machine.new.names ≡ machine.old.names }
     ensures kept { standing machine.new ≡ standing machine.old }
 {
     match term {
@@ -115,8 +133,11 @@ fn find_asked<'a, 's: 'a>(
     scene: &Scene<'s>,
     parts: &'a (Question, Term),
 ) -> Result<Place<'a>, Stop>
+    requires names { machine.old.names ≡ scene.now.names.now }
+    requires parts { IsNumberedTerm scene.now.names.now (ask_of parts.now) }
     ensures agrees { AgreesAs (value_at (standing machine.new)) (eval (setting_of scene.now) (ask_of parts.now)) machine.old machine.new result }
     ensures spent { machine.new.left ≤ machine.old.left }
+    ensures names { machine.new.names ≡ machine.old.names }
     ensures kept { standing machine.new ≡ standing machine.old }
 {
     machine.tick()?;
@@ -133,8 +154,11 @@ fn asked_number(
     scene: &Scene,
     parts: &(Question, Term),
 ) -> Result<Option<i64>, Stop>
-    ensures finds { EndsFinding int NoInt (eval (setting_of scene.now) (ask_of parts.now) machine.old) machine.new result }
+    requires names { machine.old.names ≡ scene.now.names.now }
+    requires parts { IsNumberedTerm scene.now.names.now (ask_of parts.now) }
+    ensures finds { EndsFinding int NoInt (eval (setting_of scene.now) (ask_of parts.now) (state_of machine.old)) machine.new result }
     ensures spent { machine.new.left ≤ machine.old.left }
+    ensures names { machine.new.names ≡ machine.old.names }
     ensures kept { standing machine.new ≡ standing machine.old }
 {
     machine.tick()?;
@@ -158,8 +182,12 @@ fn placed_number(
     question: &Question,
     term: &Term,
 ) -> Result<Option<i64>, Stop>
-    ensures finds { EndsFinding int NoInt (asked (setting_of scene.now) question.now (term_of term.now) machine.old) machine.new result }
+    requires names { machine.old.names ≡ scene.now.names.now }
+    requires question { IsNumberedQuestion scene.now.names.now question.now }
+    requires term { IsNumberedTerm scene.now.names.now (term_of term.now) }
+    ensures finds { EndsFinding int NoInt (asked (setting_of scene.now) question.now (term_of term.now) (state_of machine.old)) machine.new result }
     ensures spent { machine.new.left ≤ machine.old.left }
+    ensures names { machine.new.names ≡ machine.old.names }
     ensures kept { standing machine.new ≡ standing machine.old }
 {
     let x = find(machine, scene, term)?;
@@ -175,8 +203,11 @@ fn asked_truth(
     scene: &Scene,
     parts: &(Question, Term),
 ) -> Result<Option<bool>, Stop>
-    ensures finds { EndsFinding flag NoFlag (eval (setting_of scene.now) (ask_of parts.now) machine.old) machine.new result }
+    requires names { machine.old.names ≡ scene.now.names.now }
+    requires parts { IsNumberedTerm scene.now.names.now (ask_of parts.now) }
+    ensures finds { EndsFinding flag NoFlag (eval (setting_of scene.now) (ask_of parts.now) (state_of machine.old)) machine.new result }
     ensures spent { machine.new.left ≤ machine.old.left }
+    ensures names { machine.new.names ≡ machine.old.names }
     ensures kept { standing machine.new ≡ standing machine.old }
 {
     machine.tick()?;
@@ -202,8 +233,11 @@ fn eval_compared(
     scene: &Scene,
     parts: &(Test, Term, Term),
 ) -> Result<bool, Stop>
+    requires names { machine.old.names ≡ scene.now.names.now }
+    requires parts { IsNumberedTerm scene.now.names.now (compare_of parts.now) }
     ensures agrees { AgreesAs flag (eval (setting_of scene.now) (compare_of parts.now)) machine.old machine.new result }
     ensures spent { machine.new.left ≤ machine.old.left }
+    ensures names { machine.new.names ≡ machine.old.names }
     ensures kept { standing machine.new ≡ standing machine.old }
 {
     machine.tick()?;
@@ -224,8 +258,12 @@ fn eval_compared_values(
     one: &Term,
     other: &Term,
 ) -> Result<bool, Stop>
+    requires names { machine.old.names ≡ scene.now.names.now }
+    requires one { IsNumberedTerm scene.now.names.now (term_of one.now) }
+    requires other { IsNumberedTerm scene.now.names.now (term_of other.now) }
     ensures agrees { AgreesAs flag (compared (setting_of scene.now) test (term_of one.now) (term_of other.now)) machine.old machine.new result }
     ensures spent { machine.new.left ≤ machine.old.left }
+    ensures names { machine.new.names ≡ machine.old.names }
     ensures kept { standing machine.new ≡ standing machine.old }
 {
     let x = find(machine, scene, one)?;
@@ -243,9 +281,13 @@ fn eval_compared_numbers(
     one: &Term,
     other: &Term,
 ) -> Result<bool, Stop>
+    requires names { machine.old.names ≡ scene.now.names.now }
+    requires one { IsNumberedTerm scene.now.names.now (term_of one.now) }
+    requires other { IsNumberedTerm scene.now.names.now (term_of other.now) }
     requires { is_of_numbers test ≡ true }
     ensures agrees { AgreesAs flag (compared (setting_of scene.now) test (term_of one.now) (term_of other.now)) machine.old machine.new result }
     ensures spent { machine.new.left ≤ machine.old.left }
+    ensures names { machine.new.names ≡ machine.old.names }
     ensures kept { standing machine.new ≡ standing machine.old }
 {
     let x = eval_number(machine, scene, one)?;
@@ -267,8 +309,11 @@ fn find_compared<'a>(
     scene: &Scene,
     parts: &(Test, Term, Term),
 ) -> Result<Place<'a>, Stop>
+    requires names { machine.old.names ≡ scene.now.names.now }
+    requires parts { IsNumberedTerm scene.now.names.now (compare_of parts.now) }
     ensures agrees { AgreesAs (value_at (standing machine.new)) (eval (setting_of scene.now) (compare_of parts.now)) machine.old machine.new result }
     ensures spent { machine.new.left ≤ machine.old.left }
+    ensures names { machine.new.names ≡ machine.old.names }
     ensures kept { standing machine.new ≡ standing machine.old }
 {
     let truth = eval_compared(machine, scene, parts)?;
@@ -284,8 +329,12 @@ fn find_chain<'a>(
     first: &(Term, Joint, Term),
     more: &[(Joint, Term)],
 ) -> Result<Place<'a>, Stop>
+    requires names { machine.old.names ≡ scene.now.names.now }
+    requires first { IsNumberedTerm scene.now.names.now (combine_of first.now) }
+    requires more { AllByRecursion (λ x. IsNumberedTerm scene.now.names.now (term_of x.1)) more.now }
     ensures agrees { AgreesAs (value_at (standing machine.new)) (chained (setting_of scene.now) (combine_of first.now) more.now) machine.old machine.new result }
     ensures spent { machine.new.left ≤ machine.old.left }
+    ensures names { machine.new.names ≡ machine.old.names }
     ensures kept { standing machine.new ≡ standing machine.old }
 {
     let value = eval_chain(machine, scene, first, more)?;
@@ -300,8 +349,12 @@ fn eval_chain(
     first: &(Term, Joint, Term),
     more: &[(Joint, Term)],
 ) -> Result<Val, Stop>
+    requires names { machine.old.names ≡ scene.now.names.now }
+    requires first { IsNumberedTerm scene.now.names.now (combine_of first.now) }
+    requires more { AllByRecursion (λ x. IsNumberedTerm scene.now.names.now (term_of x.1)) more.now }
     ensures agrees { Agrees (chained (setting_of scene.now) (combine_of first.now) more.now) machine.old machine.new result }
     ensures spent { machine.new.left ≤ machine.old.left }
+    ensures names { machine.new.names ≡ machine.old.names }
     ensures kept { standing machine.new ≡ standing machine.old }
 {
     if is_arithmetic(first.1) {
@@ -324,9 +377,13 @@ fn value_chain(
     first: &(Term, Joint, Term),
     more: &[(Joint, Term)],
 ) -> Result<Val, Stop>
+    requires names { machine.old.names ≡ scene.now.names.now }
+    requires first { IsNumberedTerm scene.now.names.now (combine_of first.now) }
+    requires more { AllByRecursion (λ x. IsNumberedTerm scene.now.names.now (term_of x.1)) more.now }
     requires { is_choice first.now.1 ≡ false }
     ensures agrees { Agrees (chained (setting_of scene.now) (combine_of first.now) more.now) machine.old machine.new result }
     ensures spent { machine.new.left ≤ machine.old.left }
+    ensures names { machine.new.names ≡ machine.old.names }
     ensures kept { standing machine.new ≡ standing machine.old }
 {
     spend(machine, more.len())?;
@@ -342,8 +399,12 @@ fn number_in_chain(
     first: &(Term, Joint, Term),
     more: &[(Joint, Term)],
 ) -> Result<Option<i64>, Stop>
-    ensures finds { EndsFinding int NoInt (chained (setting_of scene.now) (combine_of first.now) more.now machine.old) machine.new result }
+    requires names { machine.old.names ≡ scene.now.names.now }
+    requires first { IsNumberedTerm scene.now.names.now (combine_of first.now) }
+    requires more { AllByRecursion (λ x. IsNumberedTerm scene.now.names.now (term_of x.1)) more.now }
+    ensures finds { EndsFinding int NoInt (chained (setting_of scene.now) (combine_of first.now) more.now (state_of machine.old)) machine.new result }
     ensures spent { machine.new.left ≤ machine.old.left }
+    ensures names { machine.new.names ≡ machine.old.names }
     ensures kept { standing machine.new ≡ standing machine.old }
 {
     if is_arithmetic(first.1) {
@@ -362,8 +423,12 @@ fn truth_in_chain(
     first: &(Term, Joint, Term),
     more: &[(Joint, Term)],
 ) -> Result<Option<bool>, Stop>
-    ensures finds { EndsFinding flag NoFlag (chained (setting_of scene.now) (combine_of first.now) more.now machine.old) machine.new result }
+    requires names { machine.old.names ≡ scene.now.names.now }
+    requires first { IsNumberedTerm scene.now.names.now (combine_of first.now) }
+    requires more { AllByRecursion (λ x. IsNumberedTerm scene.now.names.now (term_of x.1)) more.now }
+    ensures finds { EndsFinding flag NoFlag (chained (setting_of scene.now) (combine_of first.now) more.now (state_of machine.old)) machine.new result }
     ensures spent { machine.new.left ≤ machine.old.left }
+    ensures names { machine.new.names ≡ machine.old.names }
     ensures kept { standing machine.new ≡ standing machine.old }
 {
     if is_choice(first.1) {
@@ -382,9 +447,13 @@ fn number_chain(
     first: &(Term, Joint, Term),
     more: &[(Joint, Term)],
 ) -> Result<i64, Stop>
+    requires names { machine.old.names ≡ scene.now.names.now }
+    requires first { IsNumberedTerm scene.now.names.now (combine_of first.now) }
+    requires more { AllByRecursion (λ x. IsNumberedTerm scene.now.names.now (term_of x.1)) more.now }
     requires { is_arithmetic first.now.1 ≡ true }
     ensures agrees { AgreesAs int (chained (setting_of scene.now) (combine_of first.now) more.now) machine.old machine.new result }
     ensures spent { machine.new.left ≤ machine.old.left }
+    ensures names { machine.new.names ≡ machine.old.names }
     ensures kept { standing machine.new ≡ standing machine.old }
 {
     spend(machine, more.len())?;
@@ -401,9 +470,13 @@ fn truth_chain(
     first: &(Term, Joint, Term),
     more: &[(Joint, Term)],
 ) -> Result<bool, Stop>
+    requires names { machine.old.names ≡ scene.now.names.now }
+    requires first { IsNumberedTerm scene.now.names.now (combine_of first.now) }
+    requires more { AllByRecursion (λ x. IsNumberedTerm scene.now.names.now (term_of x.1)) more.now }
     requires { is_choice first.now.1 ≡ true }
     ensures agrees { AgreesAs flag (chained (setting_of scene.now) (combine_of first.now) more.now) machine.old machine.new result }
     ensures spent { machine.new.left ≤ machine.old.left }
+    ensures names { machine.new.names ≡ machine.old.names }
     ensures kept { standing machine.new ≡ standing machine.old }
 {
     spend(machine, more.len())?;
@@ -415,9 +488,12 @@ fn truth_chain(
 #[cycle(terms)]
 #[tactic(auto, using(script_machine::proofs::FlagLemmas::never_decided))]
 fn eval_pair(machine: &mut Machine, scene: &Scene, parts: &(Term, Joint, Term)) -> Result<Val, Stop>
+    requires names { machine.old.names ≡ scene.now.names.now }
+    requires parts { IsNumberedTerm scene.now.names.now (combine_of parts.now) }
     requires { is_choice parts.now.1 ≡ false }
     ensures agrees { Agrees (eval (setting_of scene.now) (combine_of parts.now)) machine.old machine.new result }
     ensures spent { machine.new.left ≤ machine.old.left }
+    ensures names { machine.new.names ≡ machine.old.names }
     ensures kept { standing machine.new ≡ standing machine.old }
     ensures less { OnOk result (machine.new.left < machine.old.left) }
 {
@@ -437,8 +513,11 @@ fn apply_to(
     x: &Val,
     term: &Term,
 ) -> Result<Val, Stop>
+    requires names { machine.old.names ≡ scene.now.names.now }
+    requires term { IsNumberedTerm scene.now.names.now (term_of term.now) }
     ensures agrees { Agrees (applied joint x.now (eval (setting_of scene.now) (term_of term.now))) machine.old machine.new result }
     ensures spent { machine.new.left ≤ machine.old.left }
+    ensures names { machine.new.names ≡ machine.old.names }
     ensures kept { standing machine.new ≡ standing machine.old }
 {
     let y = find(machine, scene, term)?;
@@ -452,9 +531,12 @@ fn number_pair(
     scene: &Scene,
     parts: &(Term, Joint, Term),
 ) -> Result<i64, Stop>
+    requires names { machine.old.names ≡ scene.now.names.now }
+    requires parts { IsNumberedTerm scene.now.names.now (combine_of parts.now) }
     requires { is_arithmetic parts.now.1 ≡ true }
     ensures agrees { AgreesAs int (eval (setting_of scene.now) (combine_of parts.now)) machine.old machine.new result }
     ensures spent { machine.new.left ≤ machine.old.left }
+    ensures names { machine.new.names ≡ machine.old.names }
     ensures kept { standing machine.new ≡ standing machine.old }
     ensures less { OnOk result (machine.new.left < machine.old.left) }
 {
@@ -479,9 +561,12 @@ fn truth_pair(
     scene: &Scene,
     parts: &(Term, Joint, Term),
 ) -> Result<bool, Stop>
+    requires names { machine.old.names ≡ scene.now.names.now }
+    requires parts { IsNumberedTerm scene.now.names.now (combine_of parts.now) }
     requires { is_choice parts.now.1 ≡ true }
     ensures agrees { AgreesAs flag (eval (setting_of scene.now) (combine_of parts.now)) machine.old machine.new result }
     ensures spent { machine.new.left ≤ machine.old.left }
+    ensures names { machine.new.names ≡ machine.old.names }
     ensures kept { standing machine.new ≡ standing machine.old }
     ensures less { OnOk result (machine.new.left < machine.old.left) }
 {
@@ -507,8 +592,11 @@ fn choose(
     x: bool,
     term: &Term,
 ) -> Result<bool, Stop>
+    requires names { machine.old.names ≡ scene.now.names.now }
+    requires term { IsNumberedTerm scene.now.names.now (term_of term.now) }
     ensures agrees { AgreesAs flag (applied joint (flag x) (eval (setting_of scene.now) (term_of term.now))) machine.old machine.new result }
     ensures spent { machine.new.left ≤ machine.old.left }
+    ensures names { machine.new.names ≡ machine.old.names }
     ensures kept { standing machine.new ≡ standing machine.old }
 {
     let Some(y) = eval_truth(machine, scene, term)? else {
@@ -525,8 +613,11 @@ fn eval_links(
     links: &[(Joint, Term)],
     first: Val,
 ) -> Result<Val, Stop>
+    requires names { machine.old.names ≡ scene.now.names.now }
+    requires links { AllByRecursion (λ x. IsNumberedTerm scene.now.names.now (term_of x.1)) links.now }
     ensures agrees { Agrees (linked (setting_of scene.now) links.now first) machine.old machine.new result }
     ensures spent { machine.new.left ≤ machine.old.left }
+    ensures names { machine.new.names ≡ machine.old.names }
     ensures kept { standing machine.new ≡ standing machine.old }
 {
     let mut x = first;
@@ -547,8 +638,11 @@ fn number_links(
     links: &[(Joint, Term)],
     first: i64,
 ) -> Result<i64, Stop>
+    requires names { machine.old.names ≡ scene.now.names.now }
+    requires links { AllByRecursion (λ x. IsNumberedTerm scene.now.names.now (term_of x.1)) links.now }
     ensures agrees { AgreesAs int (linked (setting_of scene.now) links.now (int first)) machine.old machine.new result }
     ensures spent { machine.new.left ≤ machine.old.left }
+    ensures names { machine.new.names ≡ machine.old.names }
     ensures kept { standing machine.new ≡ standing machine.old }
 {
     let mut x = first;
@@ -569,8 +663,11 @@ fn truth_links(
     links: &[(Joint, Term)],
     first: bool,
 ) -> Result<bool, Stop>
+    requires names { machine.old.names ≡ scene.now.names.now }
+    requires links { AllByRecursion (λ x. IsNumberedTerm scene.now.names.now (term_of x.1)) links.now }
     ensures agrees { AgreesAs flag (linked (setting_of scene.now) links.now (flag first)) machine.old machine.new result }
     ensures spent { machine.new.left ≤ machine.old.left }
+    ensures names { machine.new.names ≡ machine.old.names }
     ensures kept { standing machine.new ≡ standing machine.old }
 {
     let mut x = first;

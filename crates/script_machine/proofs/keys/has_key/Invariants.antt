@@ -5,5 +5,5 @@ use Rattle.script_machine.specs.Asking.{key_asked}
 use Rattle.script_machine.proofs.keys.has_key.Given as goal
 
 -- those so far are other keys
-abbrev pub invariant-loop-key : goal.invariant-loop-key
-invariant-loop-key l = list_any (same_key (key_asked l.asked)) (drop l.key-index l.keys) ≡ list_any (same_key (key_asked l.asked)) l.keys
+abbrev pub invariant-keys : goal.invariant-keys
+invariant-keys l = list_any (same_key (key_asked l.asked)) (drop l.place l.keys) ≡ list_any (same_key (key_asked l.asked)) l.keys

@@ -4,7 +4,7 @@ use Rattle.script_reading.proofs.OverlayLemmas.{set_found, set_passed}
 use Rattle.script_reading.proofs.fields.last_set.Goals as goal
 
 pub returns-then-sets_property : goal.returns-then-sets_property
-returns-then-sets_property c = set_found (sets_property c.args.property) c.args.effects.now c.effects.behind c.index-effects-place.result _ c.effects-test.true c.index-effects-place.is c.effects.invariant (sym c.if-sets_property.ensures)
+returns-then-sets_property c = set_found (sets_property c.args.property) c.args.given.effects.now c.effects.behind c.index-effects-place.result _ c.effects-test.true c.index-effects-place.is c.effects.invariant (sym c.if-sets_property.ensures)
 
 pub effects-preserved : goal.effects-preserved
-effects-preserved c = set_passed (sets_property c.args.property) c.args.effects.now c.effects.behind c.index-effects-place.result _ c.effects-test.true c.index-effects-place.is c.effects.invariant (sym c.if-sets_property.ensures)
+effects-preserved c = set_passed (sets_property c.args.property) c.args.given.effects.now c.effects.behind c.index-effects-place.result _ c.effects-test.true c.index-effects-place.is c.effects.invariant (sym c.if-sets_property.ensures)

@@ -4,5 +4,5 @@ use Rattle.script_reading.specs.Masked.{mask_after}
 use Rattle.script_reading.proofs.masks.mask_over.Given as goal
 
 -- the effects so far are done
-abbrev pub invariant-loop-effect : goal.invariant-loop-effect
-invariant-loop-effect l = done (mask_after l.event l.attached l.entity l.activity) (drop l.effect-index l.effects) l.current ≡ done (mask_after l.event l.attached l.entity l.activity) l.effects l.fn.first
+abbrev pub invariant-effects : goal.invariant-effects
+invariant-effects l = done (mask_after l.event.name l.attached l.scene.me l.activity) (drop l.place l.effects) l.current ≡ done (mask_after l.event.name l.attached l.scene.me l.activity) l.effects l.fn.first

@@ -3,5 +3,5 @@ use Rattle.handler_meaning.specs.Answers.{value_under}
 use Rattle.script_reading.proofs.rows.value_under.Given as goal
 
 -- those so far have other names
-abbrev pub invariant-loop-other : goal.invariant-loop-other
-invariant-loop-other l = value_under l.name (drop l.other-index l.fields) ≡ value_under l.name l.fields
+abbrev pub invariant-fields : goal.invariant-fields
+invariant-fields l = value_under l.name.name (drop l.place l.fields) ≡ value_under l.name.name l.fields

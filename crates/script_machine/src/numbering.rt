@@ -1,0 +1,95 @@
+//! Names with their numbers among all names of a deployment, by which they are told apart, and the numbers of the names in keys, answers and effects.
+ghost use Rattle.std.specs.Prelude.{◌≡◌, IfOk, Some, bytes_eq, map};
+ghost use Rattle.script_types.specs.Codes.{number_in};
+ghost use Rattle.script_types.specs.Numbers.{IsNumbered};
+ghost use Rattle.script_machine.specs.Numbering.{answer_numbers, effect_number, key_number, numbers_seen};
+
+use handler_meaning::{Key, Seen};
+use script_types::{CodeList, NamedList, Symbol};
+use slee_effect::Effect;
+use slee_value::{Name, NoMemory, Text};
+use std::alloc::Global;
+
+/// A name with its number, as it stands in a script, a key, an answer or an effect.
+#[derive(Debug, Clone, Copy)]
+pub struct NumberedName<'a> {
+    pub name: &'a str,
+    pub number: Option<usize>,
+}
+
+impl<'a> NumberedName<'a> {
+    /// That of a name in a script.
+    #[inline(always)]
+    pub fn of_name(symbol: &'a Symbol<Name>) -> Self
+        ensures name { result.name.now ≡ symbol.now.name }
+        ensures number { result.number ≡ symbol.now.number }
+    {
+        NumberedName {
+            name: symbol.name.as_str(),
+            number: symbol.number,
+        }
+    }
+
+    /// That of a key or an event in a script.
+    #[inline(always)]
+    pub fn of_text(symbol: &'a Symbol<Text>) -> Self
+        ensures name { result.name.now ≡ symbol.now.name }
+        ensures number { result.number ≡ symbol.now.number }
+    {
+        NumberedName {
+            name: symbol.name.as_str(),
+            number: symbol.number,
+        }
+    }
+}
+
+/// Whether two are the same name. Their bytes are compared only where both are none of the deployment's names.
+#[inline(always)]
+#[tactic(auto, using(crate::proofs::NamingLemmas::same_by_numbers, crate::proofs::NamingLemmas::known_is_other, crate::proofs::NamingLemmas::other_is_known))]
+pub fn is_same_name(names: &NamedList<Text>, one: NumberedName, other: NumberedName) -> bool
+    requires one { one.number ≡ number_in names.now one.name.now }
+    requires other { other.number ≡ number_in names.now other.name.now }
+    ensures { result ≡ bytes_eq one.entry.name.now other.entry.name.now }
+{
+    match (one.number, other.number) {
+        (Some(m), Some(n)) => m == n,
+        (Some(_), None) => false,
+        (None, Some(_)) => false,
+        (None, None) => one.name.as_bytes() == other.name.as_bytes(),
+    }
+}
+
+/// The number of a key's name.
+#[tactic(auto)]
+pub fn number_of_key(names: &NamedList<Text>, key: &Key) -> Option<usize>
+    ensures { result ≡ key_number names.now key.now }
+{
+    match key {
+        Key::Field(_, name) => names.place_of(name.as_bytes()),
+        Key::Children(_, relation) => names.place_of(relation.as_bytes()),
+        Key::Attr(_, key) => names.place_of(key.as_bytes()),
+        Key::Profile(table, _) => names.place_of(table.as_bytes()),
+        _ => None,
+    }
+}
+
+/// The number of an effect's name.
+#[tactic(auto)]
+pub fn number_of_effect(names: &NamedList<Text>, effect: &Effect) -> Option<usize>
+    ensures { result ≡ effect_number names.now effect.now }
+{
+    match effect {
+        Effect::SetField { name, .. } => names.place_of(name.as_bytes()),
+        Effect::SetAttr { key, .. } => names.place_of(key.as_bytes()),
+        Effect::Create { relation, .. } => names.place_of(relation.as_bytes()),
+        Effect::SetMask { event, .. } => names.place_of(event.as_bytes()),
+        _ => None,
+    }
+}
+
+/// The numbers of the names in an answer that was kept, and of its key's name.
+#[derive(Debug, Drop)]
+pub struct AnswerNumbers {
+    pub key: Option<usize>,
+    pub seen: CodeList<Option<usize>>,
+}
