@@ -28,7 +28,7 @@ attribute_found (Some x) at make h = let same = h x in cc
 asking_same : (s : Setting) (at : ℕ) (found : Kind) (x : Query) → Same gives (asking_of s at found x) (query_gives s at x)
 asking_same s at found (q.Plain f) = refl
 asking_same s at found (q.Masked event) = refl
-asking_same s at found (q.Attribute name) = attribute_found (attribute_named name s.block) at (λ x. record { kind = x.kind; question = attribute_question x }) (λ _. refl)
+asking_same s at found (q.Attribute name) = attribute_found (attribute_named name s.block) at (λ x. record { kind = x.kind; question = attribute_question s.codes x }) (λ _. refl)
 asking_same s at found (q.Profile table name) = same_end (λ (x : Kind). x) gives (known at (row_kind table name s.codes)) (known at (row_kind table name s.codes)) _ (same_self (known at (row_kind table name s.codes))) (λ _. refl)
 asking_same s at found (q.HasProfile table) = refl
 
