@@ -59,16 +59,23 @@ pub fn is_same_name(names: &NamedList<Text>, one: NumberedName, other: NumberedN
     }
 }
 
+/// The number of a name.
+pub(crate) fn number_of(names: &NamedList<Text>, name: &str) -> Option<usize>
+    ensures { result ≡ number_in names.now name.now }
+{
+    names.place_of(name.as_bytes())
+}
+
 /// The number of a key's name.
 #[tactic(auto)]
 pub fn number_of_key(names: &NamedList<Text>, key: &Key) -> Option<usize>
     ensures { result ≡ key_number names.now key.now }
 {
     match key {
-        Key::Field(_, name) => names.place_of(name.as_bytes()),
-        Key::Children(_, relation) => names.place_of(relation.as_bytes()),
-        Key::Attr(_, key) => names.place_of(key.as_bytes()),
-        Key::Profile(table, _) => names.place_of(table.as_bytes()),
+        Key::Field(_, name) => number_of(names, name.as_str()),
+        Key::Children(_, relation) => number_of(names, relation.as_str()),
+        Key::Attr(_, key) => number_of(names, key.as_str()),
+        Key::Profile(table, _) => number_of(names, table.as_str()),
         _ => None,
     }
 }
@@ -79,10 +86,10 @@ pub fn number_of_effect(names: &NamedList<Text>, effect: &Effect) -> Option<usiz
     ensures { result ≡ effect_number names.now effect.now }
 {
     match effect {
-        Effect::SetField { name, .. } => names.place_of(name.as_bytes()),
-        Effect::SetAttr { key, .. } => names.place_of(key.as_bytes()),
-        Effect::Create { relation, .. } => names.place_of(relation.as_bytes()),
-        Effect::SetMask { event, .. } => names.place_of(event.as_bytes()),
+        Effect::SetField { name, .. } => number_of(names, name.as_str()),
+        Effect::SetAttr { key, .. } => number_of(names, key.as_str()),
+        Effect::Create { relation, .. } => number_of(names, relation.as_str()),
+        Effect::SetMask { event, .. } => number_of(names, event.as_str()),
         _ => None,
     }
 }

@@ -3,7 +3,7 @@ ghost use Rattle.std.specs.Prelude.{◌≡◌, IfOk, Some, map};
 ghost use Rattle.script_types.specs.Codes.{number_in};
 ghost use Rattle.script_machine.specs.Numbering.{answer_numbers, effect_number, key_number, numbers_seen};
 
-use crate::numbering::{AnswerNumbers, number_of_effect, number_of_key};
+use crate::numbering::{AnswerNumbers, number_of, number_of_effect, number_of_key};
 use handler_meaning::{Key, Seen};
 use script_types::{CodeList, NamedList};
 use slee_effect::Effect;
@@ -50,7 +50,7 @@ fn numbers_of_events(
 {
     let mut numbers = CodeList::new(alloc);
     for event in events {
-        numbers.push(names.place_of(event.as_bytes()))?;
+        numbers.push(number_of(names, event.as_str()))?;
     }
     Ok(numbers)
 }
@@ -65,7 +65,7 @@ fn numbers_of_row(
 {
     let mut numbers = CodeList::new(alloc);
     for (name, _) in fields {
-        numbers.push(names.place_of(name.as_bytes()))?;
+        numbers.push(number_of(names, name.as_str()))?;
     }
     Ok(numbers)
 }
