@@ -7,7 +7,7 @@ ghost use Rattle.expression_check.specs.Answers.{Gives};
 ghost use Rattle.expression_check.specs.SettingOf.{setting_of, role_of};
 ghost use Rattle.expression_check.specs.TypedTerms.{typed_atom_of};
 
-use crate::lookup::{kind_of_field, name_of, place_of_table, relation_named};
+use crate::lookup::{kind_of_field, place_of_table, relation_named, symbol_of};
 use crate::{
     Locals, Role, ScriptFault, Setting, behind, check_child, check_known, check_not_on_remove,
     check_value,
@@ -134,7 +134,7 @@ fn check_field(setting: &Setting, at: usize, name: &Identifier) -> Result<TypedA
     let kind = check_known(behind(at, 2)?, kind_of_field(fields, name.as_bytes()))?;
     Ok(TypedAtom {
         kind,
-        atom: Atom::Field(name_of(setting.alloc, name)?, kind),
+        atom: Atom::Field(symbol_of(setting, name)?, kind),
     })
 }
 
@@ -191,6 +191,6 @@ fn check_count(setting: &Setting, at: usize, name: &Identifier) -> Result<TypedA
     check_not_on_remove(setting, at)?;
     Ok(TypedAtom {
         kind: Kind::Int,
-        atom: Atom::Count(name_of(setting.alloc, name)?),
+        atom: Atom::Count(symbol_of(setting, name)?),
     })
 }

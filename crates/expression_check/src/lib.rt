@@ -22,7 +22,7 @@ pub use leaf::{TypedAtom, check_leaf, tokens_of_leaf};
 pub use locals::Locals;
 pub use lookup::{
     attribute_named, event_named, is_built_in, is_event, is_table, kind_in_row, kind_of_field,
-    name_of, place_of_table, relation_named, table_named,
+    name_of, place_of_table, relation_named, symbol_of, table_named,
 };
 pub use position::behind;
 pub use scope::{ChildAt, Holding, ValueAt, check_child, check_new, check_value, is_visible};

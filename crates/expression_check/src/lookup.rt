@@ -1,14 +1,16 @@
 //! What names of scripts stand for: fields, attributes, relations, tables and events.
 ghost use Rattle.std.specs.Prelude.{◌≡◌, IfOk, bytes_eq, is_some, option_copied, position};
 ghost use Rattle.std.specs.List.{list_any};
-ghost use Rattle.script_types.specs.Codes.{kind_in, relation_named, declared_event, any_event, table_named, row_kind, built_in};
+ghost use Rattle.script_types.specs.Codes.{kind_in, relation_named, declared_event, any_event, symbol_of, table_named, row_kind, built_in};
 ghost use Rattle.script_types.specs.CodesOf.{codes_of, block_of_code};
 ghost use Rattle.script_types.specs.Elaboration.{attribute_named};
 
+use crate::Setting;
 use built_in_events::BuiltInEvent;
 use script_tree::Identifier;
 use script_types::{
-    AttributeCode, BlockCode, Codes, EventCode, FieldCode, NamedList, RelationCode, TableCode,
+    AttributeCode, BlockCode, Codes, EventCode, FieldCode, NamedList, RelationCode, Symbol,
+    TableCode,
 };
 use slee_value::{Kind, Name, NoMemory};
 use std::alloc::Global;
@@ -20,6 +22,14 @@ pub fn name_of(alloc: Global, identifier: &Identifier) -> Result<Name, NoMemory>
 {
     let bytes = identifier.as_bytes();
     Name::from_slice(alloc, bytes)
+}
+
+/// An identifier as a name with its number among all names.
+pub fn symbol_of(setting: &Setting, identifier: &Identifier) -> Result<Symbol<Name>, NoMemory>
+    ensures { IfOk result (λ x. x ≡ symbol_of (codes_of setting.now.codes.now) identifier.now) }
+{
+    let name = name_of(setting.alloc, identifier)?;
+    Ok(setting.codes.symbol(name))
 }
 
 /// The type of the field of that name.

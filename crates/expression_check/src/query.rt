@@ -14,7 +14,7 @@ ghost use Rattle.expression_check.specs.SettingOf.{setting_of};
 ghost use Rattle.expression_check.specs.TypedTerms.{asking_in};
 
 use crate::kind::expr_serves;
-use crate::lookup::{attribute_named, is_event, is_table, kind_in_row, name_of};
+use crate::lookup::{attribute_named, is_event, is_table, kind_in_row, symbol_of};
 use crate::{ScriptFault, Setting, check_known, check_not_on_remove};
 use script_tree::{Expr, Function, Identifier, Query};
 use script_types::{Codes, Question};
@@ -132,15 +132,18 @@ pub fn check_asking(
             kind: kind_given(*function),
             question: question_of(*function, found),
         }),
-        Query::Masked(event) => Ok(Asking {
-            kind: Kind::Bool,
-            question: Question::Masked(event.text().copy(setting.alloc)?),
-        }),
+        Query::Masked(event) => {
+            let event = event.text().copy(setting.alloc)?;
+            Ok(Asking {
+                kind: Kind::Bool,
+                question: Question::Masked(setting.codes.symbol(event)),
+            })
+        }
         Query::Attribute(name) => check_attribute(setting, at, found, name),
         Query::Profile(table, name) => check_profile(setting, at, found, table, name),
         Query::HasProfile(table) => Ok(Asking {
             kind: Kind::Bool,
-            question: Question::HasProfile(name_of(setting.alloc, table)?),
+            question: Question::HasProfile(symbol_of(setting, table)?),
         }),
     }
 }
@@ -158,7 +161,7 @@ fn check_attribute(
     let key = attribute.key.copy(setting.alloc)?;
     Ok(Asking {
         kind: attribute.kind,
-        question: Question::Attribute(key, attribute.kind),
+        question: Question::Attribute(setting.codes.symbol(key), attribute.kind),
     })
 }
 
@@ -176,8 +179,8 @@ fn check_profile(
         at,
         kind_in_row(setting.codes, table.as_bytes(), name.as_bytes()),
     )?;
-    let table = name_of(setting.alloc, table)?;
-    let name = name_of(setting.alloc, name)?;
+    let table = symbol_of(setting, table)?;
+    let name = symbol_of(setting, name)?;
     Ok(Asking {
         kind,
         question: Question::Profile(table, name, kind),
