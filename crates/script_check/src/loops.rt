@@ -5,7 +5,7 @@ ghost use Rattle.script_types.specs.Scopes.{Variable};
 ghost use Rattle.expression_check.specs.SettingOf.{setting_of};
 ghost use Rattle.script_check.specs.Loops.{Goes};
 
-use expression_check::{Locals, ScriptFault, Setting, name_of, relation_named};
+use expression_check::{Locals, ScriptFault, Setting, relation_named, symbol_of};
 use script_tree::{Identifier, Over};
 use script_types::{CheckBad, Misuse, Range};
 use slee_value::Kind;
@@ -34,7 +34,7 @@ pub fn add_loop_variable<'a>(
                     kind: CheckBad::Name,
                 }));
             };
-            let relation = name_of(setting.alloc, relation)?;
+            let relation = symbol_of(setting, relation)?;
             add_child(scope, name, found.block)?;
             Ok(Range::Children(relation))
         }

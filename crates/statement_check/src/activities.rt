@@ -89,7 +89,7 @@ pub fn check_mask(
     check_any_event(setting, event, at + 1)?;
     let activity = check_part(setting, scope, Kind::Activity, at + 3, x)?;
     check_not_on_remove(setting, at)?;
-    let event = event.text().copy(setting.alloc)?;
+    let event = setting.codes.symbol(event.text().copy(setting.alloc)?);
     Ok(MadeStep::new(
         Step::Activity(OnActivities::Mask(event, true, activity.term)),
         3 + activity.tokens,
@@ -111,7 +111,7 @@ pub fn check_unmask(
     check_any_event(setting, event, at + 1)?;
     let activity = check_part(setting, scope, Kind::Activity, at + 3, x)?;
     check_not_on_remove(setting, at)?;
-    let event = event.text().copy(setting.alloc)?;
+    let event = setting.codes.symbol(event.text().copy(setting.alloc)?);
     Ok(MadeStep::new(
         Step::Activity(OnActivities::Mask(event, false, activity.term)),
         3 + activity.tokens,

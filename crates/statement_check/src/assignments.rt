@@ -12,7 +12,7 @@ use crate::made::MadeStep;
 use crate::new_variable::add_value;
 use crate::part::{check_part, check_typed_part};
 use expression_check::{
-    Locals, ScriptFault, Setting, check_new, check_not_on_remove, check_value, name_of,
+    Locals, ScriptFault, Setting, check_new, check_not_on_remove, check_value, symbol_of,
 };
 use script_tree::{Assignment, Expr, Identifier};
 use script_types::{Assigning, Step};
@@ -64,7 +64,7 @@ fn check_set_field(
     let kind = check_field(&setting.block.fields, name, at + 2)?;
     let value = check_part(setting, scope, kind, at + 4, x)?;
     check_not_on_remove(setting, at)?;
-    let name = name_of(setting.alloc, name)?;
+    let name = symbol_of(setting, name)?;
     Ok(MadeStep::new(
         Step::Assign(Assigning::Field(name, value.term)),
         4 + value.tokens,
@@ -88,7 +88,7 @@ fn check_set_attribute(
     let attribute = check_attribute(setting, name, at + 3 + activity.tokens)?;
     let value = check_part(setting, scope, attribute.kind, at + 6 + activity.tokens, y)?;
     check_not_on_remove(setting, at)?;
-    let key = attribute.key.copy(setting.alloc)?;
+    let key = setting.codes.symbol(attribute.key.copy(setting.alloc)?);
     Ok(MadeStep::new(
         Step::Assign(Assigning::Attribute(activity.term, key, value.term)),
         6 + activity.tokens + value.tokens,

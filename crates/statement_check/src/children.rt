@@ -14,7 +14,7 @@ use crate::made::MadeStep;
 use crate::new_variable::add_child;
 use crate::part::check_part;
 use expression_check::{
-    Locals, ScriptFault, Setting, check_child, check_new, check_not_on_remove, name_of,
+    Locals, ScriptFault, Setting, check_child, check_new, check_not_on_remove, symbol_of,
 };
 use script_tree::{Expr, Identifier};
 use script_types::{OnEntities, Rank, RelationCode, Step};
@@ -71,7 +71,7 @@ pub fn check_create<'a>(
     check_new(scope, child.as_bytes(), at + 3)?;
     let part = check_rank(setting, scope, found, at + 5, priority)?;
     check_not_on_remove(setting, at)?;
-    let relation = name_of(setting.alloc, relation)?;
+    let relation = symbol_of(setting, relation)?;
     add_child(scope, child, found.block)?;
     Ok(MadeStep::new(
         Step::Entity(OnEntities::Create(relation, part.rank)),
