@@ -7,7 +7,8 @@ use Rattle.script_types.specs.declared.codes.BlockCode.{BlockCode}
 use Rattle.script_types.specs.declared.checked_script.BlockSteps.{BlockSteps}
 use Rattle.script_tree.specs.Script.{tree_of_script}
 use Rattle.script_tree.specs.Tree.{Bytes}
-use Rattle.script_types.specs.Codes.{Codes, Block, Handler}
+use Rattle.script_types.specs.declared.symbol.Symbol.{Symbol}
+use Rattle.script_types.specs.Codes.{Codes, Block, Handler, symbol_of}
 use Rattle.script_types.specs.CodesOf.{handler_of_code, method_of_code, block_of_code}
 use Rattle.script_types.specs.Typing.{handler_task, method_task}
 use Rattle.script_types.specs.Program.{Steps, HandlerProgram, MethodProgram, BlockProgram}
@@ -59,11 +60,11 @@ blocks_are all n [] = refl
 blocks_are all n (x ∷ xs) = ap (λ (r : Built (List BlockProgram)). block_of all n (block_of_code x) >>= λ one. r >>= put one) (blocks_are all (n + 1) xs)
 
 -- the masked events of handlers, as they are kept and as a value
-masks_are : (xs : List HandlerCode) → map (λ (h : Handler). h.event) (filter (λ (h : Handler). h.mask) (map handler_of_code xs)) ≡ map (λ (h : HandlerCode). h.event) (filter (λ (h : HandlerCode). h.mask) xs)
-masks_are [] = refl
-masks_are (x ∷ xs) =
-    elim x.mask as (λ b. map (λ (h : Handler). h.event) (cond b (handler_of_code x ∷ filter (λ (h : Handler). h.mask) (map handler_of_code xs)) (filter (λ (h : Handler). h.mask) (map handler_of_code xs))) ≡ map (λ (h : HandlerCode). h.event) (cond b (x ∷ filter (λ (h : HandlerCode). h.mask) xs) (filter (λ (h : HandlerCode). h.mask) xs)))
-    [ true ↦ ap (λ events. x.event ∷ events) (masks_are xs) | false ↦ masks_are xs ]
+masks_are : (all : Codes) (xs : List HandlerCode) → map (λ (h : Handler). symbol_of all h.event) (filter (λ (h : Handler). h.mask) (map handler_of_code xs)) ≡ map (λ (h : HandlerCode). symbol_of all h.event) (filter (λ (h : HandlerCode). h.mask) xs)
+masks_are all [] = refl
+masks_are all (x ∷ xs) =
+    elim x.mask as (λ b. map (λ (h : Handler). symbol_of all h.event) (cond b (handler_of_code x ∷ filter (λ (h : Handler). h.mask) (map handler_of_code xs)) (filter (λ (h : Handler). h.mask) (map handler_of_code xs))) ≡ map (λ (h : HandlerCode). symbol_of all h.event) (cond b (x ∷ filter (λ (h : HandlerCode). h.mask) xs) (filter (λ (h : HandlerCode). h.mask) xs)))
+    [ true ↦ ap (λ events. symbol_of all x.event ∷ events) (masks_are all xs) | false ↦ masks_are all xs ]
 
 -- a block is made of what its parts are made into
 pub block_made : (all : Codes) (number : ℕ) (b : BlockCode) (made : BlockSteps) (xs : List HandlerCode) → xs ≡ b.handlers
@@ -72,9 +73,9 @@ pub block_made : (all : Codes) (number : ℕ) (b : BlockCode) (made : BlockSteps
     → callback_of all (block_of_code b) (place_of number part.Exception) OnException (option_map tree_of_script b.exception) ≡ Ok (option_map steps_in made.exception)
     → callback_of all (block_of_code b) (place_of number part.RolledBack) OnRolledBack (option_map tree_of_script b.rolled_back) ≡ Ok (option_map steps_in made.rolled_back)
     → callback_of all (block_of_code b) (place_of number part.Remove) OnRemove (option_map tree_of_script b.remove) ≡ Ok (option_map steps_in made.remove)
-    → made.masks ≡ map (λ (h : HandlerCode). h.event) (filter (λ (h : HandlerCode). h.mask) xs)
+    → made.masks ≡ map (λ (h : HandlerCode). symbol_of all h.event) (filter (λ (h : HandlerCode). h.mask) xs)
     → block_of all number (block_of_code b) ≡ Ok (block_program_of made)
 block_made all number b made xs same handlers methods exception rolled_back remove masks =
-    let with_masks : List Bytes → BlockProgram = λ events. record { masks = events; handlers = map handler_program_of made.handlers; methods = map method_program_of made.methods; exception = option_map steps_in made.exception; rolled_back = option_map steps_in made.rolled_back; remove = option_map steps_in made.remove } in
-    let events : List HandlerCode → List Bytes = λ hs. map (λ (h : HandlerCode). h.event) (filter (λ (h : HandlerCode). h.mask) hs) in
-    rw (handlers, methods, exception, rolled_back, remove) (ap (λ m. let z : Built BlockProgram = Ok (with_masks m) in z) (masks_are b.handlers ∙ ap events (sym same) ∙ sym masks))
+    let with_masks : List (Symbol Bytes) → BlockProgram = λ events. record { masks = events; handlers = map handler_program_of made.handlers; methods = map method_program_of made.methods; exception = option_map steps_in made.exception; rolled_back = option_map steps_in made.rolled_back; remove = option_map steps_in made.remove } in
+    let events : List HandlerCode → List (Symbol Bytes) = λ hs. map (λ (h : HandlerCode). symbol_of all h.event) (filter (λ (h : HandlerCode). h.mask) hs) in
+    rw (handlers, methods, exception, rolled_back, remove) (ap (λ m. let z : Built BlockProgram = Ok (with_masks m) in z) (masks_are all b.handlers ∙ ap events (sym same) ∙ sym masks))

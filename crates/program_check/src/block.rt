@@ -1,5 +1,6 @@
 //! The programs of a block.
 ghost use Rattle.std.specs.Prelude.{◌≡◌, IfOk, filter, map};
+ghost use Rattle.script_types.specs.Codes.{symbol_of};
 ghost use Rattle.script_types.specs.CodesOf.{codes_of, block_of_code, handler_of_code, method_of_code};
 ghost use Rattle.script_types.specs.Program.{HandlerProgram, MethodProgram};
 ghost use Rattle.script_types.specs.ProgramOf.{block_program_of, handler_program_of, method_program_of};
@@ -13,7 +14,7 @@ use crate::making::{Making, item_number, make_each};
 use crate::task::{Home, check_callback, check_part, parameters_in_scope};
 use expression_check::{Locals, Role};
 use script_types::{
-    BlockSteps, CodeList, CodePart, HandlerCode, HandlerSteps, MethodCode, MethodSteps,
+    BlockSteps, CodeList, CodePart, Codes, HandlerCode, HandlerSteps, MethodCode, MethodSteps, Symbol,
 };
 use slee_value::{NoMemory, Text};
 use std::alloc::Global;
@@ -73,13 +74,17 @@ impl<'a> Making<MethodCode, MethodSteps> for MethodMaking<'a> {
 }
 
 /// The events that entities of the block mask when they are attached.
-fn masks_of(alloc: Global, handlers: &[HandlerCode]) -> Result<CodeList<Text>, NoMemory>
-    ensures { IfOk result (λ l. l ≡ map (λ h. h.event) (filter (λ h. h.mask) handlers.now)) }
+fn masks_of(
+    alloc: Global,
+    codes: &Codes,
+    handlers: &[HandlerCode],
+) -> Result<CodeList<Symbol<Text>>, NoMemory>
+    ensures { IfOk result (λ l. l ≡ map (λ h. symbol_of (codes_of codes.now) h.event) (filter (λ h. h.mask) handlers.now)) }
 {
     let mut masks = CodeList::new(alloc);
     'handlers: for handler in handlers {
         if handler.mask {
-            masks.push(handler.event.copy(alloc)?)?;
+            masks.push(codes.symbol(handler.event.copy(alloc)?))?;
         }
     }
     Ok(masks)
@@ -130,7 +135,7 @@ pub(crate) fn check_block(home: &Home, fields: &BuiltInFields) -> Result<BlockSt
     )?;
     let remove = check_callback(home, CodePart::Remove, Role::OnRemove, &block.remove)?;
     Ok(BlockSteps {
-        masks: masks_of(home.alloc, block.handlers.as_slice())?,
+        masks: masks_of(home.alloc, home.codes, block.handlers.as_slice())?,
         handlers,
         methods,
         exception,
