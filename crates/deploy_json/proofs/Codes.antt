@@ -1,11 +1,14 @@
 -- What scripts may name is the same by parts and by their rows: each script is the one that its text is.
-use Rattle.std.proofs.Common.{◌≡◌, ℕ, List, [], ◌∷◌, Option, Some, None, refl, sym, ap, ◌∙◌, map}
-use Rattle.std.specs.Prelude.{bytes_eq, option_map}
+use Rattle.std.proofs.Common.{◌≡◌, ℕ, List, [], ◌∷◌, ◌++◌, Option, Some, None, refl, sym, ap, ◌∙◌, map}
+use Rattle.std.specs.Prelude.{bytes_eq, flat_map, option_map}
 use Rattle.script_tree.specs.declared.script.Script.{Script}
 use Rattle.script_tree.specs.Script.{tree_of_script}
 use Rattle.script_tree.specs.Tree.{Bytes, Statements}
 use Rattle.script_print.proofs.Texts.{text_again}
 use Rattle.script_types.specs.declared.codes.RelationCode.{RelationCode}
+use Rattle.script_types.specs.declared.codes.AttributeCode.{AttributeCode}
+use Rattle.script_types.specs.declared.codes.FieldCode.{FieldCode}
+use Rattle.script_types.specs.declared.codes.BlockCode.{BlockCode}
 use Rattle.script_types.specs.Codes.{Handler, Method, Block, Codes}
 use Rattle.script_types.specs.CodesOf.{handler_of_code, method_of_code, block_of_code, codes_of}
 use Rattle.deployment_parts.specs.declared.parts.Relation.{Relation}
@@ -14,10 +17,10 @@ use Rattle.deployment_parts.specs.declared.parts.Parts.{Parts}
 use Rattle.deployment_parts.specs.Resolving.{relation_of, field_of, attribute_of}
 use Rattle.deployment_parts.specs.Rules.{Numbering}
 use Rattle.deployment_parts.specs.Tables.{key_number}
-use Rattle.slee_descriptor.specs.CodesOfParts.{handler_code, method_code, block_code, codes_in}
+use Rattle.slee_descriptor.specs.CodesOfParts.{handler_code, method_code, block_code, block_names, names_in, codes_in}
 use Rattle.deploy_parts.specs.Rows.{handler_row, method_row, block_row, parts_row}
 use Rattle.deploy_reading.proofs.LookUps.{position_mapped}
-use Rattle.deploy_json.specs.Scripts.{statements_or_none, script_in, handler_in, method_in, block_in, codes_in_rows}
+use Rattle.deploy_json.specs.Scripts.{statements_or_none, bare_block, script_in, handler_in, method_in, block_in, codes_in_rows}
 
 script_same : (s : Script) → tree_of_script s ≡ script_in s.text
 script_same s = sym (ap statements_or_none (text_again s.text (tree_of_script s) s.written.whole s.written.spelled))
@@ -65,10 +68,30 @@ block_same ours theirs same b =
     ∙ ap (λ x. with rs hs ms ee x v) (callback_same b.rolled_back)
     ∙ ap (λ x. with rs hs ms ee oo x) (callback_same b.remove)
 
+relation_names_same : (ours theirs : Numbering) (rs : List Relation) → map (λ (r : RelationCode). r.name) (map (relation_of ours) rs) ≡ map (λ (r : RelationCode). r.name) (map (relation_of theirs) rs)
+relation_names_same ours theirs [] = refl
+relation_names_same ours theirs (r ∷ rs) = ap (λ (l : List Bytes). r.name ∷ l) (relation_names_same ours theirs rs)
+
+-- no name is a script's, nor says a number of a block
+block_names_same : (ours theirs : Numbering) (b : BlockPart) → block_names (block_code ours b) ≡ block_names (block_code theirs (bare_block (block_row b)))
+block_names_same ours theirs b =
+    let fields : List Bytes = map (λ (f : FieldCode). f.name) (map field_of b.fields) in
+    let keys : List Bytes = map (λ (a : AttributeCode). a.key) (map (attribute_of b) b.attributes) in
+    ap (λ (l : List Bytes). fields ++ l ++ keys) (relation_names_same ours theirs b.relations)
+
+names_same : (ours theirs : Numbering) (bs : List BlockPart) → flat_map block_names (map (block_code ours) bs) ≡ flat_map block_names (map (block_code theirs) (map bare_block (map block_row bs)))
+names_same ours theirs [] = refl
+names_same ours theirs (b ∷ bs) =
+    ap (λ (l : List Bytes). l ++ flat_map block_names (map (block_code ours) bs)) (block_names_same ours theirs b)
+    ∙ ap (λ (l : List Bytes). block_names (block_code theirs (bare_block (block_row b))) ++ l) (names_same ours theirs bs)
+
 pub codes_same : (p : Parts) → codes_of (codes_in p []) ≡ codes_in_rows (parts_row p)
 codes_same p =
     let rows = parts_row p in
     let ours : Numbering = key_number (λ (b : BlockPart). b.key) p.blocks in
     let theirs : Numbering = key_number (λ b. b.key) rows.blocks in
-    let with : List Block → Codes = λ bs. record (codes_of (codes_in p [])) { blocks = bs } in
-    ap with (mapped_same (block_code ours) block_of_code block_row (block_in theirs) (block_same ours theirs (λ q. position_mapped block_row (λ r. bytes_eq q r.key) 0 p.blocks)) p.blocks)
+    let bare : Numbering = key_number (λ (b : BlockPart). b.key) (map bare_block rows.blocks) in
+    let all = codes_in p [] in
+    let with : List Bytes → List Block → Codes = λ ns bs. record (codes_of all) { names = ns ++ names_in all.events all.tables []; blocks = bs } in
+    ap (λ ns. with ns (map block_of_code all.blocks)) (names_same ours bare p.blocks)
+    ∙ ap (with (flat_map block_names (map (block_code bare) (map bare_block rows.blocks)))) (mapped_same (block_code ours) block_of_code block_row (block_in theirs) (block_same ours theirs (λ q. position_mapped block_row (λ r. bytes_eq q r.key) 0 p.blocks)) p.blocks)

@@ -1,6 +1,9 @@
 -- All that scripts may name in parts without fault, and their scripts.
-use Rattle.std.specs.Prelude.{List, [], map, slice_get}
+use Rattle.std.specs.Prelude.{List, [], ◌∷◌, ◌++◌, flat_map, map, slice_get}
 use Rattle.std.specs.Option.{option_map_or}
+use Rattle.built_in_events.specs.BuiltIn.{name_of, all_events}
+use Rattle.script_tree.specs.Tree.{Bytes}
+use Rattle.script_types.specs.declared.codes.EventCode.{EventCode}
 use Rattle.script_types.specs.declared.codes.TableCode.{TableCode}
 use Rattle.script_types.specs.declared.codes.HandlerCode.{HandlerCode}
 use Rattle.script_types.specs.declared.codes.MethodCode.{MethodCode}
@@ -43,12 +46,29 @@ block_code blocks b = record {
   remove = b.remove;
 }
 
+-- The names of a block's fields and of its relations, and the keys of its attributes of activities.
+abbrev pub block_names : BlockCode → List Bytes
+block_names b = map (λ f. f.name) b.fields ++ map (λ r. r.name) b.relations ++ map (λ a. a.key) b.attributes
+
+-- The name of a table, and those of its profile's attributes.
+abbrev pub table_names : TableCode → List Bytes
+table_names t = t.name ∷ map (λ a. a.name) t.attributes
+
+-- All names that scripts read and change the state by: block by block, then table by table, then those of the events that are declared and of those that are built in. A name may come several times, and its number is the place of its first.
+abbrev pub names_in : List EventCode → List TableCode → List BlockCode → List Bytes
+names_in events tables blocks = flat_map block_names blocks ++ flat_map table_names tables ++ map (λ e. e.name) events ++ map name_of all_events
+
 -- The codes of parts, with these checked scripts.
 abbrev pub codes_in : Parts → List BlockSteps → Codes
-codes_in parts programs = record {
-  events = map event_of parts.events;
-  tables = map (table_code (key_number (λ p. p.key) parts.profiles) parts.profiles) parts.tables;
-  services = map (λ s. s.key) parts.services;
-  blocks = map (block_code (key_number (λ b. b.key) parts.blocks)) parts.blocks;
-  programs = programs;
-}
+codes_in parts programs =
+    let events : List EventCode = map event_of parts.events in
+    let tables : List TableCode = map (table_code (key_number (λ p. p.key) parts.profiles) parts.profiles) parts.tables in
+    let blocks : List BlockCode = map (block_code (key_number (λ b. b.key) parts.blocks)) parts.blocks in
+    record {
+      events = events;
+      tables = tables;
+      services = map (λ s. s.key) parts.services;
+      blocks = blocks;
+      names = names_in events tables blocks;
+      programs = programs;
+    }

@@ -11,6 +11,7 @@ use crate::block_coding::BlockCoding;
 use crate::coding::{codes_by, named_by};
 use crate::indexes::{Indexes, indexes_of};
 use crate::keys::{item_number, number_at};
+use crate::naming::names_of;
 use crate::part_coding::{EventCoding, ServiceCoding, TableCoding};
 use deployment_parts::{
     Block, DeployFault, EventType, Parts, ProfileSpec, Service, Table, check_parts,
@@ -49,11 +50,18 @@ fn codes_of(alloc: Global, parts: &Parts, indexes: &Indexes) -> Result<Codes, No
         &BlockCoding(&indexes.blocks),
         parts.blocks.as_slice(),
     )?;
+    let names = names_of(
+        alloc,
+        events.as_slice(),
+        tables.as_slice(),
+        blocks.as_slice(),
+    )?;
     Ok(Codes {
         events,
         tables,
         services,
         blocks,
+        names,
         programs: CodeList::new(alloc),
     })
 }

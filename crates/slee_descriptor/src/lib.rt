@@ -7,6 +7,7 @@ mod deployment;
 mod handlers;
 mod indexes;
 mod keys;
+mod naming;
 mod part_coding;
 
 pub use deployment::Deployment;

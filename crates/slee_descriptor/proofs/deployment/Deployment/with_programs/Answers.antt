@@ -4,5 +4,5 @@ use Rattle.slee_descriptor.proofs.deployment.Deployment.with_programs.Goals as g
 
 pub invariant_of-self-clause-coded : goal.invariant_of-self-clause-coded
 invariant_of-self-clause-coded c =
-    let with_them : Codes → Codes = λ k. record { events = k.events; tables = k.tables; services = k.services; blocks = k.blocks; programs = c.args.programs } in
+    let with_them : Codes → Codes = λ k. record { events = k.events; tables = k.tables; services = k.services; blocks = k.blocks; names = k.names; programs = c.args.programs } in
     ap with_them c.args.self.coded
