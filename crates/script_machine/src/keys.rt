@@ -37,17 +37,32 @@ pub(crate) fn is_asked(
     match (one, asked) {
         (Key::Field(e, x), Asked::Field(f, y)) => {
             let name = x.as_str();
-            e.0 == f.0 && is_same_name(names, NumberedName { name, number }, NumberedName::of_name(y))
+            e.0 == f.0
+                && is_same_name(
+                    names,
+                    NumberedName { name, number },
+                    NumberedName::of_name(y),
+                )
         }
         (Key::Children(e, x), Asked::Children(f, y)) => {
             let name = x.as_str();
-            e.0 == f.0 && is_same_name(names, NumberedName { name, number }, NumberedName::of_name(y))
+            e.0 == f.0
+                && is_same_name(
+                    names,
+                    NumberedName { name, number },
+                    NumberedName::of_name(y),
+                )
         }
         (Key::Priority(e), Asked::Priority(f)) => e.0 == f.0,
         (Key::AcState(a), Asked::AcState(b)) => a.0 == b.0,
         (Key::Attr(a, x), Asked::Attr(b, y)) => {
             let name = x.as_str();
-            a.0 == b.0 && is_same_name(names, NumberedName { name, number }, NumberedName::of_text(y))
+            a.0 == b.0
+                && is_same_name(
+                    names,
+                    NumberedName { name, number },
+                    NumberedName::of_text(y),
+                )
         }
         (Key::Attached(e, a), Asked::Attached(f, b)) => e.0 == f.0 && a.0 == b.0,
         (Key::Mask(e, a), Asked::Mask(f, b)) => e.0 == f.0 && a.0 == b.0,
@@ -55,8 +70,11 @@ pub(crate) fn is_asked(
         (Key::Timer(t), Asked::Timer(u)) => t.0 == u.0,
         (Key::Profile(t, x), Asked::Profile(u, y)) => {
             let name = t.as_str();
-            is_same_name(names, NumberedName { name, number }, NumberedName::of_name(u))
-                && x.as_bytes() == y.as_bytes()
+            is_same_name(
+                names,
+                NumberedName { name, number },
+                NumberedName::of_name(u),
+            ) && x.as_bytes() == y.as_bytes()
         }
         (Key::Now, Asked::Now) => true,
         (Key::Activities(e), Asked::Activities(f)) => e.0 == f.0,

@@ -61,7 +61,7 @@ fn numbers_of_row(
     names: &NamedList<Text>,
     fields: &[(Name, Value)],
 ) -> Result<CodeList<Option<usize>>, NoMemory>
-    ensures { IfOk result (λ l. l ≡ map (λ f. number_in names.now f.0) fields.now) }
+    ensures { IfOk result (λ l. l ≡ map (number_in names.now) (map (λ f. f.0) fields.now)) }
 {
     let mut numbers = CodeList::new(alloc);
     for (name, _) in fields {
