@@ -1,3 +1,4 @@
 pub mod RunLemmas
+pub mod NumberedLemmas
 pub mod ChainLemmas
 pub mod AskedLemmas

@@ -4,9 +4,10 @@ use Rattle.handler_meaning.specs.Running.{State, Ending, Gave, Broke, Needs, Sta
 use Rattle.script_machine.specs.declared.stop.Stop.{Stop}
 use Rattle.script_machine.specs.declared.stop.Stop.TheVariants as stop
 use Rattle.script_machine.specs.Agreeing.{Stops}
+use Rattle.script_machine.specs.Machines.{MachineState}
 
 -- what stops a part stops the whole
-pub stops_then : {A B : Type 0} (m : Ending A) (g : A → Run B) (new : State) (e : Stop) → Stops m new e → Stops (then_run m g) new e
+pub stops_then : {A B : Type 0} (m : Ending A) (g : A → Run B) (new : MachineState) (e : Stop) → Stops m new e → Stops (then_run m g) new e
 stops_then m g new stop.NoMemory h = tt
 stops_then m g new (stop.Broken kind) h = ap (λ x. then_run x g) h
 stops_then m g new (stop.Thrown text) h = ap (λ x. then_run x g) h

@@ -1,5 +1,6 @@
 use Rattle.std.proofs.Common.{◌≡◌, ◌+◌, ◌*◌, ◌≤◌, drop}
 use Rattle.script_machine.specs.Lending.{standing}
+use Rattle.script_machine.specs.Machines.{state_of}
 use Rattle.script_machine.specs.Settings.{setting_of}
 use Rattle.handler_meaning.specs.Values.{int, flag}
 use Rattle.term_run.specs.Links.{linked}
@@ -85,12 +86,12 @@ decreases-truth_links l = 8 * l.machine.now.left + 7
 
 -- the operands so far are joined
 abbrev pub invariant-eval_links-links : goal.invariant-eval_links-links
-invariant-eval_links-links l = (linked (setting_of l.scene) (drop l.joint-index l.links) l.x l.machine ≡ linked (setting_of l.scene) l.links l.fn.first l.initial.machine) × (l.machine.left ≤ l.initial.machine.left) × (standing l.machine ≡ standing l.initial.machine)
+invariant-eval_links-links l = (linked (setting_of l.scene) (drop l.joint-index l.links) l.x (state_of l.machine) ≡ linked (setting_of l.scene) l.links l.fn.first (state_of l.initial.machine)) × (l.machine.left ≤ l.initial.machine.left) × (standing l.machine ≡ standing l.initial.machine) × (l.machine.names ≡ l.initial.machine.names)
 
 -- the numbers so far are joined
 abbrev pub invariant-number_links-links : goal.invariant-number_links-links
-invariant-number_links-links l = (linked (setting_of l.scene) (drop l.joint-index l.links) (int l.x) l.machine ≡ linked (setting_of l.scene) l.links (int l.fn.first) l.initial.machine) × (l.machine.left ≤ l.initial.machine.left) × (standing l.machine ≡ standing l.initial.machine)
+invariant-number_links-links l = (linked (setting_of l.scene) (drop l.joint-index l.links) (int l.x) (state_of l.machine) ≡ linked (setting_of l.scene) l.links (int l.fn.first) (state_of l.initial.machine)) × (l.machine.left ≤ l.initial.machine.left) × (standing l.machine ≡ standing l.initial.machine) × (l.machine.names ≡ l.initial.machine.names)
 
 -- the truth values so far are joined
 abbrev pub invariant-truth_links-links : goal.invariant-truth_links-links
-invariant-truth_links-links l = (linked (setting_of l.scene) (drop l.joint-index l.links) (flag l.x) l.machine ≡ linked (setting_of l.scene) l.links (flag l.fn.first) l.initial.machine) × (l.machine.left ≤ l.initial.machine.left) × (standing l.machine ≡ standing l.initial.machine)
+invariant-truth_links-links l = (linked (setting_of l.scene) (drop l.joint-index l.links) (flag l.x) (state_of l.machine) ≡ linked (setting_of l.scene) l.links (flag l.fn.first) (state_of l.initial.machine)) × (l.machine.left ≤ l.initial.machine.left) × (standing l.machine ≡ standing l.initial.machine) × (l.machine.names ≡ l.initial.machine.names)
