@@ -8,6 +8,7 @@ use Rattle.handler_meaning.specs.Terms.{eval}
 use Rattle.handler_meaning.specs.Steps.{arguments_of}
 use Rattle.script_machine.specs.declared.stop.Stop.{Stop}
 use Rattle.script_machine.specs.Agreeing.{Stops}
+use Rattle.script_machine.specs.Machines.{MachineState}
 use Rattle.term_run.proofs.RunLemmas.{stops_then}
 use Rattle.block_run.specs.Loops.{behind_others}
 
@@ -28,7 +29,7 @@ module _ (s : Setting) (terms : List TermInMemory) (i : ℕ) (t : TermInMemory) 
       ap go split
 
   -- what stops an argument stops all
-  pub arguments_stop : (st new : State) (e : Stop) (total : Ending (List Variable)) → i < length terms → t ≡ get_or terms i t → behind_others variables (arguments_of s (map term_of (drop i terms))) st ≡ total → Stops (eval s (term_of t) st) new e → Stops total new e
+  pub arguments_stop : (st : State) (new : MachineState) (e : Stop) (total : Ending (List Variable)) → i < length terms → t ≡ get_or terms i t → behind_others variables (arguments_of s (map term_of (drop i terms))) st ≡ total → Stops (eval s (term_of t) st) new e → Stops total new e
   arguments_stop st new e total lt is so_far h =
       subst (λ (m : Ending (List Variable)). Stops m new e) (sym (arguments_next st lt is) ∙ so_far) (stops_then (then_run (eval s (term_of t) st) in_front) held new e (stops_then (eval s (term_of t) st) in_front new e h))
 

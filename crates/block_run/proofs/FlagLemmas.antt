@@ -9,6 +9,7 @@ use Rattle.handler_meaning.specs.Values.{with_flag}
 use Rattle.handler_meaning.specs.Steps.{Flow, Next, followed, either, turns, repeat}
 use Rattle.script_machine.specs.declared.stop.Stop.{Stop}
 use Rattle.script_machine.specs.Agreeing.{Stops}
+use Rattle.script_machine.specs.Machines.{MachineState}
 use Rattle.term_run.proofs.RunLemmas.{stops_then}
 use Rattle.block_run.specs.Loops.{flag_in}
 
@@ -41,7 +42,7 @@ module _ (n i : ℕ) (test : Run Val) (body : Run Flow) where
       ap (λ (m : ℕ). turns m test body st) e ∙ sym (flags (test st) goes)
 
   -- what stops the test stops the loop
-  pub test_stops : (st new : State) (e : Stop) (total : Ending Flow) → i < n → turns (n - i) test body st ≡ total → Stops (flag_in test st) new e → Stops total new e
+  pub test_stops : (st : State) (new : MachineState) (e : Stop) (total : Ending Flow) → i < n → turns (n - i) test body st ≡ total → Stops (flag_in test st) new e → Stops total new e
   test_stops st new e total lt so_far h =
       subst (λ (t : Ending Flow). Stops t new e) (sym (turn_is st lt) ∙ so_far) (stops_then (flag_in test st) goes new e h)
 
@@ -55,7 +56,7 @@ module _ (n i : ℕ) (test : Run Val) (body : Run Flow) where
   turn_taken st mid b total lt so_far t is =
       sym (turn_is st lt ∙ ap (λ r. then_run r goes) t ∙ ap (λ b. goes b mid) is) ∙ so_far
 
-  pub body_stops : (st mid new : State) (b : Bool) (e : Stop) (total : Ending Flow) → i < n → turns (n - i) test body st ≡ total → flag_in test st ≡ Gave b mid → b ≡ true → Stops (body mid) new e → Stops total new e
+  pub body_stops : (st mid : State) (new : MachineState) (b : Bool) (e : Stop) (total : Ending Flow) → i < n → turns (n - i) test body st ≡ total → flag_in test st ≡ Gave b mid → b ≡ true → Stops (body mid) new e → Stops total new e
   body_stops st mid new b e total lt so_far t is h =
       subst (λ (t : Ending Flow). Stops t new e) (turn_taken st mid b total lt so_far t is) (stops_then (body mid) rest new e h)
 

@@ -15,6 +15,7 @@ use Rattle.handler_meaning.specs.Steps.{Flow, Next, Calling, act_all, arguments_
 use Rattle.handler_meaning.specs.Calls.{apart, keep_result, setting_in, call_at}
 use Rattle.script_machine.specs.declared.stop.Stop.{Stop}
 use Rattle.script_machine.specs.Agreeing.{Stops, EndsAs}
+use Rattle.script_machine.specs.Machines.{MachineState}
 use Rattle.script_types.specs.declared.checked_step.Step.{Step as StepInMemory}
 use Rattle.step_run.specs.declared.flow.Flow.{Flow as FlowInMemory}
 use Rattle.step_run.specs.Flows.{flow_of}
@@ -64,11 +65,11 @@ module _ (stage : Stage) (c : CallInMemory) where
   invoke_is depth st = behind_child depth (read.child (given stage) c.child st)
 
   -- what stops the arguments stops the call
-  pub invoke_stops : (depth : ℕ) (st new : State) (e : Stop) → Stops (prepares (given stage) depth c st) new e → Stops (invokes stage depth (call_of c) st) new e
+  pub invoke_stops : (depth : ℕ) (st : State) (new : MachineState) (e : Stop) → Stops (prepares (given stage) depth c st) new e → Stops (invokes stage depth (call_of c) st) new e
   invoke_stops depth st new e h =
       subst (λ (m : Ending Flow). Stops m new e) (sym (invoke_is depth st)) (stops_then (prepares (given stage) depth c st) (enters_with depth) new e h)
 
-  pub invoke_enters : (depth : ℕ) (st mid new : State) (e : Ref) (variables : List Variable) (result : Result FlowInMemory Stop) → prepares (given stage) depth c st ≡ Gave (e, variables) mid → EndsAs flow_of (enters stage (depth - 1) c e variables mid) new result → EndsAs flow_of (invokes stage depth (call_of c) st) new result
+  pub invoke_enters : (depth : ℕ) (st mid : State) (new : MachineState) (e : Ref) (variables : List Variable) (result : Result FlowInMemory Stop) → prepares (given stage) depth c st ≡ Gave (e, variables) mid → EndsAs flow_of (enters stage (depth - 1) c e variables mid) new result → EndsAs flow_of (invokes stage depth (call_of c) st) new result
   invoke_enters depth st mid new e variables result given h =
       ends_as (invokes stage depth (call_of c) st) (enters stage (depth - 1) c e variables mid) new result (invoke_is depth st ∙ ap (λ r. then_run r (enters_with depth)) given) h
 
@@ -137,7 +138,7 @@ module _ (stage : Stage) (c : CallInMemory) where
           ∙ ap (λ (s : State). keeps_behind (all_in inner more (steps_of steps) s)) (sym h.starts)
 
       -- what stops the method stops the call
-      pub method_stops : (methods : List MethodSteps) (steps : List StepInMemory) (started new : State) (stops : Stop) → AtHand methods steps started → Stops (all_in inner more (steps_of steps) started) new stops → Stops (enters stage more c e variables st) new stops
+      pub method_stops : (methods : List MethodSteps) (steps : List StepInMemory) (started : State) (new : MachineState) (stops : Stop) → AtHand methods steps started → Stops (all_in inner more (steps_of steps) started) new stops → Stops (enters stage more c e variables st) new stops
       method_stops methods steps started new stops hand h =
           let run = all_in inner more (steps_of steps) started in
           let inside = stops_then run back new stops h in
@@ -145,7 +146,7 @@ module _ (stage : Stage) (c : CallInMemory) where
           subst (λ (m : Ending Flow). Stops m new stops) (sym (runs_at_hand methods steps started hand)) (stops_then (then_run (then_run run back) (λ flow. keep_result c.keeps flow method.result)) (λ _. give Next) new stops kept)
 
       -- a method that came to its end
-      pub method_ends : (methods : List MethodSteps) (steps : List StepInMemory) (started mid behind new : State) (flow : Flow) (outer : List Variable) (result : Result FlowInMemory Stop) → AtHand methods steps started → all_in inner more (steps_of steps) started ≡ Gave flow mid → behind ≡ (record mid { variables = outer }) → outer ≡ st.variables → EndsAs flow_of (next (keep_result c.keeps flow method.result) behind) new result → EndsAs flow_of (enters stage more c e variables st) new result
+      pub method_ends : (methods : List MethodSteps) (steps : List StepInMemory) (started mid behind : State) (new : MachineState) (flow : Flow) (outer : List Variable) (result : Result FlowInMemory Stop) → AtHand methods steps started → all_in inner more (steps_of steps) started ≡ Gave flow mid → behind ≡ (record mid { variables = outer }) → outer ≡ st.variables → EndsAs flow_of (next (keep_result c.keeps flow method.result) behind) new result → EndsAs flow_of (enters stage more c e variables st) new result
       method_ends methods steps started mid behind new flow outer result hand ran at_end own h =
           let keep : State → Ending Flow = λ s. next (keep_result c.keeps flow method.result) s in
           ends_as (enters stage more c e variables st) (keep behind) new result

@@ -14,6 +14,7 @@ use Rattle.handler_meaning.specs.Running.{scoped}
 use Rattle.handler_meaning.specs.Steps.{Flow, Next, next, says, followed, repeat, walk, either}
 use Rattle.script_machine.specs.declared.stop.Stop.{Stop}
 use Rattle.script_machine.specs.Agreeing.{Stops, EndsAs}
+use Rattle.script_machine.specs.Machines.{MachineState}
 use Rattle.step_run.specs.declared.flow.Flow.{Flow as FlowInMemory}
 use Rattle.step_run.specs.Flows.{flow_of}
 use Rattle.term_run.proofs.RunLemmas.{stops_then}
@@ -23,7 +24,7 @@ use Rattle.block_run.specs.Stages.{given, act_in, all_in, goes_over, invokes}
 use Rattle.block_run.proofs.FlagLemmas.{flags}
 
 -- what an answer says of a run it says of the same run
-pub ends_as : (m n : Ending Flow) (new : State) (result : Result FlowInMemory Stop) → m ≡ n → EndsAs flow_of n new result → EndsAs flow_of m new result
+pub ends_as : (m n : Ending Flow) (new : MachineState) (result : Result FlowInMemory Stop) → m ≡ n → EndsAs flow_of n new result → EndsAs flow_of m new result
 ends_as m n new result e h = subst (λ (r : Ending Flow). EndsAs flow_of r new result) (sym e) h
 
 module _ (stage : Stage) (depth : ℕ) (x : Step) (st : State) where
@@ -78,7 +79,7 @@ module _ (stage : Stage) (depth : ℕ) (body : List StepInMemory) (i : ℕ) wher
       ap go split
 
   -- what stops a step stops all
-  pub all_stops : (x : StepInMemory) (st new : State) (e : Stop) (total : Ending Flow) → i < length body → x ≡ get_or body i x → all_in stage depth (steps_of (drop i body)) st ≡ total → Stops (ticked (act_in stage depth (step_of x)) st) new e → Stops total new e
+  pub all_stops : (x : StepInMemory) (st : State) (new : MachineState) (e : Stop) (total : Ending Flow) → i < length body → x ≡ get_or body i x → all_in stage depth (steps_of (drop i body)) st ≡ total → Stops (ticked (act_in stage depth (step_of x)) st) new e → Stops total new e
   all_stops x st new e total lt is so_far h =
       subst (λ (t : Ending Flow). Stops t new e) (sym (all_next x st lt is) ∙ so_far) (stops_then (ticked (act_in stage depth (step_of x)) st) rest new e h)
 
@@ -103,7 +104,7 @@ module _ (over : Range) (items : List Ref) (i : ℕ) (body : Run Flow) where
       ap go split
 
   -- what stops a turn stops the loop
-  pub walk_stops : (z : Ref) (variable : Variable) (st new : State) (e : Stop) (total : Ending Flow) → i < length items → variable ≡ variable_in over (get_or items i z) → walk (map (variable_in over) (drop i items)) body st ≡ total → Stops (turned variable body st) new e → Stops total new e
+  pub walk_stops : (z : Ref) (variable : Variable) (st : State) (new : MachineState) (e : Stop) (total : Ending Flow) → i < length items → variable ≡ variable_in over (get_or items i z) → walk (map (variable_in over) (drop i items)) body st ≡ total → Stops (turned variable body st) new e → Stops total new e
   walk_stops z variable st new e total lt same so_far h =
       let x : Ref = get_or items i z in
       let own : Stops (turned (variable_in over x) body st) new e = subst (λ (y : Variable). Stops (turned y body st) new e) same h in

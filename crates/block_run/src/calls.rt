@@ -2,7 +2,7 @@
 ghost use Rattle.std.specs.Prelude.{◌≡◌, ◌≤◌, ◌<◌, slice_get, map, OnOk};
 ghost use Rattle.std.specs.Option.{option_copied};
 ghost use Rattle.std.specs.List.{AllByRecursion};
-ghost use Rattle.script_types.specs.ProgramOf.{term_of, block_program_of};
+ghost use Rattle.script_types.specs.ProgramOf.{term_of, call_of, block_program_of};
 ghost use Rattle.handler_meaning.specs.Steps.{arguments_of, next};
 ghost use Rattle.handler_meaning.specs.Calls.{keep_result, setting_in};
 ghost use Rattle.script_types.specs.Numbers.{IsNumbered, IsNumberedTerm};
@@ -79,10 +79,12 @@ pub(crate) fn prepare(
 }
 
 /// The stage for a child of this block.
+#[tactic(auto, using(crate::proofs::TidyLemmas::masks_numbered))]
 pub(crate) fn stage_for<'a>(stage: &Stage<'a>, block: &'a BlockSteps, child: Ref) -> Stage<'a>
     requires masks { AllByRecursion (IsNumbered stage.now.scene.names.now) block.now.masks }
     ensures given { given result ≡ setting_in (given stage.now) (block_program_of block.now) child }
     ensures program { program_of result ≡ program_of stage.now }
+    ensures names { result.scene.names.now ≡ stage.now.scene.names.now }
 {
     let scene = &stage.scene;
     Stage {

@@ -256,7 +256,6 @@ fn enter(
     arguments: Vec<Variable>,
 ) -> Result<Flow, Stop>
     requires names { machine.old.names ≡ stage.now.scene.names.now }
-    requires call { AllByRecursion (IsNumberedTerm stage.now.scene.names.now) (call_of call.now).arguments }
     requires stage { IsTidyStage stage.now }
     ensures agrees { AgreesAs flow_of (enters stage.now depth call.now child arguments.items) machine.old machine.new result }
     ensures spent { machine.new.left ≤ machine.old.left }

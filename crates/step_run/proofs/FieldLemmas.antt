@@ -16,6 +16,7 @@ use Rattle.handler_meaning.specs.Terms.{eval}
 use Rattle.handler_meaning.specs.Doing.{put_field, fields_of}
 use Rattle.script_machine.specs.declared.stop.Stop.{Stop}
 use Rattle.script_machine.specs.Agreeing.{Stops}
+use Rattle.script_machine.specs.Machines.{MachineState}
 use Rattle.term_run.proofs.RunLemmas.{stops_then}
 use Rattle.step_run.specs.Firing.{place_in, AreApart, names_in}
 
@@ -124,7 +125,7 @@ module _ (s : Setting) (fields : List FieldTerm) (i : ℕ) (f : FieldTerm) (done
       ap go split
 
   -- what stops a field stops all
-  pub fields_stop : (st new : State) (e : Stop) (total : Ending (List (List ℕ × Val))) → i < length fields → f ≡ get_or fields i f → fields_of s (map field_term_of (drop i fields)) done st ≡ total → Stops (eval s (term_of f.term) st) new e → Stops total new e
+  pub fields_stop : (st : State) (new : MachineState) (e : Stop) (total : Ending (List (List ℕ × Val))) → i < length fields → f ≡ get_or fields i f → fields_of s (map field_term_of (drop i fields)) done st ≡ total → Stops (eval s (term_of f.term) st) new e → Stops total new e
   fields_stop st new e total lt is so_far h = subst (λ (t : Ending (List (List ℕ × Val))). Stops t new e) (sym (fields_next st lt is) ∙ so_far) (stops_then (eval s (term_of f.term) st) rest new e h)
 
   -- a field more is in its place

@@ -86,7 +86,7 @@ pub(crate) fn fire(
     requires names { machine.old.names ≡ scene.now.names.now }
     requires term { IsNumberedTerm scene.now.names.now (term_of term.now) }
     requires fields { AllByRecursion (λ field. IsNumberedTerm scene.now.names.now field.1) (map field_term_of fields.now) }
-    requires { AreApart [] (names_in (map field_term_of fields.now)) }
+    requires apart { AreApart [] (names_in (map field_term_of fields.now)) }
     ensures agrees { Agrees (on_activities (setting_of scene.now) (p.Fire event.now (term_of term.now) service.now (map field_term_of fields.now))) machine.old machine.new result }
     ensures spent { machine.new.left ≤ machine.old.left }
     ensures names { machine.new.names ≡ machine.old.names }

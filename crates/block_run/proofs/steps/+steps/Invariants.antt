@@ -3,6 +3,7 @@ use Rattle.script_types.specs.ProgramOf.{term_of, steps_of}
 use Rattle.handler_meaning.specs.Running.{scoped}
 use Rattle.handler_meaning.specs.Terms.{eval}
 use Rattle.handler_meaning.specs.Steps.{turns, walk}
+use Rattle.script_machine.specs.Machines.{state_of}
 use Rattle.block_run.specs.Loops.{variable_in}
 use Rattle.block_run.specs.Stages.{given, all_in}
 use Rattle.block_run.proofs.steps.+steps.Given as goal
@@ -42,12 +43,12 @@ decreases-act l = 8 * l.machine.now.left + 5
 
 -- the steps so far are done
 abbrev pub invariant-do_all-steps : goal.invariant-do_all-steps
-invariant-do_all-steps l = (all_in l.stage l.depth (steps_of (drop l.step-index l.body)) l.machine ≡ all_in l.stage l.depth (steps_of l.body) l.initial.machine) × (l.machine.left ≤ l.initial.machine.left)
+invariant-do_all-steps l = (all_in l.stage l.depth (steps_of (drop l.step-index l.body)) (state_of l.machine) ≡ all_in l.stage l.depth (steps_of l.body) (state_of l.initial.machine)) × (l.machine.left ≤ l.initial.machine.left) × (l.machine.names ≡ l.initial.machine.names)
 
 -- the items so far had their turns
 abbrev pub invariant-do_walk-items : goal.invariant-do_walk-items
-invariant-do_walk-items l = (walk (map (variable_in l.range) (drop l.item-index l.items)) (all_in l.stage l.depth (steps_of l.body)) l.machine ≡ walk (map (variable_in l.range) l.items) (all_in l.stage l.depth (steps_of l.body)) l.initial.machine) × (l.machine.left ≤ l.initial.machine.left)
+invariant-do_walk-items l = (walk (map (variable_in l.range) (drop l.item-index l.items)) (all_in l.stage l.depth (steps_of l.body)) (state_of l.machine) ≡ walk (map (variable_in l.range) l.items) (all_in l.stage l.depth (steps_of l.body)) (state_of l.initial.machine)) × (l.machine.left ≤ l.initial.machine.left) × (l.machine.names ≡ l.initial.machine.names)
 
 -- the turns so far are done
 abbrev pub invariant-repeat-turns : goal.invariant-repeat-turns
-invariant-repeat-turns l = (turns (l.most - l.turn) (eval (given l.stage) (term_of l.test)) (scoped (all_in l.stage l.depth (steps_of l.body))) l.machine ≡ turns l.most (eval (given l.stage) (term_of l.test)) (scoped (all_in l.stage l.depth (steps_of l.body))) l.initial.machine) × (l.machine.left ≤ l.initial.machine.left)
+invariant-repeat-turns l = (turns (l.most - l.turn) (eval (given l.stage) (term_of l.test)) (scoped (all_in l.stage l.depth (steps_of l.body))) (state_of l.machine) ≡ turns l.most (eval (given l.stage) (term_of l.test)) (scoped (all_in l.stage l.depth (steps_of l.body))) (state_of l.initial.machine)) × (l.machine.left ≤ l.initial.machine.left) × (l.machine.names ≡ l.initial.machine.names)
