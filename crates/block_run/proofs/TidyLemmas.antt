@@ -12,7 +12,7 @@ use Rattle.script_types.specs.declared.checked_script.MethodSteps.{MethodSteps}
 use Rattle.script_tree.specs.Tree.{Bytes}
 use Rattle.script_types.specs.declared.symbol.Symbol.{Symbol}
 use Rattle.script_types.specs.Codes.{number_in}
-use Rattle.script_types.specs.Numbers.{IsNumbered, IsNumberedStep, IsNumberedTerm, IsNumberedRange, AreNumberedSteps, IsNumberedBlock}
+use Rattle.script_types.specs.Numbers.{IsNumbered, IsNumberedStep, IsNumberedTerm, IsNumberedRange, AreNumberedSteps, IsNumberedBlock, IsNumberedProgram}
 use Rattle.script_types.specs.Program.{Step, Steps, MethodProgram}
 use Rattle.script_types.specs.ProgramOf.{term_of, step_of, steps_of, block_program_of, method_program_of}
 use Rattle.script_types.proofs.ProgramRows.{if_step, while_step, for_step}
@@ -56,7 +56,7 @@ all_at P (y ∷ xs) zero x h e = let same : y ≡ x = cc in subst P same h.0
 all_at P (y ∷ xs) (suc i) x h e = all_at P xs i x h.1 e
 
 -- one of a list that is seen as values of which this holds
-seen_at : {A B : Type 0} (f : A → B) (P : B → Type 0) (xs : List A) (i : ℕ) (x : A) → AllByRecursion P (map f xs) → slice_get xs i ≡ Some x → P (f x)
+pub seen_at : {A B : Type 0} (f : A → B) (P : B → Type 0) (xs : List A) (i : ℕ) (x : A) → AllByRecursion P (map f xs) → slice_get xs i ≡ Some x → P (f x)
 seen_at f P xs i x h e = all_at P (map f xs) i (f x) h (slice_get-map f xs i ∙ ap (option_map f) e)
 
 -- the steps of a method are sound where all are
@@ -70,10 +70,10 @@ sound_method stage b m block method methods steps h is all own own_steps =
     let Q : MethodProgram → Type 0 = λ p. AreNumberedSteps names p.steps in
     subst (AreSound names) (sym own_steps) (seen_at method_program_of P block.methods m method tidy.methods there, seen_at method_program_of Q block.methods m method numbered.methods there)
 
--- the events that a block of a stage masks have the numbers of their names
-pub masks_at : (stage : Stage) (b : ℕ) (block : BlockSteps) → IsTidyStage stage → slice_get stage.blocks.now b ≡ Some block → AllByRecursion (IsNumbered stage.scene.names.now) block.masks
-masks_at stage b block h is =
-    let numbered : IsNumberedBlock stage.scene.names.now (block_program_of block) = seen_at block_program_of (IsNumberedBlock stage.scene.names.now) stage.blocks.now b block h.1 is in
+-- the events that a block masks have the numbers of their names
+pub masks_at : (names : List Bytes) (blocks : List BlockSteps) (b : ℕ) (block : BlockSteps) → IsNumberedProgram names (map block_program_of blocks) → slice_get blocks b ≡ Some block → AllByRecursion (IsNumbered names) block.masks
+masks_at names blocks b block h is =
+    let numbered : IsNumberedBlock names (block_program_of block) = seen_at block_program_of (IsNumberedBlock names) blocks b block h is in
     numbered.masks
 
 -- the same as equal lists

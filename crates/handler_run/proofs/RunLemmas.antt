@@ -6,6 +6,8 @@ use Rattle.script_types.specs.declared.codes.Codes.{Codes as CodesInMemory}
 use Rattle.script_types.specs.declared.checked_script.BlockSteps.{BlockSteps}
 use Rattle.script_types.specs.Codes.{Codes}
 use Rattle.script_types.specs.CodesOf.{codes_of}
+use Rattle.script_tree.specs.Tree.{Bytes}
+use Rattle.script_types.specs.Numbers.{IsNumberedProgram}
 use Rattle.script_types.specs.Program.{Program, BlockProgram, Steps}
 use Rattle.script_types.specs.Programs.{program_of}
 use Rattle.script_types.specs.ProgramOf.{block_program_of, kept_program, IsChecked}
@@ -16,6 +18,7 @@ use Rattle.handler_meaning.specs.Running.{key_limit}
 use Rattle.handler_meaning.specs.Meaning.{Before, Unchecked, meaning_with, meaning_of, meaning}
 use Rattle.script_safety.specs.Fitting.{IsSound}
 use Rattle.script_safety.proofs.Calls.{meaning_is_sound}
+use Rattle.numbering_laws.proofs.Programs.{program_numbered}
 use Rattle.block_run.specs.Tidy.{IsTidyProgram}
 use Rattle.handler_run.specs.Scripts.{script_of_block, script_of}
 use Rattle.handler_run.proofs.TidyPrograms.{program_tidy}
@@ -36,3 +39,8 @@ never_unchecked codes blocks answers which e arguments before steps made there f
 
 pub checked_tidy : (codes : CodesInMemory) (blocks : List BlockSteps) → IsChecked codes → blocks ≡ codes.programs → IsTidyProgram (map block_program_of blocks)
 checked_tidy codes blocks made all = subst (λ (l : List BlockSteps). IsTidyProgram (map block_program_of l)) (sym all) (program_tidy (codes_of codes) (kept_program codes) made)
+
+pub checked_numbered : (codes : CodesInMemory) (blocks : List BlockSteps) (names : List Bytes) → IsChecked codes → blocks ≡ codes.programs → names ≡ codes.names → IsNumberedProgram names (map block_program_of blocks)
+checked_numbered codes blocks names made all same =
+    subst (λ (l : List BlockSteps). IsNumberedProgram names (map block_program_of l)) (sym all)
+    (subst (λ (n : List Bytes). IsNumberedProgram n (kept_program codes)) (sym same) (program_numbered (codes_of codes) (kept_program codes) made))

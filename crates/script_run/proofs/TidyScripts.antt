@@ -1,37 +1,38 @@
--- A script of a tidy block is tidy.
-use Rattle.std.proofs.Common.{◌≡◌, ℕ, zero, suc, List, [], ◌∷◌, map, Some, sym, ap, ◌∙◌, subst}
-use Rattle.std.specs.Prelude.{slice_get, option_map}
-use Rattle.std.proofs.lemmas.Option.{slice_get-map}
+-- A script of a tidy block is tidy, and its names have their numbers where those of all have.
+use Rattle.std.proofs.Common.{◌≡◌, ℕ, zero, suc, List, [], ◌∷◌, map, Option, Some, sym, subst}
+use Rattle.std.specs.Prelude.{slice_get}
 use Rattle.std.specs.List.{AllByRecursion}
 use Rattle.handler_meaning.specs.declared.which.Part.{Part}
 use Rattle.handler_meaning.specs.declared.which.Part.TheVariants as part
+use Rattle.script_tree.specs.Tree.{Bytes}
 use Rattle.script_types.specs.declared.checked_step.Step.{Step as StepInMemory}
 use Rattle.script_types.specs.declared.checked_script.BlockSteps.{BlockSteps}
+use Rattle.script_types.specs.Numbers.{AreNumberedSteps, IsNumberedScript, IsNumberedBlock, IsNumberedProgram}
 use Rattle.script_types.specs.Program.{Steps, HandlerProgram, BlockProgram}
 use Rattle.script_types.specs.ProgramOf.{steps_of, block_program_of}
 use Rattle.handler_meaning.specs.Meaning.{steps_of_handler, script_in}
 use Rattle.block_run.specs.Tidy.{AreTidy, IsTidyScript, IsTidyBlock, IsTidyProgram}
+use Rattle.block_run.proofs.TidyLemmas.{AreSound, seen_at}
 
-handler_tidy : (handlers : List HandlerProgram) (place : ℕ) (steps : Steps) → AllByRecursion (λ h. AreTidy h.steps) handlers → steps_of_handler (slice_get handlers place) ≡ Some steps → AreTidy steps
-handler_tidy [] place steps h e = absurd cc
-handler_tidy (x ∷ handlers) zero steps h e = let same : x.steps ≡ steps = cc in subst AreTidy same h.0
-handler_tidy (x ∷ handlers) (suc place) steps h e = handler_tidy handlers place steps h.1 e
+-- what holds of all scripts of a block holds of each
+module _ (P : Steps → Type 0) (Q : Option Steps → Type 0) (of_some : (steps : Steps) → Q (Some steps) → P steps) where
+  handler_has : (handlers : List HandlerProgram) (place : ℕ) (steps : Steps) → AllByRecursion (λ h. P h.steps) handlers → steps_of_handler (slice_get handlers place) ≡ Some steps → P steps
+  handler_has [] place steps h e = absurd cc
+  handler_has (x ∷ handlers) zero steps h e = let same : x.steps ≡ steps = cc in subst P same h.0
+  handler_has (x ∷ handlers) (suc place) steps h e = handler_has handlers place steps h.1 e
 
--- a script that a block has
-script_tidy : (block : BlockProgram) (which : Part) (steps : Steps) → IsTidyBlock block → script_in block which ≡ Some steps → AreTidy steps
-script_tidy block (part.On place) steps h e = handler_tidy block.handlers place steps h.handlers e
-script_tidy block part.Exception steps h e = subst IsTidyScript e h.exception
-script_tidy block part.RolledBack steps h e = subst IsTidyScript e h.rolled_back
-script_tidy block part.Remove steps h e = subst IsTidyScript e h.remove
+  script_has : (block : BlockProgram) (which : Part) (steps : Steps) → AllByRecursion (λ h. P h.steps) block.handlers → Q block.exception → Q block.rolled_back → Q block.remove → script_in block which ≡ Some steps → P steps
+  script_has block (part.On place) steps h exception rolled_back remove e = handler_has block.handlers place steps h e
+  script_has block part.Exception steps h exception rolled_back remove e = of_some steps (subst Q e exception)
+  script_has block part.RolledBack steps h exception rolled_back remove e = of_some steps (subst Q e rolled_back)
+  script_has block part.Remove steps h exception rolled_back remove e = of_some steps (subst Q e remove)
 
-block_tidy : (program : List BlockProgram) (place : ℕ) (block : BlockProgram) → IsTidyProgram program → slice_get program place ≡ Some block → IsTidyBlock block
-block_tidy [] place block h e = absurd cc
-block_tidy (x ∷ program) zero block h e = let same : x ≡ block = cc in subst IsTidyBlock same h.0
-block_tidy (x ∷ program) (suc place) block h e = block_tidy program place block h.1 e
-
--- a script of tidy blocks
-pub tidy_in : (blocks : List BlockSteps) (number : ℕ) (which : Part) (block : BlockSteps) (script steps : List StepInMemory) → IsTidyProgram (map block_program_of blocks) → slice_get blocks number ≡ Some block → Some (steps_of script) ≡ script_in (block_program_of block) which → steps ≡ script → AreTidy (steps_of steps)
-tidy_in blocks number which block script steps h is own same =
-    let at : slice_get (map block_program_of blocks) number ≡ Some (block_program_of block) = slice_get-map block_program_of blocks number ∙ ap (option_map block_program_of) is in
-    let tidy : IsTidyBlock (block_program_of block) = block_tidy (map block_program_of blocks) number (block_program_of block) h at in
-    subst (λ (l : List StepInMemory). AreTidy (steps_of l)) (sym same) (script_tidy (block_program_of block) which (steps_of script) tidy (sym own))
+-- a script of such blocks
+pub sound_in : (names : List Bytes) (blocks : List BlockSteps) (number : ℕ) (which : Part) (block : BlockSteps) (script steps : List StepInMemory) → IsTidyProgram (map block_program_of blocks) → IsNumberedProgram names (map block_program_of blocks) → slice_get blocks number ≡ Some block → Some (steps_of script) ≡ script_in (block_program_of block) which → steps ≡ script → AreSound names steps
+sound_in names blocks number which block script steps h g is own same =
+    let b : BlockProgram = block_program_of block in
+    let tidy : IsTidyBlock b = seen_at block_program_of IsTidyBlock blocks number block h is in
+    let numbered : IsNumberedBlock names b = seen_at block_program_of (IsNumberedBlock names) blocks number block g is in
+    let one : AreTidy (steps_of script) = script_has AreTidy IsTidyScript (λ x h. h) b which (steps_of script) tidy.handlers tidy.exception tidy.rolled_back tidy.remove (sym own) in
+    let two : AreNumberedSteps names (steps_of script) = script_has (AreNumberedSteps names) (IsNumberedScript names) (λ x h. h) b which (steps_of script) numbered.handlers numbered.exception numbered.rolled_back numbered.remove (sym own) in
+    subst (AreSound names) (sym same) (one, two)

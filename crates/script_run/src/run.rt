@@ -129,22 +129,23 @@ pub fn run_in(
     let Some(steps) = script_in(block, which.part) else {
         return Err(Unfinished::Unchecked);
     };
-    let known_numbers = numbers_of_answers(alloc, names, known.as_slice())?;
-    let effect_numbers = numbers_of_effects(alloc, names, before.effects.as_slice())?;
-    let key_numbers = numbers_of_keys(alloc, names, before.keys.as_slice())?;
+    let answers = known.as_slice();
+    let effects = before.effects.as_slice();
+    let keys = before.keys.as_slice();
+    let masks = block.masks.as_slice();
     let stage = Stage {
         scene: Scene {
             alloc,
             names,
-            known: known.as_slice(),
-            known_numbers: &known_numbers,
-            effects: before.effects.as_slice(),
-            effect_numbers: &effect_numbers,
-            keys: before.keys.as_slice(),
-            key_numbers: &key_numbers,
+            known: answers,
+            known_numbers: &numbers_of_answers(alloc, names, answers)?,
+            effects,
+            effect_numbers: &numbers_of_effects(alloc, names, effects)?,
+            keys,
+            key_numbers: &numbers_of_keys(alloc, names, keys)?,
             arguments,
             me: Ref::Known(me.0),
-            masks: block.masks.as_slice(),
+            masks,
         },
         blocks,
     };

@@ -1,15 +1,18 @@
-use Rattle.std.proofs.Common.{Err, Result, map, subst, ap, ◌∙◌}
+use Rattle.std.proofs.Common.{Err, Result, map, refl, subst, ap, ◌∙◌}
 use Rattle.script_types.specs.ProgramOf.{block_program_of}
 use Rattle.handler_meaning.specs.Answers.{kept}
 use Rattle.handler_meaning.specs.Meaning.{meaning}
 use Rattle.script_run.specs.declared.run.Run.{Run}
 use Rattle.script_run.specs.declared.run.Unfinished.{Unfinished}
 use Rattle.script_run.specs.Runs.{before_of, Means}
-use Rattle.handler_run.proofs.RunLemmas.{never_unchecked, checked_tidy}
+use Rattle.handler_run.proofs.RunLemmas.{never_unchecked, checked_tidy, checked_numbered}
 use Rattle.handler_run.proofs.run.run_script.Goals as goal
 
 pub run_in-requires-clause-tidy : goal.run_in-requires-clause-tidy
 run_in-requires-clause-tidy c = checked_tidy c.args.codes.now c.as_slice-blocks.result.now c.requires.checked c.as_slice-blocks.ensures
+
+pub run_in-requires-clause-numbered : goal.run_in-requires-clause-numbered
+run_in-requires-clause-numbered c = checked_numbered c.args.codes.now c.as_slice-blocks.result.now c.args.codes.now.names c.requires.checked c.as_slice-blocks.ensures refl
 
 pub unreachable-requires : goal.unreachable-requires
 unreachable-requires c =
