@@ -137,12 +137,16 @@ class Deployment:
         return tuple(self.record("codes.EventCode", name=text(e["key"]), fields=self.fields(e.get("fields", {}))) for e in self.json.get("events", []))
 
     def codes_of(self):
+        events = self.event_codes()
+        tables = tuple(self.table_codes(name, profile) for name, profile in in_order(self.json.get("tables", {})))
+        blocks = tuple(self.block_codes(block) for block in self.json.get("blocks", []))
         return self.record(
             "specs.Codes.Codes",
-            events=self.event_codes(),
-            tables=tuple(self.table_codes(name, profile) for name, profile in in_order(self.json.get("tables", {}))),
+            events=events,
+            tables=tables,
             services=tuple(text(service["key"]) for service in self.json.get("services", [])),
-            blocks=tuple(self.block_codes(block) for block in self.json.get("blocks", [])),
+            blocks=blocks,
+            names=self.world.eval("slee_descriptor.specs.CodesOfParts.names_in")(events, tables, blocks),
         )
 
     def given(self, kind, **fields):
