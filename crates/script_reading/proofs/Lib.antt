@@ -1,4 +1,5 @@
 pub mod OverlayLemmas
 pub mod CountLemmas
 pub mod MaskLemmas
+pub mod RowLemmas
 pub mod CountingLemmas

@@ -109,6 +109,7 @@ fn children_counted(
     seen: Option<&Seen>,
 ) -> i64
     requires names { machine.now.names ≡ scene.now.names.now }
+    requires relation { IsNumbered scene.now.names.now relation.now }
     ensures { result ≡ pos (length (overlay entities_by (children_after scene.now.me relation.now.name) (scene.now.effects.now ++ machine.now.effects) (map ref.Known (ids_in (option_copied seen.entry))))) }
 {
     let own = machine.effects();
@@ -128,6 +129,7 @@ pub fn count_children(
     relation: &Symbol<Name>,
 ) -> Result<i64, Stop>
     requires names { machine.old.names ≡ scene.now.names.now }
+    requires relation { IsNumbered scene.now.names.now relation.now }
     ensures agrees { AgreesAs int (count_children (setting_of scene.now) relation.now.name) machine.old machine.new result }
     ensures spent { machine.new.left ≤ machine.old.left }
     ensures names { machine.new.names ≡ machine.old.names }

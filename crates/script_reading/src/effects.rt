@@ -1,5 +1,6 @@
 //! Effects with the numbers of their names: those of the transaction before the run, and the run's own.
-ghost use Rattle.std.specs.Prelude.{◌≡◌, map};
+ghost use Rattle.std.specs.Prelude.{◌≡◌, ◌≤◌, length, map};
+ghost use Rattle.handler_meaning.specs.Running.{effect_limit};
 ghost use Rattle.script_machine.specs.Numbering.{effect_number};
 
 use script_machine::{Machine, Scene};
@@ -29,6 +30,7 @@ pub(crate) fn effects_before<'a>(scene: &Scene<'a>) -> NumberedEffects<'a>
 pub(crate) fn own_effects<'m>(machine: &'m Machine) -> NumberedEffects<'m>
     ensures effects { result.effects.now ≡ machine.now.effects }
     ensures numbers { result.numbers.now ≡ map (effect_number machine.now.names) machine.now.effects }
+    ensures few { length result.effects.now ≤ effect_limit }
 {
     NumberedEffects {
         effects: machine.effects(),

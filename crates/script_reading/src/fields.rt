@@ -1,5 +1,4 @@
 //! Fields and attributes, with effects done to them.
-    requires property { IsNumberedProperty scene.now.names.now property }
 ghost use Rattle.std.specs.Prelude.{◌≡◌, ◌≤◌, List, ℕ, map, option_map, unwrap_or, slice_get};
 ghost use Rattle.std.specs.Option.{option_copied};
 ghost use Rattle.handler_meaning.specs.Answers.{fit, held_in, initial};
@@ -152,6 +151,8 @@ fn lend_property<'a, 's: 'a>(
     kind: Kind,
     seen: Option<&'s Seen>,
 ) -> Lent<'a>
+    requires names { machine.now.names ≡ scene.now.names.now }
+    requires property { IsNumberedProperty scene.now.names.now property }
     ensures { value_lent result ≡ fit kind (unwrap_or (last_set (sets_property property.entry) machine.now.effects) (unwrap_or (last_set (sets_property property.entry) scene.now.effects.now) (held_in kind (option_copied seen.entry)))) }
 {
     match last_set(scene.names, property, own_effects(machine)) {

@@ -84,6 +84,7 @@ fn children_laid(
     seen: Option<&Seen>,
 ) -> Result<Vec<Ref>, NoMemory>
     requires names { machine.now.names ≡ scene.now.names.now }
+    requires relation { IsNumbered scene.now.names.now relation.now }
     ensures { IfOk result (λ refs. refs.items ≡ overlay entities_by (children_after scene.now.me relation.now.name) (scene.now.effects.now ++ machine.now.effects) (map ref.Known (ids_in (option_copied seen.entry)))) }
 {
     let mut refs = known_in(scene.alloc, seen)?;
@@ -113,6 +114,7 @@ pub fn children(
     relation: &Symbol<Name>,
 ) -> Result<Vec<Ref>, Stop>
     requires names { machine.old.names ≡ scene.now.names.now }
+    requires relation { IsNumbered scene.now.names.now relation.now }
     ensures agrees { AgreesAs (λ refs. refs.items) (read.children (setting_of scene.now) relation.now.name) machine.old machine.new result }
     ensures spent { machine.new.left ≤ machine.old.left }
     ensures names { machine.new.names ≡ machine.old.names }

@@ -64,11 +64,12 @@ fn value_under<'a>(
     ensures { option_map Plain (option_copied result) ≡ value_under name.now.name row.entry.row.now }
 {
     let fields = row.row.as_slice();
+    let numbers = row.numbers;
     'fields: for place in 0..fields.len() {
         let (other, value) = &fields[place];
         let field = NumberedName {
             name: other.as_str(),
-            number: row.numbers[place],
+            number: numbers[place],
         };
         if is_same_name(names, field, NumberedName::of_name(name)) {
             return Some(value);
