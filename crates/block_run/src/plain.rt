@@ -49,7 +49,7 @@ pub(crate) fn act_on_activities(
 ) -> Result<Flow, Stop>
     requires names { machine.old.names ≡ scene.now.names.now }
     requires step { IsNumberedOnActivities scene.now.names.now (on_activities_of step.now) }
-    requires { FiresOnce (on_activities_of step.now) }
+    requires once { FiresOnce (on_activities_of step.now) }
     ensures agrees { AgreesAs flow_of (next (on_activities (setting_of scene.now) (on_activities_of step.now))) machine.old machine.new result }
     ensures spent { machine.new.left ≤ machine.old.left }
     ensures names { machine.new.names ≡ machine.old.names }

@@ -54,7 +54,11 @@ fn sets_property(
         ) => {
             let name = field.as_str();
             is_same_ref(*other, entity)
-                && is_same_name(names, NumberedName { name, number }, NumberedName::of_name(symbol))
+                && is_same_name(
+                    names,
+                    NumberedName { name, number },
+                    NumberedName::of_name(symbol),
+                )
         }
         (
             Property::Attribute(activity, symbol),
@@ -66,7 +70,11 @@ fn sets_property(
         ) => {
             let name = attribute.as_str();
             is_same_ref(*other, activity)
-                && is_same_name(names, NumberedName { name, number }, NumberedName::of_text(symbol))
+                && is_same_name(
+                    names,
+                    NumberedName { name, number },
+                    NumberedName::of_text(symbol),
+                )
         }
         _ => false,
     }
@@ -75,11 +83,7 @@ fn sets_property(
 /// The place of the last effect that gives a value to the property.
 #[inline(always)]
 #[tactic(auto, using(script_machine::proofs::KeyLemmas::number_there))]
-fn last_set(
-    names: &NamedList<Text>,
-    property: Property,
-    given: NumberedEffects,
-) -> Option<usize>
+fn last_set(names: &NamedList<Text>, property: Property, given: NumberedEffects) -> Option<usize>
     requires numbers { given.numbers.now ≡ map (effect_number names.now) given.effects.now }
     requires property { IsNumberedProperty names.now property }
     ensures { option_map (λ i. set_by (slice_get given.entry.effects.now i)) result ≡ last_set (sets_property property.entry) given.entry.effects.now }

@@ -97,7 +97,11 @@ fn is_on_event(
     match effect {
         Effect::SetMask { event: other, .. } => {
             let name = other.as_str();
-            is_same_name(names, NumberedName::of_text(event), NumberedName { name, number })
+            is_same_name(
+                names,
+                NumberedName::of_text(event),
+                NumberedName { name, number },
+            )
         }
         _ => false,
     }
@@ -178,8 +182,22 @@ fn mask_laid(
     ensures { (masks : Option (List (List ℕ))) → first ≡ mask_in event.now.name masks → result ≡ mask_in event.now.name (overlay activities_by (masks_after (map (λ x. x.name) scene.now.masks.now) scene.now.me activity) (scene.now.effects.now ++ machine.now.effects) masks) }
 {
     let attached = has_event(scene.names, scene.masks, event);
-    let before = mask_over(scene, event, attached, activity, effects_before(scene), first);
-    mask_over(scene, event, attached, activity, own_effects(machine), before)
+    let before = mask_over(
+        scene,
+        event,
+        attached,
+        activity,
+        effects_before(scene),
+        first,
+    );
+    mask_over(
+        scene,
+        event,
+        attached,
+        activity,
+        own_effects(machine),
+        before,
+    )
 }
 
 fn mask_key(entity: Ref, activity: Ref) -> Option<Asked<'static>>

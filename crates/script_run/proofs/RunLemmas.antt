@@ -5,7 +5,6 @@ use Rattle.std.proofs.lemmas.Option.{slice_get-map}
 use Rattle.slee_value.specs.declared.ids.EntityId.{EntityId}
 use Rattle.slee_effect.specs.declared.reference.Ref.{Ref}
 use Rattle.slee_effect.specs.declared.effect.Effect.{Effect}
-use Rattle.script_tree.specs.Tree.{Bytes}
 use Rattle.script_types.specs.declared.symbol.Symbol.{Symbol}
 use Rattle.script_types.specs.declared.checked_step.Step.{Step as StepInMemory}
 use Rattle.script_types.specs.declared.checked_script.BlockSteps.{BlockSteps}
@@ -26,10 +25,10 @@ use Rattle.script_run.specs.declared.run.Run.{Run}
 use Rattle.script_run.specs.declared.run.Unfinished.{Unfinished}
 use Rattle.script_run.specs.Runs.{Means}
 
-abbrev setting_with : Args → Ref → List (Key × Seen) → List Effect → List Key → List (Symbol Bytes) → Setting
+abbrev setting_with : Args → Ref → List (Key × Seen) → List Effect → List Key → List (Symbol (List ℕ)) → Setting
 setting_with arguments me known effects keys masks = record { answers = kept known; effects = effects; keys = keys; arguments = arguments; me = me; masks = map (λ x. x.name) masks }
 
-pub setting_is : (arguments : Args) (me : Ref) (known known2 : List (Key × Seen)) (effects effects2 : List Effect) (keys keys2 : List Key) (masks masks2 : List (Symbol Bytes)) → known ≡ known2 → effects ≡ effects2 → keys ≡ keys2 → masks ≡ masks2 → setting_with arguments me known effects keys masks ≡ setting_with arguments me known2 effects2 keys2 masks2
+pub setting_is : (arguments : Args) (me : Ref) (known known2 : List (Key × Seen)) (effects effects2 : List Effect) (keys keys2 : List Key) (masks masks2 : List (Symbol (List ℕ))) → known ≡ known2 → effects ≡ effects2 → keys ≡ keys2 → masks ≡ masks2 → setting_with arguments me known effects keys masks ≡ setting_with arguments me known2 effects2 keys2 masks2
 setting_is arguments me known known2 effects effects2 keys keys2 masks masks2 a b c d =
     ap (λ x. setting_with arguments me x effects keys masks) a
     ∙ ap (λ x. setting_with arguments me known2 x keys masks) b

@@ -4,7 +4,6 @@ use Rattle.std.specs.Prelude.{slice_get}
 use Rattle.std.specs.List.{AllByRecursion}
 use Rattle.handler_meaning.specs.declared.which.Part.{Part}
 use Rattle.handler_meaning.specs.declared.which.Part.TheVariants as part
-use Rattle.script_tree.specs.Tree.{Bytes}
 use Rattle.script_types.specs.declared.checked_step.Step.{Step as StepInMemory}
 use Rattle.script_types.specs.declared.checked_script.BlockSteps.{BlockSteps}
 use Rattle.script_types.specs.Numbers.{AreNumberedSteps, IsNumberedScript, IsNumberedBlock, IsNumberedProgram}
@@ -28,7 +27,7 @@ module _ (P : Steps → Type 0) (Q : Option Steps → Type 0) (of_some : (steps 
   script_has block part.Remove steps h exception rolled_back remove e = of_some steps (subst Q e remove)
 
 -- a script of such blocks
-pub sound_in : (names : List Bytes) (blocks : List BlockSteps) (number : ℕ) (which : Part) (block : BlockSteps) (script steps : List StepInMemory) → IsTidyProgram (map block_program_of blocks) → IsNumberedProgram names (map block_program_of blocks) → slice_get blocks number ≡ Some block → Some (steps_of script) ≡ script_in (block_program_of block) which → steps ≡ script → AreSound names steps
+pub sound_in : (names : List (List ℕ)) (blocks : List BlockSteps) (number : ℕ) (which : Part) (block : BlockSteps) (script steps : List StepInMemory) → IsTidyProgram (map block_program_of blocks) → IsNumberedProgram names (map block_program_of blocks) → slice_get blocks number ≡ Some block → Some (steps_of script) ≡ script_in (block_program_of block) which → steps ≡ script → AreSound names steps
 sound_in names blocks number which block script steps h g is own same =
     let b : BlockProgram = block_program_of block in
     let tidy : IsTidyBlock b = seen_at block_program_of IsTidyBlock blocks number block h is in

@@ -54,7 +54,7 @@ pub fn do_on_activities(
 ) -> Result<(), Stop>
     requires names { machine.old.names ≡ scene.now.names.now }
     requires step { IsNumberedOnActivities scene.now.names.now (on_activities_of step.now) }
-    requires { FiresOnce (on_activities_of step.now) }
+    requires once { FiresOnce (on_activities_of step.now) }
     ensures agrees { Agrees (on_activities (setting_of scene.now) (on_activities_of step.now)) machine.old machine.new result }
     ensures spent { machine.new.left ≤ machine.old.left }
     ensures names { machine.new.names ≡ machine.old.names }

@@ -6,6 +6,7 @@ use Rattle.slee_value.specs.declared.value.Value.TheVariants as v
 use Rattle.slee_effect.specs.declared.value.Val.{Val}
 use Rattle.slee_effect.specs.declared.value.Val.TheVariants.{Plain, NewActivity, NewTimer}
 use Rattle.slee_effect.specs.declared.reference.Ref.{Ref}
+use Rattle.script_types.specs.declared.symbol.Symbol.{Symbol}
 use Rattle.script_types.specs.declared.term.Question.TheVariants as q
 use Rattle.handler_meaning.specs.Running.{Setting, State, Run, then_run, give}
 use Rattle.handler_meaning.specs.Terms.{ask, looked_up}
@@ -28,8 +29,8 @@ bound_asked s x st = text_then x (read.named s) (λ (a : Option Ref). give (flag
 pub lookup_asked : (s : Setting) (x : Val) (st : State) → ask s q.Lookup x st ≡ then_run (with_text x (read.named s) st) looked_up
 lookup_asked s x st = text_then x (read.named s) looked_up st
 
-pub profile_asked : (s : Setting) (table name : List ℕ) (kind : Kind) (x : Val) (st : State) → ask s (q.Profile table name kind) x st ≡ profile_value s table x name kind st
+pub profile_asked : (s : Setting) (table name : Symbol (List ℕ)) (kind : Kind) (x : Val) (st : State) → ask s (q.Profile table name kind) x st ≡ profile_value s table.name x name.name kind st
 profile_asked s table name kind x st = text_then x _ _ st
 
-pub has_profile_asked : (s : Setting) (table : List ℕ) (x : Val) (st : State) → ask s (q.HasProfile table) x st ≡ has_profile s table x st
+pub has_profile_asked : (s : Setting) (table : Symbol (List ℕ)) (x : Val) (st : State) → ask s (q.HasProfile table) x st ≡ has_profile s table.name x st
 has_profile_asked s table x st = text_then x _ _ st

@@ -7,7 +7,6 @@ use Rattle.script_types.specs.declared.term.Joint.{Joint}
 use Rattle.script_types.specs.declared.term.Joint.TheVariants as j
 use Rattle.script_types.specs.declared.checked_term.Term as t
 use Rattle.script_types.specs.declared.checked_term.Term.{Term as TermInMemory}
-use Rattle.script_tree.specs.Tree.{Bytes}
 use Rattle.script_types.specs.Numbers.{IsNumberedTerm}
 use Rattle.script_types.specs.Program.{Term, Combine}
 use Rattle.script_types.specs.ProgramOf.{term_of, combine_of, combined}
@@ -96,9 +95,9 @@ module _ (s : Setting) (xs : List (Joint × TermInMemory)) (i : ℕ) (y : Joint 
   number_step z w mid new given applied_there = linked_step s xs i y (int n) w st new total lt is so_far (undecided y.0 n) (ap (λ (m : Ending Val). then_run m (apply y.0 (int n))) given ∙ applied_there)
 
 -- the operands of a chain have the numbers of their names
-combined_numbered : (names : List Bytes) (x : Term) (xs : List (Joint × TermInMemory)) → IsNumberedTerm names (combined x xs) → IsNumberedTerm names x × AllByRecursion (λ y. IsNumberedTerm names (term_of y.1)) xs
+combined_numbered : (names : List (List ℕ)) (x : Term) (xs : List (Joint × TermInMemory)) → IsNumberedTerm names (combined x xs) → IsNumberedTerm names x × AllByRecursion (λ y. IsNumberedTerm names (term_of y.1)) xs
 combined_numbered names x [] h = (h, tt)
 combined_numbered names x (y ∷ xs) h = let rest = combined_numbered names (Combine y.0 x (term_of y.1)) xs h in (rest.0.0, (rest.0.1, rest.1))
 
-pub chain_numbered : (names : List Bytes) (x : TermInMemory) (a : Box (TermInMemory × Joint × TermInMemory) Global) (v : Vec (Joint × TermInMemory) Global) → x ≡ t.Chain a v → IsNumberedTerm names (term_of x) → IsNumberedTerm names (combine_of a.value) × AllByRecursion (λ y. IsNumberedTerm names (term_of y.1)) v.items
+pub chain_numbered : (names : List (List ℕ)) (x : TermInMemory) (a : Box (TermInMemory × Joint × TermInMemory) Global) (v : Vec (Joint × TermInMemory) Global) → x ≡ t.Chain a v → IsNumberedTerm names (term_of x) → IsNumberedTerm names (combine_of a.value) × AllByRecursion (λ y. IsNumberedTerm names (term_of y.1)) v.items
 chain_numbered names x a v is h = combined_numbered names (combine_of a.value) v.items (subst (IsNumberedTerm names) (ap term_of is ∙ chain_term a v) h)

@@ -1,6 +1,6 @@
 -- Parts of a run one behind another.
 use Rattle.std.proofs.Common.{◌≡◌, refl, ap}
-use Rattle.handler_meaning.specs.Running.{State, Ending, Gave, Broke, Needs, Stays, Run, then_run, give}
+use Rattle.handler_meaning.specs.Running.{Ending, Gave, Broke, Needs, Stays, Run, then_run, give}
 use Rattle.script_machine.specs.declared.stop.Stop.{Stop}
 use Rattle.script_machine.specs.declared.stop.Stop.TheVariants as stop
 use Rattle.script_machine.specs.Agreeing.{Stops}

@@ -61,7 +61,11 @@ fn time_place<'a>(machine: &mut Machine, scene: &Scene) -> Result<Place<'a>, Sto
 
 /// The place of the count of the children of a relation.
 #[inline(never)]
-fn count_place<'a>(machine: &mut Machine, scene: &Scene, relation: &Symbol<Name>) -> Result<Place<'a>, Stop>
+fn count_place<'a>(
+    machine: &mut Machine,
+    scene: &Scene,
+    relation: &Symbol<Name>,
+) -> Result<Place<'a>, Stop>
     requires names { machine.old.names ≡ scene.now.names.now }
     requires relation { IsNumbered scene.now.names.now relation.now }
     ensures agrees { AgreesAs (value_at (standing machine.new)) (single (setting_of scene.now) (a.Count relation.now)) machine.old machine.new result }

@@ -284,7 +284,7 @@ fn eval_compared_numbers(
     requires names { machine.old.names ≡ scene.now.names.now }
     requires one { IsNumberedTerm scene.now.names.now (term_of one.now) }
     requires other { IsNumberedTerm scene.now.names.now (term_of other.now) }
-    requires { is_of_numbers test ≡ true }
+    requires numbers { is_of_numbers test ≡ true }
     ensures agrees { AgreesAs flag (compared (setting_of scene.now) test (term_of one.now) (term_of other.now)) machine.old machine.new result }
     ensures spent { machine.new.left ≤ machine.old.left }
     ensures names { machine.new.names ≡ machine.old.names }
@@ -380,7 +380,7 @@ fn value_chain(
     requires names { machine.old.names ≡ scene.now.names.now }
     requires first { IsNumberedTerm scene.now.names.now (combine_of first.now) }
     requires more { AllByRecursion (λ x. IsNumberedTerm scene.now.names.now (term_of x.1)) more.now }
-    requires { is_choice first.now.1 ≡ false }
+    requires joint { is_choice first.now.1 ≡ false }
     ensures agrees { Agrees (chained (setting_of scene.now) (combine_of first.now) more.now) machine.old machine.new result }
     ensures spent { machine.new.left ≤ machine.old.left }
     ensures names { machine.new.names ≡ machine.old.names }
@@ -450,7 +450,7 @@ fn number_chain(
     requires names { machine.old.names ≡ scene.now.names.now }
     requires first { IsNumberedTerm scene.now.names.now (combine_of first.now) }
     requires more { AllByRecursion (λ x. IsNumberedTerm scene.now.names.now (term_of x.1)) more.now }
-    requires { is_arithmetic first.now.1 ≡ true }
+    requires joint { is_arithmetic first.now.1 ≡ true }
     ensures agrees { AgreesAs int (chained (setting_of scene.now) (combine_of first.now) more.now) machine.old machine.new result }
     ensures spent { machine.new.left ≤ machine.old.left }
     ensures names { machine.new.names ≡ machine.old.names }
@@ -473,7 +473,7 @@ fn truth_chain(
     requires names { machine.old.names ≡ scene.now.names.now }
     requires first { IsNumberedTerm scene.now.names.now (combine_of first.now) }
     requires more { AllByRecursion (λ x. IsNumberedTerm scene.now.names.now (term_of x.1)) more.now }
-    requires { is_choice first.now.1 ≡ true }
+    requires joint { is_choice first.now.1 ≡ true }
     ensures agrees { AgreesAs flag (chained (setting_of scene.now) (combine_of first.now) more.now) machine.old machine.new result }
     ensures spent { machine.new.left ≤ machine.old.left }
     ensures names { machine.new.names ≡ machine.old.names }
@@ -490,7 +490,7 @@ fn truth_chain(
 fn eval_pair(machine: &mut Machine, scene: &Scene, parts: &(Term, Joint, Term)) -> Result<Val, Stop>
     requires names { machine.old.names ≡ scene.now.names.now }
     requires parts { IsNumberedTerm scene.now.names.now (combine_of parts.now) }
-    requires { is_choice parts.now.1 ≡ false }
+    requires joint { is_choice parts.now.1 ≡ false }
     ensures agrees { Agrees (eval (setting_of scene.now) (combine_of parts.now)) machine.old machine.new result }
     ensures spent { machine.new.left ≤ machine.old.left }
     ensures names { machine.new.names ≡ machine.old.names }
@@ -533,7 +533,7 @@ fn number_pair(
 ) -> Result<i64, Stop>
     requires names { machine.old.names ≡ scene.now.names.now }
     requires parts { IsNumberedTerm scene.now.names.now (combine_of parts.now) }
-    requires { is_arithmetic parts.now.1 ≡ true }
+    requires joint { is_arithmetic parts.now.1 ≡ true }
     ensures agrees { AgreesAs int (eval (setting_of scene.now) (combine_of parts.now)) machine.old machine.new result }
     ensures spent { machine.new.left ≤ machine.old.left }
     ensures names { machine.new.names ≡ machine.old.names }
@@ -563,7 +563,7 @@ fn truth_pair(
 ) -> Result<bool, Stop>
     requires names { machine.old.names ≡ scene.now.names.now }
     requires parts { IsNumberedTerm scene.now.names.now (combine_of parts.now) }
-    requires { is_choice parts.now.1 ≡ true }
+    requires joint { is_choice parts.now.1 ≡ true }
     ensures agrees { AgreesAs flag (eval (setting_of scene.now) (combine_of parts.now)) machine.old machine.new result }
     ensures spent { machine.new.left ≤ machine.old.left }
     ensures names { machine.new.names ≡ machine.old.names }

@@ -1,7 +1,6 @@
-use Rattle.std.proofs.Common.{rules, ◌≡◌, ◌+◌, List, true, false, sym, ap, subst, ◌∙◌, arith}
+use Rattle.std.proofs.Common.{rules, ◌≡◌, ◌+◌, ℕ, List, true, false, sym, ap, subst, ◌∙◌, arith}
 use Rattle.std.proofs.lemmas.Result.{err_from_is_err_and}
 use Rattle.script_types.proofs.ProgramRows.{if_step, while_step, for_step}
-use Rattle.script_tree.specs.Tree.{Bytes}
 use Rattle.script_types.specs.Numbers.{AreNumberedSteps, IsNumberedProgram}
 use Rattle.script_types.specs.ProgramOf.{term_of, step_of, steps_of}
 use Rattle.handler_meaning.specs.Running.{scoped}
@@ -132,8 +131,8 @@ enter-do_all-requires t c =
     let all = sound_method c.args.stage.now c.args.call.now.block c.args.call.now.method c.in-Some.block.now c.in-Some-method_at.method.now c.as_slice.result.now c.as_slice-2.result.now c.requires.stage (sym c.in-Some.ensures) c.as_slice.ensures (sym c.in-Some-method_at.ensures) c.as_slice-2.ensures in
     let names = c.stage_for-inner.ensures.names in
     let same = c.stage_for-inner.ensures.program in
-    let numbered = subst (λ (n : List Bytes). IsNumberedProgram n (program_of c.stage_for-inner.result)) (sym names) (subst (IsNumberedProgram c.args.stage.now.scene.names.now) (sym same) c.requires.stage.1) in
-    (search rules, (ap (λ (m : MachineState). m.names) c.replace_variables-outer.ensures.new ∙ c.requires.names ∙ sym names, ((subst IsTidyProgram (sym same) c.requires.stage.0, numbered), (all.0, subst (λ (n : List Bytes). AreNumberedSteps n (steps_of c.as_slice-2.result.now)) (sym names) all.1))))
+    let numbered = subst (λ (n : List (List ℕ)). IsNumberedProgram n (program_of c.stage_for-inner.result)) (sym names) (subst (IsNumberedProgram c.args.stage.now.scene.names.now) (sym same) c.requires.stage.1) in
+    (search rules, (ap (λ (m : MachineState). m.names) c.replace_variables-outer.ensures.new ∙ c.requires.names ∙ sym names, ((subst IsTidyProgram (sym same) c.requires.stage.0, numbered), (all.0, subst (λ (n : List (List ℕ)). AreNumberedSteps n (steps_of c.as_slice-2.result.now)) (sym names) all.1))))
 
 pub enter-returns-in_err-flow-clause-agrees : goal.enter-returns-in_err-flow-clause-agrees
 enter-returns-in_err-flow-clause-agrees t c =

@@ -2,14 +2,17 @@ use Rattle.std.proofs.Common.{rules, ◌≡◌, ◌∙◌, sym, subst, arith, to
 use Rattle.std.proofs.lemmas.Result.{err_from_is_err_and}
 use Rattle.std.proofs.lemmas.Int.{to_z-of_z}
 use Rattle.slee_effect.specs.declared.value.Val.{Val}
+use Rattle.script_types.specs.declared.checked_term.Term.{Term as TermInMemory}
+use Rattle.script_types.specs.ProgramOf.{term_of}
 use Rattle.handler_meaning.specs.Running.{Ending}
+use Rattle.handler_meaning.specs.Terms.{eval}
 use Rattle.script_machine.specs.Settings.{setting_of}
 use Rattle.handler_meaning.specs.Values.{int, flag}
 use Rattle.script_machine.specs.Agreeing.{EndsAs, EndsFinding}
 use Rattle.script_machine.specs.Lending.{value_at, standing}
 use Rattle.script_machine.specs.Machines.{state_of}
 use Rattle.script_machine.specs.Kinds.{NoInt, NoFlag}
-use Rattle.term_run.proofs.ChainLemmas.{chain_eval, linked_stops, linked_step, number_stops, number_step}
+use Rattle.term_run.proofs.ChainLemmas.{chain_eval, chain_numbered, linked_stops, linked_step, number_stops, number_step}
 use Rattle.term_run.proofs.terms.+terms.Goals as goal
 
 pub find-returns-in-Chain-clause-agrees : goal.find-returns-in-Chain-clause-agrees
@@ -49,3 +52,26 @@ number_links-links-preserved t c =
     let z : to_z w64 (of_z w64 c.in_ok-x.x) ≡ c.in_ok-x.x = search rules in
     let so_far = rw c.links.x-is at c.links.invariant.0 in
     (rw z (number_step (setting_of c.args.scene.now) c.args.links.now c.links.joint-index c.links-item.result c.links.x (state_of c.links.machine) _ c.links-test.true c.links-item.is so_far (int c.in-Some.y) (int c.in_ok-x.x) (state_of c.eval_number.new.machine) (state_of c.eval_number.new.machine) given (rw (c.links.x-is, to_z-of_z w64 c.in-Some.y (search rules)) at c.in_ok-x.ensures)), omega (arith, c.in_ok-y.ensures.spent, c.links.invariant.1), c.in_ok-y.ensures.kept ∙ c.links.invariant.2, c.in_ok-y.ensures.names ∙ c.links.invariant.3)
+
+pub eval_number-number_in_chain-requires : goal.eval_number-number_in_chain-requires
+eval_number-number_in_chain-requires t c =
+    let both = chain_numbered c.args.scene.now.names.now c.args.term.now c.in-Chain.first c.in-Chain.more c.in-Chain.is c.requires.term in
+    (search rules, (c.requires.names, (rw c.deref-in-Chain.ensures both.0, rw c.deref-in-Chain-2.ensures.value both.1)))
+
+pub eval_truth-truth_in_chain-requires : goal.eval_truth-truth_in_chain-requires
+eval_truth-truth_in_chain-requires t c =
+    let both = chain_numbered c.args.scene.now.names.now c.args.term.now c.in-Chain.first c.in-Chain.more c.in-Chain.is c.requires.term in
+    (search rules, (c.requires.names, (rw c.deref-in-Chain.ensures both.0, rw c.deref-in-Chain-2.ensures.value both.1)))
+
+pub find-find_chain-requires : goal.find-find_chain-requires
+find-find_chain-requires t c =
+    let both = chain_numbered c.args.scene.now.names.now c.args.term.now c.in-Chain.first c.in-Chain.more c.in-Chain.is c.requires.term in
+    (search rules, (c.requires.names, (rw c.deref-in-Chain.ensures both.0, rw c.deref-in-Chain-2.ensures.value both.1)))
+
+pub eval_number-returns-in-Ask-clause-finds : goal.eval_number-returns-in-Ask-clause-finds
+eval_number-returns-in-Ask-clause-finds t c =
+    subst (λ (x : TermInMemory). EndsFinding int NoInt (eval (setting_of c.args.scene.now) (term_of x) (state_of c.args.machine.now)) c.asked_number.new.machine c.asked_number.result) (sym c.in-Ask.is) (rw c.deref.ensures at c.asked_number.ensures.finds)
+
+pub eval_truth-returns-in-Ask-clause-finds : goal.eval_truth-returns-in-Ask-clause-finds
+eval_truth-returns-in-Ask-clause-finds t c =
+    subst (λ (x : TermInMemory). EndsFinding flag NoFlag (eval (setting_of c.args.scene.now) (term_of x) (state_of c.args.machine.now)) c.asked_truth.new.machine c.asked_truth.result) (sym c.in-Ask.is) (rw c.deref.ensures at c.asked_truth.ensures.finds)
