@@ -14,7 +14,8 @@ use crate::making::{Making, item_number, make_each};
 use crate::task::{Home, check_callback, check_part, parameters_in_scope};
 use expression_check::{Locals, Role};
 use script_types::{
-    BlockSteps, CodeList, CodePart, Codes, HandlerCode, HandlerSteps, MethodCode, MethodSteps, Symbol,
+    BlockSteps, CodeList, CodePart, Codes, HandlerCode, HandlerSteps, MethodCode, MethodSteps,
+    Symbol,
 };
 use slee_value::{NoMemory, Text};
 use std::alloc::Global;
