@@ -10,7 +10,7 @@ ghost use Rattle.script_machine.specs.Settings.{setting_of};
 use crate::names::text_of_name;
 use script_machine::{Machine, Scene, Stop, Variable};
 use script_reading::used;
-use script_types::{Assigning, Term};
+use script_types::{Assigning, Symbol, Term};
 use slee_effect::Effect;
 use slee_value::{Name, Text};
 use term_run::{eval, eval_activity};
@@ -40,7 +40,12 @@ fn assign_value(machine: &mut Machine, scene: &Scene, place: usize, term: &Term)
 }
 
 /// `self.NAME = e;`
-fn set_field(machine: &mut Machine, scene: &Scene, name: &Symbol<Name>, term: &Term) -> Result<(), Stop>
+fn set_field(
+    machine: &mut Machine,
+    scene: &Scene,
+    name: &Symbol<Name>,
+    term: &Term,
+) -> Result<(), Stop>
     requires names { machine.old.names ≡ scene.now.names.now }
     requires name { IsNumbered scene.now.names.now name.now }
     requires term { IsNumberedTerm scene.now.names.now (term_of term.now) }

@@ -10,7 +10,7 @@ ghost use Rattle.script_machine.specs.Settings.{setting_of};
 use handler_meaning::FailKind;
 use script_machine::{Machine, Scene, Stop};
 use script_reading::{attached, used, used_active};
-use script_types::{Term, Who};
+use script_types::{Symbol, Term, Who};
 use slee_effect::{Effect, Ref};
 use slee_value::Text;
 use term_run::eval_activity;

@@ -12,7 +12,7 @@ use crate::ranges::{GREATEST_PRIORITY, LEAST_PRIORITY, is_within, priority_of};
 use handler_meaning::FailKind;
 use script_machine::{Machine, Scene, Stop, Variable};
 use script_reading::{Thing, next_number};
-use script_types::{OnEntities, Rank, Term};
+use script_types::{OnEntities, Rank, Symbol, Term};
 use slee_effect::{Effect, Ref};
 use slee_value::Name;
 use term_run::eval_int;
@@ -47,7 +47,12 @@ fn rank_of(machine: &mut Machine, scene: &Scene, rank: &Rank) -> Result<i8, Stop
 }
 
 /// `create NAME as NAME priority e;`
-fn create(machine: &mut Machine, scene: &Scene, relation: &Symbol<Name>, rank: &Rank) -> Result<(), Stop>
+fn create(
+    machine: &mut Machine,
+    scene: &Scene,
+    relation: &Symbol<Name>,
+    rank: &Rank,
+) -> Result<(), Stop>
     requires names { machine.old.names ≡ scene.now.names.now }
     requires relation { IsNumbered scene.now.names.now relation.now }
     requires rank { IsNumberedRank scene.now.names.now (rank_in rank.now) }
