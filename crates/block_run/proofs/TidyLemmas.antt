@@ -12,7 +12,7 @@ use Rattle.script_types.specs.declared.checked_script.MethodSteps.{MethodSteps}
 use Rattle.script_types.specs.declared.symbol.Symbol.{Symbol}
 use Rattle.script_types.specs.Codes.{number_in}
 use Rattle.script_types.specs.Numbers.{IsNumbered, IsNumberedStep, IsNumberedTerm, IsNumberedRange, AreNumberedSteps, IsNumberedBlock, IsNumberedProgram}
-use Rattle.script_types.specs.Program.{Step, Steps, MethodProgram}
+use Rattle.script_types.specs.Program.{Step, MethodProgram}
 use Rattle.script_types.specs.ProgramOf.{term_of, step_of, steps_of, block_program_of, method_program_of}
 use Rattle.script_types.proofs.ProgramRows.{if_step, while_step, for_step}
 use Rattle.block_run.specs.declared.stage.Stage.{Stage}

@@ -2,6 +2,9 @@ use Rattle.std.proofs.Common.{[], ◌∷◌, ◌++◌, ap, ◌∙◌, arith}
 use Rattle.std.proofs.lemmas.Result.{err_from_is_err_and}
 use Rattle.script_machine.specs.Machines.{state_of}
 use Rattle.script_machine.specs.Settings.{setting_of}
+use Rattle.script_types.specs.Numbers.{IsNumberedTerm}
+use Rattle.script_types.specs.ProgramOf.{term_of}
+use Rattle.term_run.proofs.NumberedLemmas.{mapped_at}
 use Rattle.block_run.proofs.CallLemmas.{arguments_stop, arguments_step}
 use Rattle.block_run.proofs.calls.eval_arguments.Goals as goal
 
@@ -14,3 +17,6 @@ pub terms-preserved : goal.terms-preserved
 terms-preserved c =
     let same = c.in_ok-push.ensures.items ∙ ap (λ x. c.terms.arguments.items ++ x ∷ []) c.of_value.ensures in
     (arguments_step (setting_of c.args.scene.now) c.args.terms.now c.terms.term-index c.term-item.result c.terms.arguments.items c.push.new.self.items c.in_ok-x.x (state_of c.terms.machine) (state_of c.eval.new.machine) _ c.terms-test.true c.term-item.is c.terms.invariant.0 c.in_ok-x.ensures.agrees same, omega (arith, c.in_ok-x.ensures.spent, c.terms.invariant.1), c.in_ok-x.ensures.names ∙ c.terms.invariant.2)
+
+pub eval-requires-clause-term : goal.eval-requires-clause-term
+eval-requires-clause-term c = mapped_at term_of (IsNumberedTerm c.args.scene.now.names.now) c.args.terms.now c.terms.term-index c.term-item.result c.terms-test.true c.term-item.is c.requires.terms

@@ -124,7 +124,7 @@ enter-returns-in_default-method_at-clause-agrees t c =
     no_method c.args.stage.now c.args.call.now c.args.depth c.args.child c.args.arguments.items (state_of c.args.machine.now) c.in-Some.block.now c.as_slice.result.now (sym c.in-Some.ensures) c.as_slice.ensures (sym c.in_default-method_at.ensures)
 
 pub enter-stage_for-inner-requires : goal.enter-stage_for-inner-requires
-enter-stage_for-inner-requires t c = masks_at c.args.stage.now.scene.names.now c.args.stage.now.blocks.now c.args.call.now.block c.in-Some.block.now c.requires.stage.1 (sym c.in-Some.ensures)
+enter-stage_for-inner-requires t c = record { masks = masks_at c.args.stage.now.scene.names.now c.args.stage.now.blocks.now c.args.call.now.block c.in-Some.block.now c.requires.stage.1 (sym c.in-Some.ensures) }
 
 pub enter-do_all-requires : goal.enter-do_all-requires
 enter-do_all-requires t c =
