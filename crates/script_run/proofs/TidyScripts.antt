@@ -4,14 +4,16 @@ use Rattle.std.specs.Prelude.{slice_get}
 use Rattle.std.specs.List.{AllByRecursion}
 use Rattle.handler_meaning.specs.declared.which.Part.{Part}
 use Rattle.handler_meaning.specs.declared.which.Part.TheVariants as part
+use Rattle.script_types.specs.declared.symbol.Symbol.{Symbol}
 use Rattle.script_types.specs.declared.checked_step.Step.{Step as StepInMemory}
 use Rattle.script_types.specs.declared.checked_script.BlockSteps.{BlockSteps}
+use Rattle.script_types.specs.Codes.{number_in}
 use Rattle.script_types.specs.Numbers.{AreNumberedSteps, IsNumberedScript, IsNumberedBlock, IsNumberedProgram}
 use Rattle.script_types.specs.Program.{Steps, HandlerProgram, BlockProgram}
 use Rattle.script_types.specs.ProgramOf.{steps_of, block_program_of}
 use Rattle.handler_meaning.specs.Meaning.{steps_of_handler, script_in}
 use Rattle.block_run.specs.Tidy.{AreTidy, IsTidyScript, IsTidyBlock, IsTidyProgram}
-use Rattle.block_run.proofs.TidyLemmas.{AreSound, seen_at}
+use Rattle.block_run.proofs.TidyLemmas.{AreSound, seen_at, masks_at, masks_numbered}
 
 -- what holds of all scripts of a block holds of each
 module _ (P : Steps → Type 0) (Q : Option Steps → Type 0) (of_some : (steps : Steps) → Q (Some steps) → P steps) where
@@ -35,3 +37,8 @@ sound_in names blocks number which block script steps h g is own same =
     let one : AreTidy (steps_of script) = script_has AreTidy IsTidyScript (λ x h. h) b which (steps_of script) tidy.handlers tidy.exception tidy.rolled_back tidy.remove (sym own) in
     let two : AreNumberedSteps names (steps_of script) = script_has (AreNumberedSteps names) (IsNumberedScript names) (λ x h. h) b which (steps_of script) numbered.handlers numbered.exception numbered.rolled_back numbered.remove (sym own) in
     subst (AreSound names) (sym same) (one, two)
+
+-- the events that a block masks have the numbers of their names
+pub masks_in : (names : List (List ℕ)) (blocks : List BlockSteps) (number : ℕ) (block : BlockSteps) (masks : List (Symbol (List ℕ))) → IsNumberedProgram names (map block_program_of blocks) → slice_get blocks number ≡ Some block → masks ≡ block.masks → map (λ x. x.number) masks ≡ map (λ x. number_in names x.name) masks
+masks_in names blocks number block masks h is same =
+    subst (λ (l : List (Symbol (List ℕ))). map (λ x. x.number) l ≡ map (λ x. number_in names x.name) l) (sym same) (masks_numbered names block.masks (masks_at names blocks number block h is))

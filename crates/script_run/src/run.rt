@@ -133,16 +133,19 @@ pub fn run_in(
     let effects = before.effects.as_slice();
     let keys = before.keys.as_slice();
     let masks = block.masks.as_slice();
+    let known_numbers = numbers_of_answers(alloc, names, answers)?;
+    let effect_numbers = numbers_of_effects(alloc, names, effects)?;
+    let key_numbers = numbers_of_keys(alloc, names, keys)?;
     let stage = Stage {
         scene: Scene {
             alloc,
             names,
             known: answers,
-            known_numbers: &numbers_of_answers(alloc, names, answers)?,
+            known_numbers: &known_numbers,
             effects,
-            effect_numbers: &numbers_of_effects(alloc, names, effects)?,
+            effect_numbers: &effect_numbers,
             keys,
-            key_numbers: &numbers_of_keys(alloc, names, keys)?,
+            key_numbers: &key_numbers,
             arguments,
             me: Ref::Known(me.0),
             masks,
