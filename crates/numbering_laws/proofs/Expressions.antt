@@ -35,7 +35,6 @@ use Rattle.numbering_laws.proofs.Results.{AllOk, ok_then, skip}
 
 -- a name with its number
 pub symbol_numbered : (all : Codes) (name : Bytes) → IsNumbered all.names (symbol_of all name)
-unfolding IsNumbered
 symbol_numbered all name = refl
 
 -- one term or the other
