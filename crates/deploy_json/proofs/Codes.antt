@@ -8,7 +8,7 @@ use Rattle.script_print.proofs.Texts.{text_again}
 use Rattle.script_types.specs.declared.codes.RelationCode.{RelationCode}
 use Rattle.script_types.specs.declared.codes.AttributeCode.{AttributeCode}
 use Rattle.script_types.specs.declared.codes.FieldCode.{FieldCode}
-use Rattle.script_types.specs.declared.codes.BlockCode.{BlockCode}
+use Rattle.script_types.specs.declared.codes.EventCode.{EventCode}
 use Rattle.script_types.specs.Codes.{Handler, Method, Block, Codes}
 use Rattle.script_types.specs.CodesOf.{handler_of_code, method_of_code, block_of_code, codes_of}
 use Rattle.deployment_parts.specs.declared.parts.Relation.{Relation}
@@ -17,7 +17,7 @@ use Rattle.deployment_parts.specs.declared.parts.Parts.{Parts}
 use Rattle.deployment_parts.specs.Resolving.{relation_of, field_of, attribute_of}
 use Rattle.deployment_parts.specs.Rules.{Numbering}
 use Rattle.deployment_parts.specs.Tables.{key_number}
-use Rattle.slee_descriptor.specs.CodesOfParts.{handler_code, method_code, block_code, block_names, names_in, codes_in}
+use Rattle.slee_descriptor.specs.CodesOfParts.{handler_code, method_code, block_code, block_names, table_names, names_in, codes_in}
 use Rattle.deploy_parts.specs.Rows.{handler_row, method_row, block_row, parts_row}
 use Rattle.deploy_reading.proofs.LookUps.{position_mapped}
 use Rattle.deploy_json.specs.Scripts.{statements_or_none, bare_block, script_in, handler_in, method_in, block_in, codes_in_rows}
@@ -92,6 +92,6 @@ codes_same p =
     let theirs : Numbering = key_number (λ b. b.key) rows.blocks in
     let bare : Numbering = key_number (λ (b : BlockPart). b.key) (map bare_block rows.blocks) in
     let all = codes_in p [] in
-    let with : List Bytes → List Block → Codes = λ ns bs. record (codes_of all) { names = ns ++ names_in all.events all.tables []; blocks = bs } in
+    let with : List Bytes → List Block → Codes = λ ns bs. record (codes_of all) { names = ns ++ flat_map table_names all.tables ++ map (λ (e : EventCode). e.name) all.events ++ names_in [] [] []; blocks = bs } in
     ap (λ ns. with ns (map block_of_code all.blocks)) (names_same ours bare p.blocks)
     ∙ ap (with (flat_map block_names (map (block_code bare) (map bare_block rows.blocks)))) (mapped_same (block_code ours) block_of_code block_row (block_in theirs) (block_same ours theirs (λ q. position_mapped block_row (λ r. bytes_eq q r.key) 0 p.blocks)) p.blocks)
