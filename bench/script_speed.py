@@ -24,6 +24,8 @@ from meaning_table import DEPLOYMENT
 PROGRAM = os.path.join(os.path.dirname(os.path.abspath(__file__)), "..", "crates", "run_rows", "out", "run_rows")
 AT_MOST, TEN_AT_MOST = 200, 5
 TIMES, RUNS, COUNTED = 2_000, 7, 10
+# Two names as long as names may be, which differ in their last byte.
+ONE, OTHER = "x" * 63 + "n", "x" * 63 + "f"
 LOOPS = {
     "arithmetic": "let i = 0; let x = 1; while i < N { x = (x * 7 + i) % 1000003; i = i + 1; }",
     "texts": "let i = 0; let t = \"\"; while i < N { t = \"call \" ++ text(i) ++ \", \"; i = i + 1; }",
@@ -33,6 +35,14 @@ LOOPS = {
     "children": "create leg as x; let i = 0; while i < N { call x.twice(i) as y; if y < 0 { i = y; } i = i + 1; }",
     "loops over children": "let i = 0; while i < N { for c in leg { i = i + 1; } }",
 }
+
+
+def with_long_names(text):
+    """The fields `n` and `f` under the long names."""
+    return re.sub(r"(self\.|field 1 )([nf])\b", lambda found: found[1] + {"n": ONE, "f": OTHER}[found[2]], text)
+
+
+LOOPS["fields of long names"] = with_long_names(LOOPS["fields"])
 TEN = [
     "self.n = self.n + 1;", "let x = event.x * 2;", "self.t = event.s ++ \"!\";", "if x > 10 { self.f = true; }",
     "attr(activity, hits) = attr(activity, hits) + 1;", "emit \"call \" ++ self.t;", "mask \"ping\" on activity;",
@@ -48,7 +58,9 @@ def row(script):
     """The row in which this script is the handler's."""
     source = copy.deepcopy(DEPLOYMENT)
     source["blocks"][0]["events"][0]["on"] = script
-    return "\n".join([json.dumps(source), "handler"] + ANSWERS) + "\n\n"
+    source["blocks"][0]["fields"] |= {ONE: "int", OTHER: "bool"}
+    answers = [with_long_names(answer) for answer in ANSWERS] if ONE in script else ANSWERS
+    return "\n".join([json.dumps(source), "handler"] + answers) + "\n\n"
 
 
 def ran(text, *words):
