@@ -2,6 +2,7 @@
 ghost use Rattle.std.specs.Prelude.{◌≡◌, ◌≤◌, ◌+◌, OnOk, OnErr, false};
 ghost use Rattle.handler_meaning.specs.Running.{tick, declare, assign};
 ghost use Rattle.handler_meaning.specs.Meaning.{start};
+ghost use Rattle.handler_meaning.specs.Values.{int};
 ghost use Rattle.script_machine.specs.Agreeing.{Agrees};
 ghost use Rattle.script_machine.specs.Lending.{standing};
 ghost use Rattle.script_machine.specs.Machines.{state_of};
@@ -98,6 +99,20 @@ impl<'a> Machine<'a> {
     {
         if place < self.variables.len() {
             self.variables[place] = Variable::of_value(value);
+            return Ok(());
+        }
+        Err(Stop::Unchecked)
+    }
+
+    /// Gives a number to the variable in this place.
+    #[inline(always)]
+    pub fn assign_number(&mut self, place: usize, number: i64) -> Result<(), Stop>
+        ensures agrees { Agrees (assign place (int number)) self.old self.new result }
+        ensures spent { self.new.left ≤ self.old.left }
+        ensures names { self.new.names ≡ self.old.names }
+    {
+        if place < self.variables.len() {
+            self.variables[place] = Variable::of_number(number);
             return Ok(());
         }
         Err(Stop::Unchecked)

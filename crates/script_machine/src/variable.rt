@@ -2,9 +2,11 @@
 ghost use Rattle.std.specs.Prelude.{◌≡◌};
 ghost use Rattle.std.specs.Option.{option_copied};
 ghost use Rattle.handler_meaning.specs.Running.{Holds, Child};
+ghost use Rattle.handler_meaning.specs.Values.{int};
 ghost use Rattle.script_machine.specs.Variables.{value_in, child_in};
 
 use slee_effect::{Ref, Val};
+use slee_value::Value;
 use std::marker::Model;
 
 /// A variable: it holds a value, or stands for a child.
@@ -36,6 +38,16 @@ impl Variable {
     {
         Variable {
             held: Held::Value(value),
+        }
+    }
+
+    /// A variable that holds this number.
+    #[inline(always)]
+    pub fn of_number(number: i64) -> Self
+        ensures { result ≡ Holds (int number) }
+    {
+        Variable {
+            held: Held::Value(Val::Plain(Value::Int(number))),
         }
     }
 

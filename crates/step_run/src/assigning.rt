@@ -13,7 +13,7 @@ use script_reading::used;
 use script_types::{Assigning, Symbol, Term};
 use slee_effect::Effect;
 use slee_value::{Name, Text};
-use term_run::{eval, eval_activity};
+use term_run::{eval, eval_activity, eval_calculated, is_calculated};
 
 /// `let NAME = e;`
 fn declare_value(machine: &mut Machine, scene: &Scene, term: &Term) -> Result<(), Stop>
@@ -23,6 +23,10 @@ fn declare_value(machine: &mut Machine, scene: &Scene, term: &Term) -> Result<()
     ensures spent { machine.new.left ≤ machine.old.left }
     ensures names { machine.new.names ≡ machine.old.names }
 {
+    if is_calculated(term) {
+        let number = eval_calculated(machine, scene, term)?;
+        return machine.declare(Variable::of_number(number));
+    }
     let x = eval(machine, scene, term)?;
     machine.declare(Variable::of_value(x))
 }
@@ -35,6 +39,10 @@ fn assign_value(machine: &mut Machine, scene: &Scene, place: usize, term: &Term)
     ensures spent { machine.new.left ≤ machine.old.left }
     ensures names { machine.new.names ≡ machine.old.names }
 {
+    if is_calculated(term) {
+        let number = eval_calculated(machine, scene, term)?;
+        return machine.assign_number(place, number);
+    }
     let x = eval(machine, scene, term)?;
     machine.assign(place, x)
 }

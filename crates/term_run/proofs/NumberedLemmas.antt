@@ -1,13 +1,7 @@
--- One of a list of which something holds.
+-- One of a list where something holds of what the list is seen as.
 use Rattle.std.proofs.Common.{◌≡◌, ◌<◌, ℕ, zero, suc, List, [], ◌∷◌, length, get_or, map, sym, ap, subst, arith}
 use Rattle.std.specs.List.{AllByRecursion}
 
-pub all_at : {A : Type 0} (P : A → Type 0) (xs : List A) (i : ℕ) (x : A) → i < length xs → x ≡ get_or xs i x → AllByRecursion P xs → P x
-all_at P [] i x lt is h = absurd (omega arith)
-all_at P (y ∷ xs) zero x lt is h = subst P (sym is) h.0
-all_at P (y ∷ xs) (suc i) x lt is h = all_at P xs i x (omega arith) is h.1
-
--- the same where it holds of what the list is seen as
 pub mapped_at : {A B : Type 0} (f : A → B) (P : B → Type 0) (xs : List A) (i : ℕ) (x : A) → i < length xs → x ≡ get_or xs i x → AllByRecursion P (map f xs) → P (f x)
 mapped_at f P [] i x lt is h = absurd (omega arith)
 mapped_at f P (y ∷ xs) zero x lt is h = subst P (ap f (sym is)) h.0

@@ -1,5 +1,5 @@
 -- A chain of operators as it runs: the units of its operators first, then its operands from left to right.
-use Rattle.std.specs.Prelude.{ℕ, zero, suc, List, [], ◌∷◌, length}
+use Rattle.std.specs.Prelude.{ℕ, zero, suc, Bool, false, List, [], ◌∷◌, length}
 use Rattle.slee_effect.specs.declared.value.Val.{Val}
 use Rattle.script_types.specs.declared.term.Joint.{Joint}
 use Rattle.script_types.specs.declared.term.Test.{Test}
@@ -7,11 +7,13 @@ use Rattle.script_types.specs.declared.term.Atom.{Atom}
 use Rattle.script_types.specs.declared.term.Question.{Question}
 use Rattle.script_types.specs.declared.term.Question.TheVariants as q
 use Rattle.script_types.specs.declared.checked_term.Term.{Term as TermInMemory}
+use Rattle.script_types.specs.declared.checked_term.Term.TheVariants as t
 use Rattle.script_types.specs.Program.{Term}
 use Rattle.script_types.specs.ProgramOf.{term_of}
 use Rattle.handler_meaning.specs.Running.{Setting, Run, ◌>>=◌, give, tick}
 use Rattle.handler_meaning.specs.Terms.{eval, combine, single, ask}
 use Rattle.handler_meaning.specs.Values.{compare, apply}
+use Rattle.script_machine.specs.Kinds.{is_arithmetic}
 
 -- so many units
 abbrev pub spend : ℕ → Run (Unit {0})
@@ -58,3 +60,8 @@ abbrev pub measured : Setting → Atom → Run Val
 measured s atom = do
   x ← single s atom
   ask s q.Len x
+
+-- a term that begins with an operator between numbers, and so gives one
+abbrev pub is_calculated : TermInMemory → Bool
+is_calculated (t.Chain' _ x joint y _ more) = is_arithmetic joint
+is_calculated _ = false

@@ -121,11 +121,27 @@ pub(crate) fn single<'a, 's: 'a>(
 
 /// The number or truth value in the variable in this place, if it holds one.
 #[inline(always)]
-fn slot_scalar<T: Scalar>(machine: &Machine, scene: &Scene, place: usize) -> Result<Option<T>, Stop>
+pub(crate) fn slot_scalar<T: Scalar>(
+    machine: &Machine,
+    scene: &Scene,
+    place: usize,
+) -> Result<Option<T>, Stop>
     ensures { EndsFinding T.value_of T.is_other (single (setting_of scene.now) (a.Slot place) (state_of machine.now)) machine.now result }
 {
     let value = machine.variable_value(place)?;
     Ok(T::within(Lent::Set(value)))
+}
+
+/// The number or truth value that a constant is, if it is one.
+#[inline(always)]
+pub(crate) fn constant_scalar<T: Scalar>(
+    machine: &Machine,
+    scene: &Scene,
+    value: &Value,
+) -> Result<Option<T>, Stop>
+    ensures { EndsFinding T.value_of T.is_other (single (setting_of scene.now) (a.Constant value.now) (state_of machine.now)) machine.now result }
+{
+    Ok(T::within(Lent::Held(value)))
 }
 
 /// The number or truth value that a term without parts gives, if it gives one, read in its place.
@@ -161,7 +177,7 @@ pub(crate) fn single_scalar<T: Scalar>(
     ensures kept { standing machine.new ≡ standing machine.old }
 {
     match atom {
-        Atom::Constant(value) => Ok(T::within(Lent::Held(value))),
+        Atom::Constant(value) => constant_scalar(machine, scene, value),
         Atom::Slot(place) => slot_scalar(machine, scene, *place),
         Atom::Field(name, kind) => field_scalar(machine, scene, name, *kind),
         Atom::EventField(place, kind) => Ok(T::within(event_field(scene, *place, *kind))),

@@ -12,5 +12,5 @@ mod terms;
 mod typed;
 
 pub use asked_names::activity_value;
-pub use terms::{eval, eval_truth};
+pub use terms::{eval, eval_calculated, eval_truth, is_calculated};
 pub use typed::{eval_activity, eval_int, eval_text, eval_timer};

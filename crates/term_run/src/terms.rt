@@ -10,9 +10,9 @@ ghost use Rattle.script_machine.specs.Kinds.{NoInt, NoFlag, is_arithmetic, is_ch
 ghost use Rattle.script_machine.specs.Lending.{value_at, standing};
 ghost use Rattle.script_machine.specs.Machines.{state_of};
 ghost use Rattle.script_machine.specs.Settings.{setting_of};
-ghost use Rattle.term_run.specs.Links.{linked, chained, compared, applied, asked};
+ghost use Rattle.term_run.specs.Links.{linked, chained, compared, applied, asked, is_calculated};
 
-use crate::atoms::{made_flag, single, single_scalar};
+use crate::atoms::{constant_scalar, made_flag, single, single_scalar, slot_scalar};
 use crate::chains::spend;
 use crate::questions::{ask, ask_scalar, slot_length};
 use script_machine::{
@@ -37,6 +37,32 @@ pub fn eval(machine: &mut Machine, scene: &Scene, term: &Term) -> Result<Val, St
     }
 }
 
+/// Whether a term begins with an operator between numbers, so that it gives a number.
+#[inline(always)]
+pub fn is_calculated(term: &Term) -> bool
+    ensures { result ≡ is_calculated term.now }
+{
+    match term {
+        Term::Chain(first, _) => is_arithmetic(first.1),
+        _ => false,
+    }
+}
+
+/// The number that a term gives which begins with an operator between numbers.
+pub fn eval_calculated(machine: &mut Machine, scene: &Scene, term: &Term) -> Result<i64, Stop>
+    requires names { machine.old.names ≡ scene.now.names.now }
+    requires term { IsNumberedTerm scene.now.names.now (term_of term.now) }
+    requires calculated { is_calculated term.now ≡ true }
+    ensures agrees { AgreesAs int (eval (setting_of scene.now) (term_of term.now)) machine.old machine.new result }
+    ensures spent { machine.new.left ≤ machine.old.left }
+    ensures names { machine.new.names ≡ machine.old.names }
+{
+    match term {
+        Term::Chain(first, more) => number_chain(machine, scene, first, more),
+        _ => Err(Stop::Unchecked),
+    }
+}
+
 /// What a term gives, taken from where it stands.
 #[inline(never)]
 fn eval_found(machine: &mut Machine, scene: &Scene, term: &Term) -> Result<Val, Stop>
@@ -50,10 +76,38 @@ fn eval_found(machine: &mut Machine, scene: &Scene, term: &Term) -> Result<Val, 
     Ok(machine.owned(scene.alloc, place)?)
 }
 
-/// Where that stands which a term gives.
+/// Where that stands which a term gives. Most are variables and constants.
 #[inline(always)]
 #[cycle(terms)]
 pub(crate) fn find<'a, 's: 'a>(
+    machine: &mut Machine,
+    scene: &Scene<'s>,
+    term: &'a Term,
+) -> Result<Place<'a>, Stop>
+    requires names { machine.old.names ≡ scene.now.names.now }
+    requires term { IsNumberedTerm scene.now.names.now (term_of term.now) }
+    ensures agrees { AgreesAs (value_at (standing machine.new)) (eval (setting_of scene.now) (term_of term.now)) machine.old machine.new result }
+    ensures spent { machine.new.left ≤ machine.old.left }
+    ensures names { machine.new.names ≡ machine.old.names }
+    ensures kept { standing machine.new ≡ standing machine.old }
+{
+    match term {
+        Term::Single(Atom::Slot(place)) => {
+            machine.tick()?;
+            machine.variable_place(*place)
+        }
+        Term::Single(Atom::Constant(value)) => {
+            machine.tick()?;
+            Ok(Place::Outside(Lent::Held(value)))
+        }
+        _ => find_any(machine, scene, term),
+    }
+}
+
+/// Where that stands which a term gives.
+#[inline(never)]
+#[cycle(terms)]
+fn find_any<'a, 's: 'a>(
     machine: &mut Machine,
     scene: &Scene<'s>,
     term: &'a Term,
@@ -76,13 +130,38 @@ pub(crate) fn find<'a, 's: 'a>(
     }
 }
 
-/// The number that a term gives, if it gives one.
+/// The number that a term gives, if it gives one. Most are variables and constants.
+#[inline(always)]
 #[cycle(terms)]
 pub(crate) fn eval_number(
     machine: &mut Machine,
     scene: &Scene,
     term: &Term,
 ) -> Result<Option<i64>, Stop>
+    requires names { machine.old.names ≡ scene.now.names.now }
+    requires term { IsNumberedTerm scene.now.names.now (term_of term.now) }
+    ensures finds { EndsFinding int NoInt (eval (setting_of scene.now) (term_of term.now) (state_of machine.old)) machine.new result }
+    ensures spent { machine.new.left ≤ machine.old.left }
+    ensures names { machine.new.names ≡ machine.old.names }
+    ensures kept { standing machine.new ≡ standing machine.old }
+{
+    match term {
+        Term::Single(Atom::Slot(place)) => {
+            machine.tick()?;
+            slot_scalar(machine, scene, *place)
+        }
+        Term::Single(Atom::Constant(value)) => {
+            machine.tick()?;
+            constant_scalar(machine, scene, value)
+        }
+        _ => eval_any_number(machine, scene, term),
+    }
+}
+
+/// The number that a term gives, if it gives one.
+#[inline(never)]
+#[cycle(terms)]
+fn eval_any_number(machine: &mut Machine, scene: &Scene, term: &Term) -> Result<Option<i64>, Stop>
     requires names { machine.old.names ≡ scene.now.names.now }
     requires term { IsNumberedTerm scene.now.names.now (term_of term.now) }
     ensures finds { EndsFinding int NoInt (eval (setting_of scene.now) (term_of term.now) (state_of machine.old)) machine.new result }

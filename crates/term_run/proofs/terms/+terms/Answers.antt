@@ -15,8 +15,8 @@ use Rattle.script_machine.specs.Kinds.{NoInt, NoFlag}
 use Rattle.term_run.proofs.ChainLemmas.{chain_eval, chain_numbered, linked_stops, linked_step, number_stops, number_step}
 use Rattle.term_run.proofs.terms.+terms.Goals as goal
 
-pub find-returns-in-Chain-clause-agrees : goal.find-returns-in-Chain-clause-agrees
-find-returns-in-Chain-clause-agrees t c =
+pub find_any-returns-in-Chain-clause-agrees : goal.find_any-returns-in-Chain-clause-agrees
+find_any-returns-in-Chain-clause-agrees t c =
     subst (λ (x : Ending Val). EndsAs (value_at (standing c.find_chain.new.machine)) x c.find_chain.new.machine c.find_chain.result) (sym (chain_eval (setting_of c.args.scene.now) c.args.term.now c.in-Chain.first c.in-Chain.more (state_of c.args.machine.now) c.in-Chain.is)) (rw (c.deref-in-Chain.ensures, c.deref-in-Chain-2.ensures.value) at c.find_chain.ensures.agrees)
 
 pub eval_truth-returns-in-Chain-clause-finds : goal.eval_truth-returns-in-Chain-clause-finds
@@ -32,11 +32,11 @@ pub eval_links-links-preserved : goal.eval_links-links-preserved
 eval_links-links-preserved t c =
     (linked_step (setting_of c.args.scene.now) c.args.links.now c.links.joint-index c.links-item.result c.links.x c.in_ok-x.x (state_of c.links.machine) (state_of c.apply_to.new.machine) _ c.links-test.true c.links-item.is c.links.invariant.0 (sym c.if-is_decided.ensures) c.in_ok-x.ensures.agrees, omega (arith, c.in_ok-x.ensures.spent, c.links.invariant.1), c.in_ok-x.ensures.kept ∙ c.links.invariant.2, c.in_ok-x.ensures.names ∙ c.links.invariant.3)
 
-pub eval_number-returns-in_ok-eval_compared-in-Compare-clause-finds : goal.eval_number-returns-in_ok-eval_compared-in-Compare-clause-finds
-eval_number-returns-in_ok-eval_compared-in-Compare-clause-finds t c = (flag c.in_ok-eval_compared-in-Compare.field-0, (tt, search rules))
+pub eval_any_number-returns-in_ok-eval_compared-in-Compare-clause-finds : goal.eval_any_number-returns-in_ok-eval_compared-in-Compare-clause-finds
+eval_any_number-returns-in_ok-eval_compared-in-Compare-clause-finds t c = (flag c.in_ok-eval_compared-in-Compare.field-0, (tt, search rules))
 
-pub eval_number-returns-in-Chain-clause-finds : goal.eval_number-returns-in-Chain-clause-finds
-eval_number-returns-in-Chain-clause-finds t c =
+pub eval_any_number-returns-in-Chain-clause-finds : goal.eval_any_number-returns-in-Chain-clause-finds
+eval_any_number-returns-in-Chain-clause-finds t c =
     subst (λ (x : Ending Val). EndsFinding int NoInt x c.number_in_chain.new.machine c.number_in_chain.result) (sym (chain_eval (setting_of c.args.scene.now) c.args.term.now c.in-Chain.first c.in-Chain.more (state_of c.args.machine.now) c.in-Chain.is)) (rw (c.deref-in-Chain.ensures, c.deref-in-Chain-2.ensures.value) at c.number_in_chain.ensures.finds)
 
 pub number_links-returns-in_err-x-clause-agrees : goal.number_links-returns-in_err-x-clause-agrees
@@ -53,8 +53,8 @@ number_links-links-preserved t c =
     let so_far = rw c.links.x-is at c.links.invariant.0 in
     (rw z (number_step (setting_of c.args.scene.now) c.args.links.now c.links.joint-index c.links-item.result c.links.x (state_of c.links.machine) _ c.links-test.true c.links-item.is so_far (int c.in-Some.y) (int c.in_ok-x.x) (state_of c.eval_number.new.machine) (state_of c.eval_number.new.machine) given (rw (c.links.x-is, to_z-of_z w64 c.in-Some.y (search rules)) at c.in_ok-x.ensures)), omega (arith, c.in_ok-y.ensures.spent, c.links.invariant.1), c.in_ok-y.ensures.kept ∙ c.links.invariant.2, c.in_ok-y.ensures.names ∙ c.links.invariant.3)
 
-pub eval_number-number_in_chain-requires : goal.eval_number-number_in_chain-requires
-eval_number-number_in_chain-requires t c =
+pub eval_any_number-number_in_chain-requires : goal.eval_any_number-number_in_chain-requires
+eval_any_number-number_in_chain-requires t c =
     let both = chain_numbered c.args.scene.now.names.now c.args.term.now c.in-Chain.first c.in-Chain.more c.in-Chain.is c.requires.term in
     (search rules, (c.requires.names, (rw c.deref-in-Chain.ensures both.0, rw c.deref-in-Chain-2.ensures.value both.1)))
 
@@ -63,13 +63,13 @@ eval_truth-truth_in_chain-requires t c =
     let both = chain_numbered c.args.scene.now.names.now c.args.term.now c.in-Chain.first c.in-Chain.more c.in-Chain.is c.requires.term in
     (search rules, (c.requires.names, (rw c.deref-in-Chain.ensures both.0, rw c.deref-in-Chain-2.ensures.value both.1)))
 
-pub find-find_chain-requires : goal.find-find_chain-requires
-find-find_chain-requires t c =
+pub find_any-find_chain-requires : goal.find_any-find_chain-requires
+find_any-find_chain-requires t c =
     let both = chain_numbered c.args.scene.now.names.now c.args.term.now c.in-Chain.first c.in-Chain.more c.in-Chain.is c.requires.term in
     (search rules, (c.requires.names, (rw c.deref-in-Chain.ensures both.0, rw c.deref-in-Chain-2.ensures.value both.1)))
 
-pub eval_number-returns-in-Ask-clause-finds : goal.eval_number-returns-in-Ask-clause-finds
-eval_number-returns-in-Ask-clause-finds t c =
+pub eval_any_number-returns-in-Ask-clause-finds : goal.eval_any_number-returns-in-Ask-clause-finds
+eval_any_number-returns-in-Ask-clause-finds t c =
     subst (λ (x : TermInMemory). EndsFinding int NoInt (eval (setting_of c.args.scene.now) (term_of x) (state_of c.args.machine.now)) c.asked_number.new.machine c.asked_number.result) (sym c.in-Ask.is) (rw c.deref.ensures at c.asked_number.ensures.finds)
 
 pub eval_truth-returns-in-Ask-clause-finds : goal.eval_truth-returns-in-Ask-clause-finds

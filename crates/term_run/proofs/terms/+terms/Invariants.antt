@@ -7,10 +7,16 @@ use Rattle.term_run.specs.Links.{linked}
 use Rattle.term_run.proofs.terms.+terms.Given as goal
 
 abbrev pub decreases-find : goal.decreases-find
-decreases-find l = 8 * l.machine.now.left + 4
+decreases-find l = 8 * l.machine.now.left + 5
+
+abbrev pub decreases-find_any : goal.decreases-find_any
+decreases-find_any l = 8 * l.machine.now.left + 4
 
 abbrev pub decreases-eval_number : goal.decreases-eval_number
-decreases-eval_number l = 8 * l.machine.now.left + 4
+decreases-eval_number l = 8 * l.machine.now.left + 5
+
+abbrev pub decreases-eval_any_number : goal.decreases-eval_any_number
+decreases-eval_any_number l = 8 * l.machine.now.left + 4
 
 abbrev pub decreases-eval_truth : goal.decreases-eval_truth
 decreases-eval_truth l = 8 * l.machine.now.left + 4
@@ -22,7 +28,7 @@ abbrev pub decreases-asked_number : goal.decreases-asked_number
 decreases-asked_number l = 8 * l.machine.now.left
 
 abbrev pub decreases-placed_number : goal.decreases-placed_number
-decreases-placed_number l = 8 * l.machine.now.left + 5
+decreases-placed_number l = 8 * l.machine.now.left + 6
 
 abbrev pub decreases-asked_truth : goal.decreases-asked_truth
 decreases-asked_truth l = 8 * l.machine.now.left
@@ -31,10 +37,10 @@ abbrev pub decreases-eval_compared : goal.decreases-eval_compared
 decreases-eval_compared l = 8 * l.machine.now.left
 
 abbrev pub decreases-eval_compared_numbers : goal.decreases-eval_compared_numbers
-decreases-eval_compared_numbers l = 8 * l.machine.now.left + 5
+decreases-eval_compared_numbers l = 8 * l.machine.now.left + 6
 
 abbrev pub decreases-eval_compared_values : goal.decreases-eval_compared_values
-decreases-eval_compared_values l = 8 * l.machine.now.left + 5
+decreases-eval_compared_values l = 8 * l.machine.now.left + 6
 
 abbrev pub decreases-find_compared : goal.decreases-find_compared
 decreases-find_compared l = 8 * l.machine.now.left + 1
@@ -79,7 +85,7 @@ abbrev pub decreases-eval_links : goal.decreases-eval_links
 decreases-eval_links l = 8 * l.machine.now.left + 7
 
 abbrev pub decreases-number_links : goal.decreases-number_links
-decreases-number_links l = 8 * l.machine.now.left + 5
+decreases-number_links l = 8 * l.machine.now.left + 6
 
 abbrev pub decreases-truth_links : goal.decreases-truth_links
 decreases-truth_links l = 8 * l.machine.now.left + 7
