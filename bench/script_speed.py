@@ -3,13 +3,14 @@
 
     python3 bench/script_speed.py [NAME..]                    all scripts, or these
     python3 bench/script_speed.py --instructions [NAME..]     the instructions of a run, in millions
+    python3 bench/script_speed.py --allocations [NAME..]      how often a run takes memory
 
-Each line is one script, run by the program run_rows: the microseconds of a run, the least and the median of fifteen. Each is the
+Each line is one script, run by the program run_rows: the microseconds of a run, the least and the median of 25. Each is the
 difference between a process that runs it many times and one that runs it not at all, both of which read the deployment and the
 answers once. A loop goes round as often as a run may, which takes some 10,000 units, and is to take at most 200 microseconds; a
 handler of ten statements is to take a few. Whatever else the machine does, or the host on which it stands, only adds to a time: so
-it is the least that is held against the bound, and all scripts take turns. Instructions, counted by valgrind, of ten runs less of
-none, are the same whatever else goes on. Build the program first: cd crates/run_rows && rt run < stdin
+it is the least that is held against the bound, and all scripts take turns. Instructions and allocations, counted by valgrind, of ten
+runs less of none, are the same whatever else goes on. Build the program first: cd crates/run_rows && rt run < stdin
 """
 import copy
 import json
@@ -24,7 +25,7 @@ from meaning_table import DEPLOYMENT
 
 PROGRAM = os.path.join(os.path.dirname(os.path.abspath(__file__)), "..", "crates", "run_rows", "out", "run_rows")
 AT_MOST, TEN_AT_MOST = 200, 5
-TIMES, RUNS, COUNTED = 400, 15, 10
+TIMES, RUNS, COUNTED = 400, 25, 10
 # A handler of ten statements is run so many times as often.
 MORE = 50
 # Two names as long as names may be, which differ in their last byte.
@@ -104,24 +105,34 @@ def measured(rows):
         yield name, *((took - least) / times * 1e6 for took in (min(some[name]), statistics.median(some[name])))
 
 
-def instructions_of(text, times):
-    words = ["valgrind", "--tool=callgrind", "--callgrind-out-file=/dev/null", PROGRAM, str(times)]
-    told = subprocess.run(words, input=text, capture_output=True, text=True, check=True).stderr
-    return int(re.search(r"Collected : (\d+)", told).group(1))
+def counted(text, times, tool, told):
+    """What valgrind's tool tells of so many runs."""
+    words = ["valgrind", *tool, PROGRAM, str(times)]
+    printed = subprocess.run(words, input=text, capture_output=True, text=True, check=True).stderr
+    return int(re.search(told, printed).group(1).replace(",", ""))
 
 
-def millions(text):
-    return (instructions_of(text, COUNTED) - instructions_of(text, 0)) / COUNTED / 1e6
+def a_run(text, *tool):
+    return (counted(text, COUNTED, *tool) - counted(text, 0, *tool)) / COUNTED
 
 
-def count(wanted):
-    """Counts instructions."""
+def instructions(text):
+    millions = a_run(text, ["--tool=callgrind", "--callgrind-out-file=/dev/null"], r"Collected : (\d+)") / 1e6
+    return f"{millions:8.4f} million instructions"
+
+
+def allocations(text):
+    return f"{a_run(text, ['--leak-check=no'], r'total heap usage: ([0-9,]+) allocs'):8.0f} allocations"
+
+
+def count(wanted, counts):
+    """Counts, of these scripts or of all."""
     for name, loop in LOOPS.items():
         if not wanted or name in wanted:
             script, rounds = longest(loop)
-            print(f"{name:20} {rounds:5} rounds  {millions(row(script)):7.2f} million instructions", flush=True)
+            print(f"{name:20} {rounds:5} rounds  {counts(row(script))}", flush=True)
     if not wanted or "ten" in wanted:
-        print(f"{'ten statements':20}               {millions(row(' '.join(TEN))):7.4f} million instructions")
+        print(f"{'ten statements':20}               {counts(row(' '.join(TEN)))}")
 
 
 def rows_of(wanted):
@@ -144,9 +155,10 @@ def main():
     if not os.path.exists(PROGRAM):
         sys.exit("build it first: cd crates/run_rows && rt run < stdin")
     wanted, slow = sys.argv[1:], 0
-    if "--instructions" in wanted:
-        count([name for name in wanted if name != "--instructions"])
-        return 0
+    for word, counts in (("--instructions", instructions), ("--allocations", allocations)):
+        if word in wanted:
+            count([name for name in wanted if name != word], counts)
+            return 0
     rows, rounds = rows_of(wanted)
     for name, least, median in measured(rows):
         most = TEN_AT_MOST if name == "ten" else AT_MOST
