@@ -48,7 +48,7 @@ pub(crate) fn eval_arguments(
     ensures spent { machine.new.left ≤ machine.old.left }
     ensures names { machine.new.names ≡ machine.old.names }
 {
-    let mut arguments = Vec::new(scene.alloc);
+    let mut arguments = machine.take_variables(scene.alloc);
     'terms: for term in terms {
         let x = eval(machine, scene, term)?;
         arguments.push(Variable::of_value(x))?;
@@ -117,16 +117,16 @@ pub(crate) fn keep_result(
     ensures spent { machine.new.left ≤ machine.old.left }
     ensures names { machine.new.names ≡ machine.old.names }
 {
-    if !keeps {
-        return Ok(Flow::Next);
-    }
     let x = match flow {
-        Flow::Returned(x) => x,
+        Flow::Returned(x) => machine.take_out(x),
+        Flow::Next if !keeps => return Ok(Flow::Next),
         Flow::Next => match kind {
             Some(kind) => initial(alloc, kind)?,
             None => return Err(Stop::Unchecked),
         },
     };
-    machine.declare(Variable::of_value(x))?;
+    if keeps {
+        machine.declare(Variable::of_value(x))?;
+    }
     Ok(Flow::Next)
 }

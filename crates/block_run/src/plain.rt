@@ -14,6 +14,7 @@ use script_types::{Assigning, OnActivities, OnEntities, OnTimers};
 use step_run::{Flow, do_assigning, do_on_activities, do_on_entities, do_on_timers};
 
 /// A step that gives a value to something, and then the next one.
+#[inline(always)]
 pub(crate) fn assign(machine: &mut Machine, scene: &Scene, step: &Assigning) -> Result<Flow, Stop>
     requires names { machine.old.names ≡ scene.now.names.now }
     requires step { IsNumberedAssigning scene.now.names.now (assigning_of step.now) }

@@ -24,6 +24,7 @@ use slee_effect::Ref;
 use step_run::{Flow, do_saying};
 
 /// What a step does, behind its unit.
+#[inline(always)]
 #[cycle(steps)]
 fn act(machine: &mut Machine, stage: &Stage, depth: u32, step: &Step) -> Result<Flow, Stop>
     requires names { machine.old.names ≡ stage.now.scene.names.now }
@@ -48,6 +49,7 @@ fn act(machine: &mut Machine, stage: &Stage, depth: u32, step: &Step) -> Result<
 }
 
 /// A step.
+#[inline(always)]
 #[cycle(steps)]
 fn do_step(machine: &mut Machine, stage: &Stage, depth: u32, step: &Step) -> Result<Flow, Stop>
     requires names { machine.old.names ≡ stage.now.scene.names.now }
@@ -63,6 +65,7 @@ fn do_step(machine: &mut Machine, stage: &Stage, depth: u32, step: &Step) -> Res
 }
 
 /// Steps one behind another.
+#[inline(never)]
 #[cycle(steps)]
 pub fn do_all(machine: &mut Machine, stage: &Stage, depth: u32, body: &[Step]) -> Result<Flow, Stop>
     requires names { machine.old.names ≡ stage.now.scene.names.now }
@@ -100,6 +103,7 @@ fn do_block(machine: &mut Machine, stage: &Stage, depth: u32, body: &[Step]) -> 
 }
 
 /// `if e { .. } else { .. }`
+#[inline(always)]
 #[cycle(steps)]
 fn do_if(
     machine: &mut Machine,
@@ -127,6 +131,7 @@ fn do_if(
 }
 
 /// `while e { .. }`: each turn takes a unit, so one more than are left are never passed.
+#[inline(never)]
 #[cycle(steps)]
 fn repeat(
     machine: &mut Machine,
@@ -158,6 +163,7 @@ fn repeat(
 }
 
 /// `for NAME in .. { .. }`
+#[inline(never)]
 #[cycle(steps)]
 fn do_for(
     machine: &mut Machine,
@@ -176,7 +182,9 @@ fn do_for(
     ensures names { machine.new.names ≡ machine.old.names }
 {
     let items = read_items(machine, &stage.scene, range)?;
-    do_walk(machine, stage, depth, body, range, &items)
+    let flow = do_walk(machine, stage, depth, body, range, &items)?;
+    machine.keep_items(items);
+    Ok(flow)
 }
 
 /// A turn for each item.
@@ -232,6 +240,7 @@ fn do_turn(
 }
 
 /// `call NAME.NAME(e, e) as NAME;`
+#[inline(never)]
 #[cycle(steps)]
 fn do_call(machine: &mut Machine, stage: &Stage, depth: u32, call: &Call) -> Result<Flow, Stop>
     requires names { machine.old.names ≡ stage.now.scene.names.now }
@@ -270,6 +279,7 @@ fn enter(
     let inner = stage_for(stage, block, child);
     let outer = machine.replace_variables(arguments);
     let flow = do_all(machine, &inner, depth, method.steps.as_slice())?;
-    let _ = machine.replace_variables(outer);
+    let used = machine.replace_variables(outer);
+    machine.keep_variables(used);
     keep_result(machine, stage.scene.alloc, call.keeps, flow, method.result)
 }

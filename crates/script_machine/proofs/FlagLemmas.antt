@@ -2,7 +2,7 @@
 use Rattle.std.proofs.Common.{◌≡◌, Bool, true, false, refl}
 use Rattle.slee_value.specs.declared.value.Value.TheVariants as v
 use Rattle.slee_effect.specs.declared.value.Val.{Val}
-use Rattle.slee_effect.specs.declared.value.Val.TheVariants.{Plain, NewActivity, NewTimer}
+use Rattle.slee_effect.specs.declared.value.Val.TheVariants.{Plain}
 use Rattle.script_types.specs.declared.term.Joint.{Joint}
 use Rattle.script_types.specs.declared.term.Joint.TheVariants as j
 use Rattle.handler_meaning.specs.Running.{State, Stays}

@@ -12,6 +12,9 @@ use Rattle.handler_meaning.specs.declared.key.Key.{Key}
 use Rattle.handler_meaning.specs.declared.key.Key.TheVariants as k
 use Rattle.script_machine.specs.declared.asked.Asked.{Asked}
 use Rattle.script_machine.specs.declared.asked.Asked.TheVariants as a
+use Rattle.script_machine.specs.declared.wanted.WantedAttribute.{WantedAttribute}
+use Rattle.script_machine.specs.declared.wanted.WantedField.{WantedField}
+use Rattle.script_machine.specs.declared.wanted.WantedState.{WantedState}
 use Rattle.script_machine.specs.declared.stop.Stop.{Stop}
 use Rattle.script_machine.specs.declared.stop.Stop.TheVariants as stop
 
@@ -37,9 +40,24 @@ asked_number (a.Attr x name) = name.now.number
 asked_number (a.Profile table name) = table.now.number
 asked_number _ = None
 
+-- the keys of those with a way of their own
+abbrev pub field_wanted : WantedField → Key
+field_wanted x = k.Field x.entity x.name.now.name
+
+abbrev pub attribute_wanted : WantedAttribute → Key
+attribute_wanted x = k.Attr x.activity x.key.now.name
+
+abbrev pub state_wanted : WantedState → Key
+state_wanted x = k.AcState x.activity
+
 -- it is that of the key's name
 abbrev pub IsNumberedAsked : List (List ℕ) → Asked → Type 0
 IsNumberedAsked names asked = asked_number asked ≡ key_number names (key_asked asked)
+
+-- the same of what is asked for, if anything is
+abbrev pub AreNumberedBy : {W : Type 0} → (List (List ℕ) → W → Type 0) → List (List ℕ) → Option W → Type 0
+AreNumberedBy is_numbered names None = Unit {0}
+AreNumberedBy is_numbered names (Some x) = is_numbered names x
 
 abbrev pub AreNumberedAsked : List (List ℕ) → Option Asked → Type 0
 AreNumberedAsked names None = Unit {0}

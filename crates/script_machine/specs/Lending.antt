@@ -1,5 +1,5 @@
 -- The value that is lent, and that which stands in a place while terms run: they change neither variables nor effects.
-use Rattle.std.specs.Prelude.{ℕ, pos, List, ◌++◌, ◌∷◌, [], Option, Some, None, slice_get}
+use Rattle.std.specs.Prelude.{pos, List, Option, Some, None, slice_get}
 use Rattle.slee_value.specs.declared.value.Value.TheVariants as v
 use Rattle.slee_effect.specs.declared.value.Val.{Val}
 use Rattle.slee_effect.specs.declared.value.Val.TheVariants.{Plain}

@@ -1,5 +1,5 @@
 -- The numbers of the names in keys, answers and effects. What has no name has no number.
-use Rattle.std.specs.Prelude.{◌≡◌, ℕ, List, [], map, Option, Some, None}
+use Rattle.std.specs.Prelude.{ℕ, List, [], map, Option, Some, None}
 use Rattle.handler_meaning.specs.declared.key.Key.{Key}
 use Rattle.handler_meaning.specs.declared.key.Key.TheVariants as k
 use Rattle.handler_meaning.specs.declared.seen.Seen.{Seen}
@@ -7,7 +7,14 @@ use Rattle.handler_meaning.specs.declared.seen.Seen.TheVariants as s
 use Rattle.slee_effect.specs.declared.effect.Effect.{Effect}
 use Rattle.slee_effect.specs.declared.effect.Effect.TheVariants as ef
 use Rattle.script_types.specs.Codes.{number_in}
+use Rattle.script_machine.specs.declared.numbering.Spelling.{Spelling}
+use Rattle.script_machine.specs.declared.numbering.Spelling.TheVariants as spelling
 use Rattle.script_machine.specs.declared.numbering.AnswerNumbers.{AnswerNumbers}
+
+-- the bytes of a name
+abbrev pub spelled : Spelling → List ℕ
+spelled (spelling.Name x) = x.now
+spelled (spelling.Text x) = x.now
 
 -- the number of a key's name: a field's, a relation's, an attribute's or a table's
 abbrev pub key_number : List (List ℕ) → Key → Option ℕ

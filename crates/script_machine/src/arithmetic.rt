@@ -70,6 +70,7 @@ impl Machine<'_> {
     }
 
     /// The quotient, cut toward zero.
+    #[inline(never)]
     fn quotient(&self, m: i64, n: i64) -> Result<i64, Stop>
         ensures { AgreesAs int (divided int_div m n) self.now self.now result }
     {
@@ -83,6 +84,7 @@ impl Machine<'_> {
     }
 
     /// What remains of a division, with the sign of the dividend.
+    #[inline(never)]
     fn remainder(&self, m: i64, n: i64) -> Result<i64, Stop>
         ensures { AgreesAs int (divided int_rem m n) self.now self.now result }
     {
@@ -97,6 +99,7 @@ impl Machine<'_> {
     }
 
     /// What an operator makes of two numbers.
+    #[inline(always)]
     pub fn calculate(&self, joint: Joint, m: i64, n: i64) -> Result<i64, Stop>
         ensures { AgreesAs int (apply joint (int m) (int n)) self.now self.now result }
     {

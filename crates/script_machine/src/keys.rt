@@ -7,8 +7,8 @@ ghost use Rattle.handler_meaning.specs.Answers.{kept};
 ghost use Rattle.script_machine.specs.Asking.{key_asked, IsNumberedAsked};
 ghost use Rattle.script_machine.specs.Numbering.{key_number, answer_numbers, numbers_seen};
 
-use crate::numbering::{AnswerNumbers, NumberedName, is_same_name};
-use crate::{Asked, Scene};
+use crate::numbering::{AnswerNumbers, NumberedName, Spelling, is_same_name};
+use crate::{Asked, Scene, Wanted};
 use handler_meaning::{Key, Seen};
 use script_types::NamedList;
 use slee_value::Text;
@@ -36,7 +36,7 @@ pub(crate) fn is_asked(
 {
     match (one, asked) {
         (Key::Field(e, x), Asked::Field(f, y)) => {
-            let name = x.as_str();
+            let name = Spelling::Name(x);
             e.0 == f.0
                 && is_same_name(
                     names,
@@ -45,7 +45,7 @@ pub(crate) fn is_asked(
                 )
         }
         (Key::Children(e, x), Asked::Children(f, y)) => {
-            let name = x.as_str();
+            let name = Spelling::Name(x);
             e.0 == f.0
                 && is_same_name(
                     names,
@@ -56,7 +56,7 @@ pub(crate) fn is_asked(
         (Key::Priority(e), Asked::Priority(f)) => e.0 == f.0,
         (Key::AcState(a), Asked::AcState(b)) => a.0 == b.0,
         (Key::Attr(a, x), Asked::Attr(b, y)) => {
-            let name = x.as_str();
+            let name = Spelling::Text(x);
             a.0 == b.0
                 && is_same_name(
                     names,
@@ -69,7 +69,7 @@ pub(crate) fn is_asked(
         (Key::Named(x), Asked::Named(y)) => x.as_bytes() == y.as_bytes(),
         (Key::Timer(t), Asked::Timer(u)) => t.0 == u.0,
         (Key::Profile(t, x), Asked::Profile(u, y)) => {
-            let name = t.as_str();
+            let name = Spelling::Name(t);
             is_same_name(
                 names,
                 NumberedName { name, number },
@@ -82,63 +82,57 @@ pub(crate) fn is_asked(
     }
 }
 
-/// Whether one of these keys is that which is asked for.
-#[inline(never)]
+/// Whether one of these keys is that which is wanted.
+#[inline(always)]
 #[tactic(auto, using(crate::proofs::KeyLemmas::number_there))]
-pub(crate) fn has_key(names: &NamedList<Text>, given: NumberedKeys, asked: &Asked) -> bool
+pub(crate) fn has_key<W: Wanted>(names: &NamedList<Text>, given: NumberedKeys, wanted: &W) -> bool
     requires numbers { given.numbers.now ≡ map (key_number names.now) given.keys.now }
-    requires asked { IsNumberedAsked names.now asked.now }
-    ensures { result ≡ list_any (same_key (key_asked asked.now)) given.entry.keys.now }
+    requires wanted { W.is_numbered names.now wanted.now }
+    ensures { result ≡ list_any (same_key (W.key_of wanted.now)) given.entry.keys.now }
 {
     let keys = given.keys;
     let numbers = given.numbers;
     'keys: for place in 0..keys.len() {
-        if is_asked(names, &keys[place], numbers[place], asked) {
+        if wanted.is(names, &keys[place], numbers[place]) {
             return true;
         }
     }
     false
 }
 
-/// Whether the key in this place is that which is asked for.
+/// Whether the key in this place is that which is wanted.
 #[inline(always)]
-fn is_asked_at(names: &NamedList<Text>, given: NumberedKeys, place: usize, asked: &Asked) -> bool
+fn is_asked_at<W: Wanted>(
+    names: &NamedList<Text>,
+    given: NumberedKeys,
+    place: usize,
+    wanted: &W,
+) -> bool
     requires numbers { given.numbers.now ≡ map (key_number names.now) given.keys.now }
-    requires asked { IsNumberedAsked names.now asked.now }
-    ensures { IsTrue result → IsTrue (list_any (same_key (key_asked asked.now)) given.entry.keys.now) }
+    requires wanted { W.is_numbered names.now wanted.now }
+    ensures { IsTrue result → IsTrue (list_any (same_key (W.key_of wanted.now)) given.entry.keys.now) }
 {
-    place < given.keys.len() && is_asked(names, &given.keys[place], given.numbers[place], asked)
+    place < given.keys.len() && wanted.is(names, &given.keys[place], given.numbers[place])
 }
 
-/// Whether one of these keys is that which is asked for. It may well be the one in this place.
+/// Whether the key in this place of these, those before first, is that which is wanted.
 #[inline(always)]
-fn has_key_near(names: &NamedList<Text>, given: NumberedKeys, place: usize, asked: &Asked) -> bool
-    requires numbers { given.numbers.now ≡ map (key_number names.now) given.keys.now }
-    requires asked { IsNumberedAsked names.now asked.now }
-    ensures { result ≡ list_any (same_key (key_asked asked.now)) given.entry.keys.now }
-{
-    is_asked_at(names, given, place, asked) || has_key(names, given, asked)
-}
-
-/// Whether one of these keys, those before first, is that which is asked for. It may well be the one in this place.
-#[inline(always)]
-#[tactic(auto, using(crate::proofs::KeyLemmas::either_turned))]
-pub(crate) fn is_counted(
+pub(crate) fn is_counted_at<W: Wanted>(
     names: &NamedList<Text>,
     before: NumberedKeys,
     own: NumberedKeys,
     place: usize,
-    asked: &Asked,
+    wanted: &W,
 ) -> bool
     requires before { before.numbers.now ≡ map (key_number names.now) before.keys.now }
     requires own { own.numbers.now ≡ map (key_number names.now) own.keys.now }
-    requires asked { IsNumberedAsked names.now asked.now }
-    ensures { result ≡ (list_any (same_key (key_asked asked.now)) before.entry.keys.now || list_any (same_key (key_asked asked.now)) own.entry.keys.now) }
+    requires wanted { W.is_numbered names.now wanted.now }
+    ensures { IsTrue result → IsTrue (list_any (same_key (W.key_of wanted.now)) before.entry.keys.now || list_any (same_key (W.key_of wanted.now)) own.entry.keys.now) }
 {
     if place < before.keys.len() {
-        return has_key_near(names, before, place, asked) || has_key(names, own, asked);
+        return is_asked_at(names, before, place, wanted);
     }
-    has_key_near(names, own, place - before.keys.len(), asked) || has_key(names, before, asked)
+    is_asked_at(names, own, place - before.keys.len(), wanted)
 }
 
 /// What was kept for a key: the answer with the numbers of the names in it, if there is one, and how many stand before it.
@@ -149,12 +143,12 @@ pub(crate) struct Kept<'a> {
     pub(crate) place: usize,
 }
 
-/// The answer that was kept for the key that is asked for.
+/// The answer that was kept for the key that is wanted.
 #[inline(always)]
 #[tactic(auto, using(crate::proofs::KeyLemmas::number_there))]
-pub(crate) fn kept_answer<'a>(scene: &Scene<'a>, asked: &Asked) -> Kept<'a>
-    requires { IsNumberedAsked scene.now.names.now asked.now }
-    ensures seen { option_copied result.seen ≡ kept scene.now.known.now (key_asked asked.now) }
+pub(crate) fn kept_answer<'a, W: Wanted>(scene: &Scene<'a>, wanted: &W) -> Kept<'a>
+    requires { W.is_numbered scene.now.names.now wanted.now }
+    ensures seen { option_copied result.seen ≡ kept scene.now.known.now (W.key_of wanted.now) }
     ensures numbers { result.numbers.now ≡ numbers_seen scene.now.names.now (option_copied result.seen) }
 {
     let known = scene.known;
@@ -162,7 +156,7 @@ pub(crate) fn kept_answer<'a>(scene: &Scene<'a>, asked: &Asked) -> Kept<'a>
     'known: for place in 0..known.len() {
         let (key, seen) = &known[place];
         let number = &numbers[place];
-        if is_asked(scene.names, key, number.key, asked) {
+        if wanted.is(scene.names, key, number.key) {
             return Kept {
                 seen: Some(seen),
                 numbers: number.seen.as_slice(),

@@ -7,6 +7,7 @@ ghost use Rattle.script_machine.specs.Agreeing.{Agrees};
 ghost use Rattle.script_machine.specs.Lending.{standing};
 ghost use Rattle.script_machine.specs.Machines.{state_of};
 
+use crate::spare::Spare;
 use crate::{Stop, Variable};
 use handler_meaning::{FailKind, Key};
 use script_types::NamedList;
@@ -31,6 +32,8 @@ pub struct Machine<'a> {
     pub(crate) effect_numbers: Vec<Option<usize>>,
     /// How many bytes the effects have.
     pub(crate) bytes: u32,
+    /// Lists that are used again.
+    pub(crate) spare: Spare,
 }
 
 impl<'a> Model for Machine<'a> {
@@ -62,6 +65,7 @@ impl<'a> Machine<'a> {
             effects: Vec::new(alloc),
             effect_numbers: Vec::new(alloc),
             bytes: 0,
+            spare: Spare::new(alloc),
         }
     }
 

@@ -2,7 +2,7 @@
 ghost use Rattle.std.specs.Prelude.{◌≡◌, IfOk, Some, bytes_eq, map};
 ghost use Rattle.script_types.specs.Codes.{number_in};
 ghost use Rattle.script_types.specs.Numbers.{IsNumbered};
-ghost use Rattle.script_machine.specs.Numbering.{answer_numbers, effect_number, key_number, numbers_seen};
+ghost use Rattle.script_machine.specs.Numbering.{answer_numbers, effect_number, key_number, numbers_seen, spelled};
 
 use handler_meaning::{Key, Seen};
 use script_types::{CodeList, NamedList, Symbol};
@@ -10,10 +10,29 @@ use slee_effect::Effect;
 use slee_value::{Name, NoMemory, Text};
 use std::alloc::Global;
 
-/// A name with its number, as it stands in a script, a key, an answer or an effect.
+/// A name as it stands in a script, a key, an answer or an effect. Its bytes are read only where they are needed.
+#[derive(Debug, Clone, Copy)]
+pub enum Spelling<'a> {
+    Name(&'a Name),
+    Text(&'a Text),
+}
+
+impl<'a> Spelling<'a> {
+    /// Its bytes.
+    fn as_bytes(&self) -> &'a [u8]
+        ensures { result.now ≡ spelled self.now }
+    {
+        match self {
+            Spelling::Name(name) => name.as_bytes(),
+            Spelling::Text(text) => text.as_bytes(),
+        }
+    }
+}
+
+/// A name with its number.
 #[derive(Debug, Clone, Copy)]
 pub struct NumberedName<'a> {
-    pub name: &'a str,
+    pub name: Spelling<'a>,
     pub number: Option<usize>,
 }
 
@@ -21,11 +40,11 @@ impl<'a> NumberedName<'a> {
     /// That of a name in a script.
     #[inline(always)]
     pub fn of_name(symbol: &'a Symbol<Name>) -> Self
-        ensures name { result.name.now ≡ symbol.now.name }
+        ensures name { spelled result.name ≡ symbol.now.name }
         ensures number { result.number ≡ symbol.now.number }
     {
         NumberedName {
-            name: symbol.name.as_str(),
+            name: Spelling::Name(&symbol.name),
             number: symbol.number,
         }
     }
@@ -33,29 +52,37 @@ impl<'a> NumberedName<'a> {
     /// That of a key or an event in a script.
     #[inline(always)]
     pub fn of_text(symbol: &'a Symbol<Text>) -> Self
-        ensures name { result.name.now ≡ symbol.now.name }
+        ensures name { spelled result.name ≡ symbol.now.name }
         ensures number { result.number ≡ symbol.now.number }
     {
         NumberedName {
-            name: symbol.name.as_str(),
+            name: Spelling::Text(&symbol.name),
             number: symbol.number,
         }
     }
+}
+
+/// Whether two names have the same bytes.
+#[inline(never)]
+fn is_same_spelling(one: Spelling, other: Spelling) -> bool
+    ensures { result ≡ bytes_eq (spelled one.entry) (spelled other.entry) }
+{
+    one.as_bytes() == other.as_bytes()
 }
 
 /// Whether two are the same name. Their bytes are compared only where both are none of the deployment's names.
 #[inline(always)]
 #[tactic(auto, using(crate::proofs::NamingLemmas::same_by_numbers, crate::proofs::NamingLemmas::known_is_other, crate::proofs::NamingLemmas::other_is_known))]
 pub fn is_same_name(names: &NamedList<Text>, one: NumberedName, other: NumberedName) -> bool
-    requires one { one.number ≡ number_in names.now one.name.now }
-    requires other { other.number ≡ number_in names.now other.name.now }
-    ensures { result ≡ bytes_eq one.entry.name.now other.entry.name.now }
+    requires one { one.number ≡ number_in names.now (spelled one.name) }
+    requires other { other.number ≡ number_in names.now (spelled other.name) }
+    ensures { result ≡ bytes_eq (spelled one.entry.name) (spelled other.entry.name) }
 {
     match (one.number, other.number) {
         (Some(m), Some(n)) => m == n,
         (Some(_), None) => false,
         (None, Some(_)) => false,
-        (None, None) => one.name.as_bytes() == other.name.as_bytes(),
+        (None, None) => is_same_spelling(one.name, other.name),
     }
 }
 

@@ -1,17 +1,18 @@
 //! Asking for the state by keys.
-ghost use Rattle.std.specs.Prelude.{◌≡◌, ◌≤◌, ◌||◌, option_map, Some};
+ghost use Rattle.std.specs.Prelude.{◌≡◌, ◌≤◌, ◌||◌, map, option_map, Some};
 ghost use Rattle.std.specs.List.{list_any};
 ghost use Rattle.std.specs.Option.{option_copied};
 ghost use Rattle.handler_meaning.specs.Seeing.{same_key};
 ghost use Rattle.handler_meaning.specs.Running.{look};
 ghost use Rattle.script_machine.specs.Agreeing.{AgreesAs};
-ghost use Rattle.script_machine.specs.Asking.{key_asked, AreNumberedAsked, IsNumberedAsked, IsNumberedNew, Wants, Peeks, new_key, noted};
+ghost use Rattle.script_machine.specs.Asking.{key_asked, AreNumberedAsked, AreNumberedBy, IsNumberedAsked, IsNumberedNew, Wants, Peeks, new_key, noted};
 ghost use Rattle.script_machine.specs.Lending.{standing};
 ghost use Rattle.script_machine.specs.Machines.{state_of};
+ghost use Rattle.script_machine.specs.Numbering.{key_number};
 ghost use Rattle.script_machine.specs.Settings.{setting_of};
 
-use crate::keys::{Kept, NumberedKeys, is_counted, kept_answer};
-use crate::{Asked, Machine, Scene, Stop};
+use crate::keys::{Kept, NumberedKeys, has_key, is_counted_at, kept_answer};
+use crate::{Asked, Machine, Scene, Stop, Wanted};
 use handler_meaning::{FailKind, Key, Seen};
 use std::alloc::Global;
 
@@ -46,23 +47,56 @@ fn need(alloc: Global, asked: &Asked) -> Stop
     }
 }
 
+/// The keys of the transaction before the run.
+#[inline(always)]
+fn keys_before<'a>(scene: &Scene<'a>) -> NumberedKeys<'a>
+    ensures keys { result.keys.now ≡ scene.now.keys.now }
+    ensures numbers { result.numbers.now ≡ map (key_number scene.now.names.now) scene.now.keys.now }
+{
+    NumberedKeys {
+        keys: scene.keys,
+        numbers: scene.key_numbers,
+    }
+}
+
+/// Whether the key was counted before the run.
+#[inline(never)]
+fn is_counted_before<W: Wanted>(scene: &Scene, wanted: &W) -> bool
+    requires { W.is_numbered scene.now.names.now wanted.now }
+    ensures { result ≡ list_any (same_key (W.key_of wanted.now)) scene.now.keys.now }
+{
+    has_key(scene.names, keys_before(scene), wanted)
+}
+
 impl Machine<'_> {
-    /// Whether the key is counted, by this run or before it. It may well be the one in this place.
+    /// The keys of the run so far.
     #[inline(always)]
-    fn is_counted(&self, scene: &Scene, place: usize, asked: &Asked) -> bool
-        requires names { self.now.names ≡ scene.now.names.now }
-        requires asked { IsNumberedAsked scene.now.names.now asked.now }
-        ensures { result ≡ (list_any (same_key (key_asked asked.now)) scene.now.keys.now || list_any (same_key (key_asked asked.now)) self.now.keys) }
+    fn own_keys(&self) -> NumberedKeys
+        ensures keys { result.keys.now ≡ self.now.keys }
+        ensures numbers { result.numbers.now ≡ map (key_number self.now.names) self.now.keys }
     {
-        let before = NumberedKeys {
-            keys: scene.keys,
-            numbers: scene.key_numbers,
-        };
-        let own = NumberedKeys {
+        NumberedKeys {
             keys: &self.keys,
             numbers: &self.key_numbers,
-        };
-        is_counted(scene.names, before, own, place, asked)
+        }
+    }
+
+    /// Whether the key is counted, by this run or before it. It may well be the one in this place.
+    #[inline(always)]
+    #[tactic(auto, using(crate::proofs::KeyLemmas::either_turned))]
+    fn is_counted<W: Wanted>(&self, scene: &Scene, place: usize, wanted: &W) -> bool
+        requires names { self.now.names ≡ scene.now.names.now }
+        requires wanted { W.is_numbered scene.now.names.now wanted.now }
+        ensures { result ≡ (list_any (same_key (W.key_of wanted.now)) scene.now.keys.now || list_any (same_key (W.key_of wanted.now)) self.now.keys) }
+    {
+        is_counted_at(
+            scene.names,
+            keys_before(scene),
+            self.own_keys(),
+            place,
+            wanted,
+        ) || has_key(scene.names, self.own_keys(), wanted)
+            || is_counted_before(scene, wanted)
     }
 
     /// What is known of a key, which isn't counted yet. What is new has no key, and nothing is asked for.
@@ -154,25 +188,25 @@ impl Machine<'_> {
     /// What is known of a key, which is counted. What is new has no key, and nothing is asked for.
     #[inline(always)]
     #[tactic(auto, unfolding(handler_meaning::specs::Running::observe))]
-    pub fn look<'s>(
+    pub fn look<'s, W: Wanted>(
         &mut self,
         scene: &Scene<'s>,
-        asked: Option<Asked>,
+        wanted: Option<W>,
     ) -> Result<Option<&'s Seen>, Stop>
         requires names { self.old.names ≡ scene.now.names.now }
-        requires asked { AreNumberedAsked scene.now.names.now asked }
-        ensures agrees { AgreesAs option_copied (look (setting_of scene.now) (option_map key_asked asked.entry)) self.old self.new result }
+        requires wanted { AreNumberedBy W.is_numbered scene.now.names.now wanted }
+        ensures agrees { AgreesAs option_copied (look (setting_of scene.now) (option_map W.key_of wanted)) self.old self.new result }
         ensures spent { self.new.left ≤ self.old.left }
         ensures names { self.new.names ≡ self.old.names }
         ensures kept { standing self.new ≡ standing self.old }
     {
-        let Some(asked) = asked else {
+        let Some(wanted) = wanted else {
             return Ok(None);
         };
-        let Kept { seen, place, .. } = kept_answer(scene, &asked);
-        if seen.is_some() && self.is_counted(scene, place, &asked) {
+        let Kept { seen, place, .. } = kept_answer(scene, &wanted);
+        if seen.is_some() && self.is_counted(scene, place, &wanted) {
             return Ok(seen);
         }
-        self.look_first(scene, asked)
+        self.look_first(scene, wanted.asked())
     }
 }

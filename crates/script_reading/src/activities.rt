@@ -5,14 +5,14 @@ ghost use Rattle.handler_meaning.specs.Observing as read;
 ghost use Rattle.handler_meaning.specs.Observing.{key_of};
 ghost use Rattle.handler_meaning.specs.declared.key.Key.TheVariants as k;
 ghost use Rattle.script_machine.specs.Agreeing.{Agrees};
-ghost use Rattle.script_machine.specs.Asking.{AreNumberedAsked, key_asked};
+ghost use Rattle.script_machine.specs.Asking.{AreNumberedBy, state_wanted};
 ghost use Rattle.script_machine.specs.Lending.{standing};
 ghost use Rattle.script_machine.specs.Settings.{setting_of};
 
 use crate::answers::activity_in;
 use crate::things::{Thing, count_made, made_by};
 use handler_meaning::{AcSeen, FailKind};
-use script_machine::{Asked, Machine, Scene, Stop, is_same_ref};
+use script_machine::{Machine, Scene, Stop, WantedState, is_same_ref};
 use slee_effect::{Effect, Ref};
 use slee_value::ActivityId;
 
@@ -69,12 +69,14 @@ fn state_laid(
     state_over(activity, before, machine.effects(), first)
 }
 
-fn state_key(activity: Ref) -> Option<Asked<'static>>
-    ensures key { option_map key_asked result ≡ key_of (λ n. k.AcState (record { 0 = n })) activity }
-    ensures numbered { (names : List (List ℕ)) → AreNumberedAsked names result }
+fn state_key(activity: Ref) -> Option<WantedState>
+    ensures key { option_map state_wanted result ≡ key_of (λ n. k.AcState (record { 0 = n })) activity }
+    ensures numbered { (names : List (List ℕ)) → AreNumberedBy (λ _ _. Unit {0}) names result }
 {
     match activity {
-        Ref::Known(number) => Some(Asked::AcState(ActivityId(number))),
+        Ref::Known(number) => Some(WantedState {
+            activity: ActivityId(number),
+        }),
         Ref::Fresh(_) => None,
     }
 }

@@ -1,5 +1,5 @@
 //! Answers by the form that their keys have. One of another form is read as the empty answer.
-ghost use Rattle.std.specs.Prelude.{◌≡◌, map, IfOk};
+ghost use Rattle.std.specs.Prelude.{◌≡◌, ◌++◌, map, OnOk};
 ghost use Rattle.std.specs.Option.{option_copied};
 ghost use Rattle.slee_effect.specs.declared.reference.Ref.TheVariants as ref;
 ghost use Rattle.handler_meaning.specs.Answers.{number_in, activity_in, flag_in, refers_in, ids_in, row_in};
@@ -7,7 +7,6 @@ ghost use Rattle.handler_meaning.specs.Answers.{number_in, activity_in, flag_in,
 use handler_meaning::{AcSeen, Seen};
 use slee_effect::Ref;
 use slee_value::{NoMemory, Payload};
-use std::alloc::Global;
 
 pub(crate) fn number_in(seen: Option<&Seen>) -> i64
     ensures { result ≡ number_in (option_copied seen.entry) }
@@ -55,19 +54,19 @@ pub(crate) fn ids_in<'a>(seen: Option<&'a Seen>) -> &'a [u64]
     }
 }
 
-/// The things of an answer, in its order.
-pub(crate) fn known_in(alloc: Global, seen: Option<&Seen>) -> Result<Vec<Ref>, NoMemory>
-    ensures { IfOk result (λ refs. refs.items ≡ map ref.Known (ids_in (option_copied seen.entry))) }
+/// Puts the things of an answer, in its order, behind those of a list.
+pub(crate) fn put_known(seen: Option<&Seen>, refs: &mut Vec<Ref>) -> Result<(), NoMemory>
+    ensures { OnOk result (refs.new.items ≡ refs.old.items ++ map ref.Known (ids_in (option_copied seen.entry))) }
 {
     let Some(Seen::Ids(ids)) = seen else {
-        return Ok(Vec::new(alloc));
+        return Ok(());
     };
     let numbers = ids.as_slice();
-    let mut refs = Vec::with_capacity(alloc, numbers.len())?;
+    refs.reserve(numbers.len())?;
     for number in numbers {
         refs.push(Ref::Known(*number))?;
     }
-    Ok(refs)
+    Ok(())
 }
 
 pub(crate) fn row_in<'a>(seen: Option<&'a Seen>) -> Option<&'a Payload>

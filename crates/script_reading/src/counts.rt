@@ -17,7 +17,9 @@ use crate::effects::{NumberedEffects, effects_before, own_effects};
 use crate::lists::children_key;
 use crate::things::{Thing, count_made, made_by};
 use handler_meaning::Seen;
-use script_machine::{Machine, NumberedName, Scene, Stop, is_removed, is_same_name, is_same_ref};
+use script_machine::{
+    Machine, NumberedName, Scene, Spelling, Stop, is_removed, is_same_name, is_same_ref,
+};
 use script_types::{NamedList, Symbol};
 use slee_effect::{Effect, Ref};
 use slee_value::{Name, Text};
@@ -56,7 +58,7 @@ pub(crate) fn creates(
             relation: other,
             priority: _,
         } => {
-            let name = other.as_str();
+            let name = Spelling::Text(other);
             is_same_ref(*parent, entity)
                 && is_same_name(
                     names,

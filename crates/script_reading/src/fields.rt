@@ -7,7 +7,7 @@ ghost use Rattle.handler_meaning.specs.Observing.{key_of};
 ghost use Rattle.handler_meaning.specs.declared.key.Key.TheVariants as k;
 ghost use Rattle.script_machine.specs.Agreeing.{AgreesAs, EndsFinding};
 ghost use Rattle.script_types.specs.Numbers.{IsNumbered};
-ghost use Rattle.script_machine.specs.Asking.{AreNumberedAsked, key_asked};
+ghost use Rattle.script_machine.specs.Asking.{AreNumberedBy, attribute_wanted, field_wanted};
 ghost use Rattle.script_machine.specs.Machines.{state_of};
 ghost use Rattle.script_machine.specs.Numbering.{effect_number};
 ghost use Rattle.script_machine.specs.Lending.{value_lent, value_at, standing, set_by};
@@ -17,8 +17,8 @@ ghost use Rattle.script_reading.specs.Done.{IsNumberedProperty, sets_property, l
 use crate::effects::{NumberedEffects, effects_before, own_effects};
 use handler_meaning::Seen;
 use script_machine::{
-    Asked, Lent, Machine, NumberedName, Place, Scalar, Scene, Stop, is_same_name, is_same_ref,
-    set_at,
+    Lent, Machine, NumberedName, Place, Scalar, Scene, Spelling, Stop, WantedAttribute,
+    WantedField, is_same_name, is_same_ref, set_at,
 };
 use script_types::{NamedList, Symbol};
 use slee_effect::{Effect, Ref};
@@ -52,7 +52,7 @@ fn sets_property(
                 ..
             },
         ) => {
-            let name = field.as_str();
+            let name = Spelling::Text(field);
             is_same_ref(*other, entity)
                 && is_same_name(
                     names,
@@ -68,7 +68,7 @@ fn sets_property(
                 ..
             },
         ) => {
-            let name = attribute.as_str();
+            let name = Spelling::Text(attribute);
             is_same_ref(*other, activity)
                 && is_same_name(
                     names,
@@ -165,22 +165,28 @@ fn lend_property<'a, 's: 'a>(
     }
 }
 
-fn field_key(entity: Ref, name: &Symbol<Name>) -> Option<Asked>
-    ensures key { option_map key_asked result ≡ key_of (λ n. k.Field (record { 0 = n }) name.now.name) entity }
-    ensures numbered { (names : List (List ℕ)) → IsNumbered names name.now → AreNumberedAsked names result }
+fn field_key(entity: Ref, name: &Symbol<Name>) -> Option<WantedField>
+    ensures key { option_map field_wanted result ≡ key_of (λ n. k.Field (record { 0 = n }) name.now.name) entity }
+    ensures numbered { (names : List (List ℕ)) → IsNumbered names name.now → AreNumberedBy (λ names x. IsNumbered names x.name.now) names result }
 {
     match entity {
-        Ref::Known(number) => Some(Asked::Field(EntityId(number), name)),
+        Ref::Known(number) => Some(WantedField {
+            entity: EntityId(number),
+            name,
+        }),
         Ref::Fresh(_) => None,
     }
 }
 
-fn attribute_key(activity: Ref, key: &Symbol<Text>) -> Option<Asked>
-    ensures key { option_map key_asked result ≡ key_of (λ n. k.Attr (record { 0 = n }) key.now.name) activity }
-    ensures numbered { (names : List (List ℕ)) → IsNumbered names key.now → AreNumberedAsked names result }
+fn attribute_key(activity: Ref, key: &Symbol<Text>) -> Option<WantedAttribute>
+    ensures key { option_map attribute_wanted result ≡ key_of (λ n. k.Attr (record { 0 = n }) key.now.name) activity }
+    ensures numbered { (names : List (List ℕ)) → IsNumbered names key.now → AreNumberedBy (λ names x. IsNumbered names x.key.now) names result }
 {
     match activity {
-        Ref::Known(number) => Some(Asked::Attr(ActivityId(number), key)),
+        Ref::Known(number) => Some(WantedAttribute {
+            activity: ActivityId(number),
+            key,
+        }),
         Ref::Fresh(_) => None,
     }
 }

@@ -1,5 +1,5 @@
 //! Lists that are read, with effects done to them: the children of a relation, and an entity's activities.
-ghost use Rattle.std.specs.Prelude.{◌≡◌, List, ℕ, ◌≤◌, ◌<◌, ◌+◌, ◌++◌, ◌^◌, length, map, IfOk, OnOk, option_map};
+ghost use Rattle.std.specs.Prelude.{◌≡◌, List, ℕ, ◌≤◌, ◌<◌, ◌+◌, ◌++◌, ◌^◌, [], length, map, OnOk, option_map};
 ghost use Rattle.std.specs.Option.{option_copied};
 ghost use Rattle.slee_effect.specs.declared.reference.Ref.{Ref};
 ghost use Rattle.slee_effect.specs.declared.reference.Ref.TheVariants as ref;
@@ -17,7 +17,7 @@ ghost use Rattle.script_reading.specs.Counting.{creates};
 ghost use Rattle.script_machine.specs.Settings.{setting_of};
 ghost use Rattle.script_reading.specs.Done.{done};
 
-use crate::answers::known_in;
+use crate::answers::put_known;
 use crate::counts::creates;
 use crate::effects::{NumberedEffects, effects_before, own_effects};
 use crate::refs::{cut, put};
@@ -77,24 +77,25 @@ fn do_to_children(
 }
 
 #[tactic(auto, using(crate::proofs::CountLemmas::laid_behind))]
-fn children_laid(
+fn put_children(
     machine: &Machine,
     scene: &Scene,
     relation: &Symbol<Name>,
     seen: Option<&Seen>,
-) -> Result<Vec<Ref>, NoMemory>
+    refs: &mut Vec<Ref>,
+) -> Result<(), NoMemory>
     requires names { machine.now.names ≡ scene.now.names.now }
     requires relation { IsNumbered scene.now.names.now relation.now }
-    ensures { IfOk result (λ refs. refs.items ≡ overlay entities_by (children_after scene.now.me relation.now.name) (scene.now.effects.now ++ machine.now.effects) (map ref.Known (ids_in (option_copied seen.entry)))) }
+    requires empty { refs.old.items ≡ [] }
+    ensures { OnOk result (refs.new.items ≡ overlay entities_by (children_after scene.now.me relation.now.name) (scene.now.effects.now ++ machine.now.effects) (map ref.Known (ids_in (option_copied seen.entry)))) }
 {
-    let mut refs = known_in(scene.alloc, seen)?;
+    put_known(seen, refs)?;
     let names = scene.names;
     let earlier = effects_before(scene);
-    do_to_children(names, scene.me, relation, 0, earlier, &mut refs)?;
+    do_to_children(names, scene.me, relation, 0, earlier, refs)?;
     let before = count_made(Thing::Entity, scene.effects);
     let own = own_effects(machine);
-    do_to_children(names, scene.me, relation, before, own, &mut refs)?;
-    Ok(refs)
+    do_to_children(names, scene.me, relation, before, own, refs)
 }
 
 pub(crate) fn children_key(entity: Ref, relation: &Symbol<Name>) -> Option<Asked>
@@ -121,7 +122,9 @@ pub fn children(
     ensures kept { standing machine.new ≡ standing machine.old }
 {
     let seen = machine.look(scene, children_key(scene.me, relation))?;
-    Ok(children_laid(machine, scene, relation, seen)?)
+    let mut refs = machine.take_items(scene.alloc);
+    put_children(machine, scene, relation, seen, &mut refs)?;
+    Ok(refs)
 }
 
 /// Does an effect to the activities of an entity.
@@ -153,17 +156,18 @@ fn do_to_activities(entity: Ref, effects: &[Effect], refs: &mut Vec<Ref>) -> Res
 }
 
 #[tactic(auto, using(crate::proofs::OverlayLemmas::activities_laid))]
-fn activities_laid(
+fn put_activities(
     machine: &Machine,
     scene: &Scene,
     seen: Option<&Seen>,
-) -> Result<Vec<Ref>, NoMemory>
-    ensures { IfOk result (λ refs. refs.items ≡ overlay activities_by (activities_after scene.now.me) (scene.now.effects.now ++ machine.now.effects) (map ref.Known (ids_in (option_copied seen.entry)))) }
+    refs: &mut Vec<Ref>,
+) -> Result<(), NoMemory>
+    requires empty { refs.old.items ≡ [] }
+    ensures { OnOk result (refs.new.items ≡ overlay activities_by (activities_after scene.now.me) (scene.now.effects.now ++ machine.now.effects) (map ref.Known (ids_in (option_copied seen.entry)))) }
 {
-    let mut refs = known_in(scene.alloc, seen)?;
-    do_to_activities(scene.me, scene.effects, &mut refs)?;
-    do_to_activities(scene.me, machine.effects(), &mut refs)?;
-    Ok(refs)
+    put_known(seen, refs)?;
+    do_to_activities(scene.me, scene.effects, refs)?;
+    do_to_activities(scene.me, machine.effects(), refs)
 }
 
 fn activities_key(entity: Ref) -> Option<Asked<'static>>
@@ -185,5 +189,7 @@ pub fn attached_activities(machine: &mut Machine, scene: &Scene) -> Result<Vec<R
     ensures kept { standing machine.new ≡ standing machine.old }
 {
     let seen = machine.look(scene, activities_key(scene.me))?;
-    Ok(activities_laid(machine, scene, seen)?)
+    let mut refs = machine.take_items(scene.alloc);
+    put_activities(machine, scene, seen, &mut refs)?;
+    Ok(refs)
 }

@@ -19,7 +19,9 @@ ghost use Rattle.script_reading.specs.Masked.{masked, mask_in, mask_is_on, mask_
 
 use crate::effects::{NumberedEffects, effects_before, own_effects};
 use handler_meaning::{FailKind, Seen};
-use script_machine::{Asked, Machine, NumberedName, Scene, Stop, is_same_name, is_same_ref};
+use script_machine::{
+    Asked, Machine, NumberedName, Scene, Spelling, Stop, is_same_name, is_same_ref,
+};
 use script_types::{NamedList, Symbol};
 use slee_effect::{Effect, Ref};
 use slee_value::{ActivityId, EntityId, Text};
@@ -54,7 +56,7 @@ fn is_one_of(
 {
     'events: for place in 0..events.len() {
         let other = NumberedName {
-            name: events[place].as_str(),
+            name: Spelling::Text(&events[place]),
             number: numbers[place],
         };
         if is_same_name(names, NumberedName::of_text(event), other) {
@@ -96,7 +98,7 @@ fn is_on_event(
 {
     match effect {
         Effect::SetMask { event: other, .. } => {
-            let name = other.as_str();
+            let name = Spelling::Text(other);
             is_same_name(
                 names,
                 NumberedName::of_text(event),

@@ -14,7 +14,7 @@ ghost use Rattle.script_reading.specs.Rows.{AreNumberedIn, row_lent, row_of, pro
 use crate::answers::row_in;
 use handler_meaning::FailKind;
 use script_machine::{
-    Asked, Lent, Machine, NumberedName, Place, Scene, Stop, is_same_name, text_of,
+    Asked, Lent, Machine, NumberedName, Place, Scene, Spelling, Stop, is_same_name, text_of,
 };
 use script_types::{NamedList, Symbol};
 use slee_value::{Kind, Name, Payload, Text, Value};
@@ -68,7 +68,7 @@ fn value_under<'a>(
     'fields: for place in 0..fields.len() {
         let (other, value) = &fields[place];
         let field = NumberedName {
-            name: other.as_str(),
+            name: Spelling::Name(other),
             number: numbers[place],
         };
         if is_same_name(names, field, NumberedName::of_name(name)) {

@@ -47,6 +47,7 @@ fn end_null(machine: &mut Machine, scene: &Scene, term: &Term) -> Result<(), Sto
 }
 
 /// A step on activities.
+#[inline(never)]
 pub fn do_on_activities(
     machine: &mut Machine,
     scene: &Scene,

@@ -16,6 +16,7 @@ use slee_value::{Name, Text};
 use term_run::{eval, eval_activity, eval_calculated, is_calculated};
 
 /// `let NAME = e;`
+#[inline(always)]
 fn declare_value(machine: &mut Machine, scene: &Scene, term: &Term) -> Result<(), Stop>
     requires names { machine.old.names ≡ scene.now.names.now }
     requires term { IsNumberedTerm scene.now.names.now (term_of term.now) }
@@ -32,6 +33,7 @@ fn declare_value(machine: &mut Machine, scene: &Scene, term: &Term) -> Result<()
 }
 
 /// `NAME = e;`
+#[inline(always)]
 fn assign_value(machine: &mut Machine, scene: &Scene, place: usize, term: &Term) -> Result<(), Stop>
     requires names { machine.old.names ≡ scene.now.names.now }
     requires term { IsNumberedTerm scene.now.names.now (term_of term.now) }
@@ -48,6 +50,7 @@ fn assign_value(machine: &mut Machine, scene: &Scene, place: usize, term: &Term)
 }
 
 /// `self.NAME = e;`
+#[inline(never)]
 fn set_field(
     machine: &mut Machine,
     scene: &Scene,
@@ -73,6 +76,7 @@ fn set_field(
 }
 
 /// `attr(e, NAME) = e;`
+#[inline(never)]
 fn set_attribute(
     machine: &mut Machine,
     scene: &Scene,
@@ -102,6 +106,7 @@ fn set_attribute(
 }
 
 /// A step that gives a value to something.
+#[inline(always)]
 pub fn do_assigning(machine: &mut Machine, scene: &Scene, step: &Assigning) -> Result<(), Stop>
     requires names { machine.old.names ≡ scene.now.names.now }
     requires step { IsNumberedAssigning scene.now.names.now (assigning_of step.now) }

@@ -96,6 +96,7 @@ fn set_priority(machine: &mut Machine, scene: &Scene, place: usize, term: &Term)
 }
 
 /// A step on child entities.
+#[inline(never)]
 pub fn do_on_entities(machine: &mut Machine, scene: &Scene, step: &OnEntities) -> Result<(), Stop>
     requires names { machine.old.names ≡ scene.now.names.now }
     requires step { IsNumberedOnEntities scene.now.names.now (on_entities_of step.now) }

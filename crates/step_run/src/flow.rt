@@ -5,5 +5,5 @@ use slee_effect::Val;
 #[derive(Debug, Drop)]
 pub enum Flow {
     Next,
-    Returned(Val),
+    Returned(Box<Val>),
 }

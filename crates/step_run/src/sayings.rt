@@ -50,6 +50,7 @@ fn count_usage(machine: &mut Machine, scene: &Scene, name: &Text, term: &Term) -
 }
 
 /// A step that says something or ends the script.
+#[inline(never)]
 pub fn do_saying(machine: &mut Machine, scene: &Scene, step: &Saying) -> Result<Flow, Stop>
     requires names { machine.old.names ≡ scene.now.names.now }
     requires step { IsNumberedSaying scene.now.names.now (saying_of step.now) }
@@ -60,7 +61,10 @@ pub fn do_saying(machine: &mut Machine, scene: &Scene, step: &Saying) -> Result<
     match step {
         Saying::Emit(term) => emit(machine, scene, term),
         Saying::Usage(name, term) => count_usage(machine, scene, name, term),
-        Saying::Return(term) => Ok(Flow::Returned(eval(machine, scene, term)?)),
+        Saying::Return(term) => {
+            let value = eval(machine, scene, term)?;
+            Ok(Flow::Returned(machine.put_in_box(scene.alloc, value)?))
+        }
         Saying::Throw(term) => {
             let text = eval_text(machine, scene, term)?;
             Err(Stop::Thrown(Box::new(scene.alloc, text)?))

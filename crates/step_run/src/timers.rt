@@ -86,6 +86,7 @@ fn cancel(machine: &mut Machine, scene: &Scene, term: &Term) -> Result<(), Stop>
 }
 
 /// A step on timers.
+#[inline(never)]
 pub fn do_on_timers(machine: &mut Machine, scene: &Scene, step: &OnTimers) -> Result<(), Stop>
     requires names { machine.old.names ≡ scene.now.names.now }
     requires step { IsNumberedOnTimers scene.now.names.now (on_timers_of step.now) }

@@ -7,6 +7,7 @@ mod asked_rows;
 mod asked_timers;
 mod atoms;
 mod chains;
+mod joins;
 mod questions;
 mod terms;
 mod typed;

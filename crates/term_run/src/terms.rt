@@ -14,11 +14,13 @@ ghost use Rattle.term_run.specs.Links.{linked, chained, compared, applied, asked
 
 use crate::atoms::{constant_scalar, made_flag, single, single_scalar, slot_scalar};
 use crate::chains::spend;
+use crate::joins::text_chain;
 use crate::questions::{ask, ask_scalar, slot_length};
 use script_machine::{
     Lent, Machine, Place, Scene, Stop, flag_within, int_within, is_arithmetic, is_choice,
-    is_decided, is_decided_flag, is_of_numbers,
+    is_decided_flag, is_of_numbers,
 };
+use script_reading::field_scalar;
 use script_types::{Atom, Joint, Question, Term, Test};
 use slee_effect::Val;
 use slee_value::Value;
@@ -154,6 +156,10 @@ pub(crate) fn eval_number(
             machine.tick()?;
             constant_scalar(machine, scene, value)
         }
+        Term::Single(Atom::Field(name, kind)) => {
+            machine.tick()?;
+            field_scalar(machine, scene, name, *kind)
+        }
         _ => eval_any_number(machine, scene, term),
     }
 }
@@ -183,9 +189,31 @@ fn eval_any_number(machine: &mut Machine, scene: &Scene, term: &Term) -> Result<
     }
 }
 
-/// The truth value that a term gives, if it gives one.
+/// The truth value that a term gives, if it gives one. Most are comparisons and fields.
+#[inline(always)]
 #[cycle(terms)]
 pub fn eval_truth(machine: &mut Machine, scene: &Scene, term: &Term) -> Result<Option<bool>, Stop>
+    requires names { machine.old.names ≡ scene.now.names.now }
+    requires term { IsNumberedTerm scene.now.names.now (term_of term.now) }
+    ensures finds { EndsFinding flag NoFlag (eval (setting_of scene.now) (term_of term.now) (state_of machine.old)) machine.new result }
+    ensures spent { machine.new.left ≤ machine.old.left }
+    ensures names { machine.new.names ≡ machine.old.names }
+    ensures kept { standing machine.new ≡ standing machine.old }
+{
+    match term {
+        Term::Compare(parts) => Ok(Some(eval_compared(machine, scene, parts)?)),
+        Term::Single(Atom::Field(name, kind)) => {
+            machine.tick()?;
+            field_scalar(machine, scene, name, *kind)
+        }
+        _ => eval_any_truth(machine, scene, term),
+    }
+}
+
+/// The truth value that a term gives, if it gives one.
+#[inline(never)]
+#[cycle(terms)]
+fn eval_any_truth(machine: &mut Machine, scene: &Scene, term: &Term) -> Result<Option<bool>, Stop>
     requires names { machine.old.names ≡ scene.now.names.now }
     requires term { IsNumberedTerm scene.now.names.now (term_of term.now) }
     ensures finds { EndsFinding flag NoFlag (eval (setting_of scene.now) (term_of term.now) (state_of machine.old)) machine.new result }
@@ -207,7 +235,7 @@ pub fn eval_truth(machine: &mut Machine, scene: &Scene, term: &Term) -> Result<O
 /// Where that stands which a question to a term gives.
 #[inline(never)]
 #[cycle(terms)]
-fn find_asked<'a, 's: 'a>(
+pub(crate) fn find_asked<'a, 's: 'a>(
     machine: &mut Machine,
     scene: &Scene<'s>,
     parts: &'a (Question, Term),
@@ -306,6 +334,7 @@ fn asked_truth(
 }
 
 /// What a comparison of two terms gives.
+#[inline(never)]
 #[cycle(terms)]
 fn eval_compared(
     machine: &mut Machine,
@@ -436,38 +465,20 @@ fn eval_chain(
     ensures names { machine.new.names ≡ machine.old.names }
     ensures kept { standing machine.new ≡ standing machine.old }
 {
-    if is_arithmetic(first.1) {
-        let n = number_chain(machine, scene, first, more)?;
-        return Ok(Val::Plain(Value::Int(n)));
+    match first.1 {
+        Joint::Join => {
+            let text = text_chain(machine, scene, first, more)?;
+            Ok(Val::Plain(Value::Text(text)))
+        }
+        Joint::Both | Joint::Either => {
+            let truth = truth_chain(machine, scene, first, more)?;
+            Ok(Val::Plain(Value::Bool(truth)))
+        }
+        _ => {
+            let number = number_chain(machine, scene, first, more)?;
+            Ok(Val::Plain(Value::Int(number)))
+        }
     }
-    if is_choice(first.1) {
-        let truth = truth_chain(machine, scene, first, more)?;
-        return Ok(Val::Plain(Value::Bool(truth)));
-    }
-    value_chain(machine, scene, first, more)
-}
-
-/// What a chain gives that begins with an operator between values of another kind.
-#[inline(never)]
-#[cycle(terms)]
-fn value_chain(
-    machine: &mut Machine,
-    scene: &Scene,
-    first: &(Term, Joint, Term),
-    more: &[(Joint, Term)],
-) -> Result<Val, Stop>
-    requires names { machine.old.names ≡ scene.now.names.now }
-    requires first { IsNumberedTerm scene.now.names.now (combine_of first.now) }
-    requires more { AllByRecursion (λ x. IsNumberedTerm scene.now.names.now (term_of x.1)) more.now }
-    requires joint { is_choice first.now.1 ≡ false }
-    ensures agrees { Agrees (chained (setting_of scene.now) (combine_of first.now) more.now) machine.old machine.new result }
-    ensures spent { machine.new.left ≤ machine.old.left }
-    ensures names { machine.new.names ≡ machine.old.names }
-    ensures kept { standing machine.new ≡ standing machine.old }
-{
-    spend(machine, more.len())?;
-    let x = eval_pair(machine, scene, first)?;
-    eval_links(machine, scene, more, x)
 }
 
 /// The number that a chain of operators gives, if it gives one.
@@ -563,46 +574,6 @@ fn truth_chain(
     truth_links(machine, scene, more, x)
 }
 
-/// What the first operator of a chain gives, which is one between values of another kind.
-#[cycle(terms)]
-#[tactic(auto, using(script_machine::proofs::FlagLemmas::never_decided))]
-fn eval_pair(machine: &mut Machine, scene: &Scene, parts: &(Term, Joint, Term)) -> Result<Val, Stop>
-    requires names { machine.old.names ≡ scene.now.names.now }
-    requires parts { IsNumberedTerm scene.now.names.now (combine_of parts.now) }
-    requires joint { is_choice parts.now.1 ≡ false }
-    ensures agrees { Agrees (eval (setting_of scene.now) (combine_of parts.now)) machine.old machine.new result }
-    ensures spent { machine.new.left ≤ machine.old.left }
-    ensures names { machine.new.names ≡ machine.old.names }
-    ensures kept { standing machine.new ≡ standing machine.old }
-    ensures less { OnOk result (machine.new.left < machine.old.left) }
-{
-    machine.tick()?;
-    let (one, joint, other) = parts;
-    let x = find(machine, scene, one)?;
-    let y = find(machine, scene, other)?;
-    machine.apply(scene.alloc, *joint, machine.lend(&x), machine.lend(&y))
-}
-
-/// An operator between a value and what a term gives.
-#[cycle(terms)]
-fn apply_to(
-    machine: &mut Machine,
-    scene: &Scene,
-    joint: Joint,
-    x: &Val,
-    term: &Term,
-) -> Result<Val, Stop>
-    requires names { machine.old.names ≡ scene.now.names.now }
-    requires term { IsNumberedTerm scene.now.names.now (term_of term.now) }
-    ensures agrees { Agrees (applied joint x.now (eval (setting_of scene.now) (term_of term.now))) machine.old machine.new result }
-    ensures spent { machine.new.left ≤ machine.old.left }
-    ensures names { machine.new.names ≡ machine.old.names }
-    ensures kept { standing machine.new ≡ standing machine.old }
-{
-    let y = find(machine, scene, term)?;
-    machine.apply(scene.alloc, joint, Lent::Set(x), machine.lend(&y))
-}
-
 /// What the first operator of a chain gives, which is one between numbers.
 #[cycle(terms)]
 fn number_pair(
@@ -682,31 +653,6 @@ fn choose(
         return Err(Stop::Unchecked);
     };
     machine.choose(joint, x, y)
-}
-
-/// What stands behind a value, joined to it from left to right.
-#[cycle(terms)]
-fn eval_links(
-    machine: &mut Machine,
-    scene: &Scene,
-    links: &[(Joint, Term)],
-    first: Val,
-) -> Result<Val, Stop>
-    requires names { machine.old.names ≡ scene.now.names.now }
-    requires links { AllByRecursion (λ x. IsNumberedTerm scene.now.names.now (term_of x.1)) links.now }
-    ensures agrees { Agrees (linked (setting_of scene.now) links.now first) machine.old machine.new result }
-    ensures spent { machine.new.left ≤ machine.old.left }
-    ensures names { machine.new.names ≡ machine.old.names }
-    ensures kept { standing machine.new ≡ standing machine.old }
-{
-    let mut x = first;
-    'links: for (joint, term) in links {
-        if is_decided(*joint, Lent::Set(&x)) {
-            continue;
-        }
-        x = apply_to(machine, scene, *joint, &x, term)?;
-    }
-    Ok(x)
 }
 
 /// What stands behind a number, joined to it from left to right.

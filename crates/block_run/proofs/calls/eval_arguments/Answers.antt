@@ -11,7 +11,7 @@ use Rattle.block_run.proofs.calls.eval_arguments.Goals as goal
 pub returns-in_err-x-clause-agrees : goal.returns-in_err-x-clause-agrees
 returns-in_err-x-clause-agrees c =
     let p = err_from_is_err_and c.from_residual.result c.from_residual.ensures.1 in
-    rw (p.1, p.2) (arguments_stop (setting_of c.args.scene.now) c.args.terms.now c.terms.term-index c.term-item.result c.terms.arguments.items (state_of c.terms.machine) c.eval.new.machine c.in_err-x.field-0.0 _ c.terms-test.true c.term-item.is c.terms.invariant.0 c.in_err-x.ensures.agrees)
+    rw (p.1, p.2, ← c.take_variables-arguments.ensures.same) (arguments_stop (setting_of c.args.scene.now) c.args.terms.now c.terms.term-index c.term-item.result c.terms.arguments.items (state_of c.terms.machine) c.eval.new.machine c.in_err-x.field-0.0 _ c.terms-test.true c.term-item.is c.terms.invariant.0 c.in_err-x.ensures.agrees)
 
 pub terms-preserved : goal.terms-preserved
 terms-preserved c =

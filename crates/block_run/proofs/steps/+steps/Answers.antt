@@ -1,4 +1,5 @@
 use Rattle.std.proofs.Common.{rules, ◌≡◌, ◌+◌, ℕ, List, true, false, sym, ap, subst, ◌∙◌, arith}
+use Rattle.std.specs.Prelude.{box_value}
 use Rattle.std.proofs.lemmas.Result.{err_from_is_err_and}
 use Rattle.script_types.proofs.ProgramRows.{if_step, while_step, for_step}
 use Rattle.script_types.specs.Numbers.{AreNumberedSteps, IsNumberedProgram}
@@ -79,7 +80,7 @@ do_all-returns-in_err-do_step-clause-agrees t c =
 
 pub do_all-returns-in-Returned-clause-agrees : goal.do_all-returns-in-Returned-clause-agrees
 do_all-returns-in-Returned-clause-agrees t c =
-    sym (all_step c.args.stage.now c.args.depth c.args.body.now c.steps.step-index c.step-item.result (state_of c.steps.machine) (state_of c.do_step.new.machine) _ (Returned c.in-Returned.x) _ c.steps-test.true c.step-item.is c.steps.invariant.0 c.in_ok-do_step.ensures.agrees (ap flow_of c.in-Returned.is))
+    sym (all_step c.args.stage.now c.args.depth c.args.body.now c.steps.step-index c.step-item.result (state_of c.steps.machine) (state_of c.do_step.new.machine) _ (Returned (box_value c.in-Returned.x)) _ c.steps-test.true c.step-item.is c.steps.invariant.0 c.in_ok-do_step.ensures.agrees (ap flow_of c.in-Returned.is))
 
 pub do_all-steps-preserved : goal.do_all-steps-preserved
 do_all-steps-preserved t c =
@@ -105,7 +106,7 @@ do_walk-returns-in_err-do_turn-clause-agrees t c =
 
 pub do_walk-returns-in-Returned-clause-agrees : goal.do_walk-returns-in-Returned-clause-agrees
 do_walk-returns-in-Returned-clause-agrees t c =
-    sym (walk_step c.args.range.now c.args.items.now c.items.item-index (all_in c.args.stage.now c.args.depth (steps_of c.args.body.now)) _ c.loop_variable.result (state_of c.items.machine) (state_of c.do_turn.new.machine) _ (Returned c.in-Returned.x) _ c.items-test.true c.loop_variable.ensures c.items.invariant.0 c.in_ok-do_turn.ensures.agrees (ap flow_of c.in-Returned.is))
+    sym (walk_step c.args.range.now c.args.items.now c.items.item-index (all_in c.args.stage.now c.args.depth (steps_of c.args.body.now)) _ c.loop_variable.result (state_of c.items.machine) (state_of c.do_turn.new.machine) _ (Returned (box_value c.in-Returned.x)) _ c.items-test.true c.loop_variable.ensures c.items.invariant.0 c.in_ok-do_turn.ensures.agrees (ap flow_of c.in-Returned.is))
 
 pub do_walk-items-preserved : goal.do_walk-items-preserved
 do_walk-items-preserved t c =
@@ -141,7 +142,7 @@ enter-returns-in_err-flow-clause-agrees t c =
 
 pub enter-returns-clause-agrees : goal.enter-returns-clause-agrees
 enter-returns-clause-agrees t c =
-    method_ends c.args.stage.now c.args.call.now c.args.depth c.args.child c.args.arguments.items (state_of c.args.machine.now) c.stage_for-inner.result c.in-Some.block.now c.in-Some-method_at.method.now c.as_slice.result.now c.as_slice-2.result.now (state_of c.replace_variables-outer.new.self) (state_of c.do_all.new.machine) (state_of c.replace_variables.new.self) c.keep_result.new.machine (flow_of c.in_ok-flow.flow) c.replace_variables-outer.result.items c.keep_result.result (record { block_is = sym c.in-Some.ensures; methods_are = c.as_slice.ensures; method_is = sym c.in-Some-method_at.ensures; steps_are = c.as_slice-2.ensures; there = c.stage_for-inner.ensures.given; same = c.stage_for-inner.ensures.program; starts = ap state_of c.replace_variables-outer.ensures.new }) c.in_ok-flow.ensures.agrees (ap state_of c.replace_variables.ensures.new) c.replace_variables-outer.ensures.old c.keep_result.ensures.agrees
+    method_ends c.args.stage.now c.args.call.now c.args.depth c.args.child c.args.arguments.items (state_of c.args.machine.now) c.stage_for-inner.result c.in-Some.block.now c.in-Some-method_at.method.now c.as_slice.result.now c.as_slice-2.result.now (state_of c.replace_variables-outer.new.self) (state_of c.do_all.new.machine) (state_of c.keep_variables.new.self) c.keep_result.new.machine (flow_of c.in_ok-flow.flow) c.replace_variables-outer.result.items c.keep_result.result (record { block_is = sym c.in-Some.ensures; methods_are = c.as_slice.ensures; method_is = sym c.in-Some-method_at.ensures; steps_are = c.as_slice-2.ensures; there = c.stage_for-inner.ensures.given; same = c.stage_for-inner.ensures.program; starts = ap state_of c.replace_variables-outer.ensures.new }) c.in_ok-flow.ensures.agrees (ap state_of (c.keep_variables.ensures ∙ c.replace_variables-used.ensures.new)) c.replace_variables-outer.ensures.old c.keep_result.ensures.agrees
 
 pub repeat-returns-in_err-eval_flag-clause-agrees : goal.repeat-returns-in_err-eval_flag-clause-agrees
 repeat-returns-in_err-eval_flag-clause-agrees t c =
@@ -170,7 +171,7 @@ repeat-returns-in-Returned-clause-agrees t c =
     let same : c.from-most.result ≡ c.args.machine.now.left = omega (arith, c.from-most.ensures, c.left.ensures) in
     let so_far = whole c.from-most.result (eval (given c.args.stage.now) (term_of c.args.test.now)) (scoped (all_in c.args.stage.now c.args.depth (steps_of c.args.body.now))) (state_of c.args.machine.now) _ same c.turns.invariant.0 in
     let yes : c.in_ok-eval_flag.field-0 ≡ true = search rules in
-    sym (turn_step (c.from-most.result + 1) c.turns.turn (eval (given c.args.stage.now) (term_of c.args.test.now)) (scoped (all_in c.args.stage.now c.args.depth (steps_of c.args.body.now))) (state_of c.turns.machine) (state_of c.eval_flag.new.machine) (state_of c.do_block.new.machine) c.in_ok-eval_flag.field-0 _ (Returned c.in-Returned.x) _ c.turns-test.true so_far c.in_ok-eval_flag.ensures.agrees yes c.in_ok-do_block.ensures.agrees (ap flow_of c.in-Returned.is))
+    sym (turn_step (c.from-most.result + 1) c.turns.turn (eval (given c.args.stage.now) (term_of c.args.test.now)) (scoped (all_in c.args.stage.now c.args.depth (steps_of c.args.body.now))) (state_of c.turns.machine) (state_of c.eval_flag.new.machine) (state_of c.do_block.new.machine) c.in_ok-eval_flag.field-0 _ (Returned (box_value c.in-Returned.x)) _ c.turns-test.true so_far c.in_ok-eval_flag.ensures.agrees yes c.in_ok-do_block.ensures.agrees (ap flow_of c.in-Returned.is))
 
 pub repeat-turns-preserved : goal.repeat-turns-preserved
 repeat-turns-preserved t c =
