@@ -1,6 +1,7 @@
 -- What a step does by its kind, and steps one behind another.
-use Rattle.std.proofs.Common.{◌≡◌, ◌<◌, ◌≤◌, ◌+◌, ℕ, List, ◌∷◌, length, drop, get_or, map, Result, refl, sym, ap, ◌∙◌, subst, drop-cons, add-one}
+use Rattle.std.proofs.Common.{◌≡◌, ◌<◌, ◌≤◌, ◌+◌, ℕ, List, [], ◌∷◌, length, drop, get_or, map, Result, refl, sym, ap, ◌∙◌, subst, drop-cons, add-one}
 use Rattle.std.proofs.lemmas.List.{drop_all}
+use Rattle.std.proofs.Math.Seq.{take-length}
 use Rattle.slee_effect.specs.declared.reference.Ref.{Ref}
 use Rattle.script_types.specs.declared.step.Range.{Range}
 use Rattle.script_types.specs.declared.checked_step.Step.{Step as StepInMemory}
@@ -119,3 +120,9 @@ module _ (over : Range) (items : List Ref) (i : ℕ) (body : Run Flow) where
   -- no item is left
   pub walk_end : (st : State) (total : Ending Flow) → length items ≤ i → walk (map (variable_in over) (drop i items)) body st ≡ total → total ≡ Gave Next st
   walk_end st total le so_far = sym so_far ∙ ap (λ (xs : List Ref). walk (map (variable_in over) xs) body st) (drop_all i items le)
+
+-- an empty block leaves all as it is
+pub nothing_done : (stage : Stage) (depth : ℕ) (body : List StepInMemory) (st : State) → length body ≡ 0 → scoped (all_in stage depth (steps_of body)) st ≡ Gave Next st
+unfolding all_in
+nothing_done stage depth [] st is = ap (λ l. Gave Next (record st { variables = l })) (take-length st.variables)
+nothing_done stage depth (x ∷ body) st is = absurd cc

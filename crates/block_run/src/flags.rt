@@ -12,6 +12,7 @@ use script_types::Term;
 use term_run::eval_truth;
 
 /// What a term gives that is a truth value.
+#[inline(always)]
 #[tactic(auto, using(script_machine::proofs::KindLemmas::no_flag_stays))]
 pub(crate) fn eval_flag(machine: &mut Machine, scene: &Scene, term: &Term) -> Result<bool, Stop>
     requires names { machine.old.names ≡ scene.now.names.now }

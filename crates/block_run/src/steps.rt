@@ -85,7 +85,7 @@ pub fn do_all(machine: &mut Machine, stage: &Stage, depth: u32, body: &[Step]) -
     Ok(Flow::Next)
 }
 
-/// A block, whose variables are forgotten behind it.
+/// A block, whose variables are forgotten behind it. Many an `else` is empty.
 #[cycle(steps)]
 fn do_block(machine: &mut Machine, stage: &Stage, depth: u32, body: &[Step]) -> Result<Flow, Stop>
     requires names { machine.old.names ≡ stage.now.scene.names.now }
@@ -96,6 +96,9 @@ fn do_block(machine: &mut Machine, stage: &Stage, depth: u32, body: &[Step]) -> 
     ensures spent { machine.new.left ≤ machine.old.left }
     ensures names { machine.new.names ≡ machine.old.names }
 {
+    if body.is_empty() {
+        return Ok(Flow::Next);
+    }
     let outer = machine.variable_count();
     let flow = do_all(machine, stage, depth, body)?;
     machine.forget_behind(outer);

@@ -78,7 +78,7 @@ fn eval_found(machine: &mut Machine, scene: &Scene, term: &Term) -> Result<Val, 
     Ok(machine.owned(scene.alloc, place)?)
 }
 
-/// Where that stands which a term gives. Most are variables and constants.
+/// Where that stands which a term gives. Most are variables, constants and questions.
 #[inline(always)]
 #[cycle(terms)]
 pub(crate) fn find<'a, 's: 'a>(
@@ -102,6 +102,12 @@ pub(crate) fn find<'a, 's: 'a>(
             machine.tick()?;
             Ok(Place::Outside(Lent::Held(value)))
         }
+        Term::Single(Atom::Activity) => {
+            machine.tick()?;
+            let activity = Value::Activity(scene.arguments.activity);
+            Ok(Place::Made(Val::Plain(activity)))
+        }
+        Term::Ask(parts) => find_asked(machine, scene, parts),
         _ => find_any(machine, scene, term),
     }
 }
@@ -132,7 +138,7 @@ fn find_any<'a, 's: 'a>(
     }
 }
 
-/// The number that a term gives, if it gives one. Most are variables and constants.
+/// The number that a term gives, if it gives one. Most are variables, constants, fields and questions.
 #[inline(always)]
 #[cycle(terms)]
 pub(crate) fn eval_number(
@@ -160,6 +166,7 @@ pub(crate) fn eval_number(
             machine.tick()?;
             field_scalar(machine, scene, name, *kind)
         }
+        Term::Ask(parts) => asked_number(machine, scene, parts),
         _ => eval_any_number(machine, scene, term),
     }
 }

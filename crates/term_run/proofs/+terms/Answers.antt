@@ -66,6 +66,10 @@ pub terms::eval_any_number-returns-in-Ask-clause-finds : goal.terms::eval_any_nu
 terms::eval_any_number-returns-in-Ask-clause-finds t c =
     subst (λ (x : TermInMemory). EndsFinding int NoInt (eval (setting_of c.args.scene.now) (term_of x) (state_of c.args.machine.now)) c.asked_number.new.machine c.asked_number.result) (sym c.in-Ask.is) (rw c.deref.ensures at c.asked_number.ensures.finds)
 
+pub terms::eval_number-returns-in-Ask-clause-finds : goal.terms::eval_number-returns-in-Ask-clause-finds
+terms::eval_number-returns-in-Ask-clause-finds t c =
+    subst (λ (x : TermInMemory). EndsFinding int NoInt (eval (setting_of c.args.scene.now) (term_of x) (state_of c.args.machine.now)) c.asked_number.new.machine c.asked_number.result) (sym c.in-Ask.is) (rw c.deref.ensures at c.asked_number.ensures.finds)
+
 pub terms::eval_any_truth-returns-in-Ask-clause-finds : goal.terms::eval_any_truth-returns-in-Ask-clause-finds
 terms::eval_any_truth-returns-in-Ask-clause-finds t c =
     subst (λ (x : TermInMemory). EndsFinding flag NoFlag (eval (setting_of c.args.scene.now) (term_of x) (state_of c.args.machine.now)) c.asked_truth.new.machine c.asked_truth.result) (sym c.in-Ask.is) (rw c.deref.ensures at c.asked_truth.ensures.finds)

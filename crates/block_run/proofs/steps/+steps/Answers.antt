@@ -1,4 +1,4 @@
-use Rattle.std.proofs.Common.{rules, ◌≡◌, ◌+◌, ℕ, List, true, false, sym, ap, subst, ◌∙◌, arith}
+use Rattle.std.proofs.Common.{rules, ◌≡◌, ◌+◌, ℕ, List, length, true, false, sym, ap, subst, ◌∙◌, arith}
 use Rattle.std.specs.Prelude.{box_value}
 use Rattle.std.proofs.lemmas.Result.{err_from_is_err_and}
 use Rattle.script_types.proofs.ProgramRows.{if_step, while_step, for_step}
@@ -12,7 +12,7 @@ use Rattle.step_run.specs.Flows.{flow_of}
 use Rattle.block_run.specs.Tidy.{IsTidyProgram}
 use Rattle.block_run.specs.Stages.{given, program_of, all_in}
 use Rattle.block_run.proofs.FlagLemmas.{test_stops, test_ends, body_stops, turn_step, turns_end, whole}
-use Rattle.block_run.proofs.StepLemmas.{ends_as, act_assigns, act_entities, act_activities, act_timers, act_says, act_invokes, act_branches, act_repeats, act_goes_over, all_stops, all_step, all_end, walk_stops, walk_step, walk_end}
+use Rattle.block_run.proofs.StepLemmas.{ends_as, act_assigns, act_entities, act_activities, act_timers, act_says, act_invokes, act_branches, act_repeats, act_goes_over, all_stops, all_step, all_end, walk_stops, walk_step, walk_end, nothing_done}
 use Rattle.block_run.proofs.MethodLemmas.{invoke_stops, invoke_enters, no_block, no_method, method_stops, method_ends}
 use Rattle.block_run.proofs.TidyLemmas.{sound_at, sound_if, sound_while, sound_for, sound_method, masks_at}
 use Rattle.block_run.proofs.steps.+steps.Goals as goal
@@ -183,3 +183,8 @@ repeat-returns-clause-agrees t c =
     let same : c.from-most.result ≡ c.args.machine.now.left = omega (arith, c.from-most.ensures, c.left.ensures) in
     let so_far = whole c.from-most.result (eval (given c.args.stage.now) (term_of c.args.test.now)) (scoped (all_in c.args.stage.now c.args.depth (steps_of c.args.body.now))) (state_of c.args.machine.now) _ same c.turns.invariant.0 in
     turns_end (c.from-most.result + 1) c.turns.turn (eval (given c.args.stage.now) (term_of c.args.test.now)) (scoped (all_in c.args.stage.now c.args.depth (steps_of c.args.body.now))) (state_of c.turns.machine) _ (omega (arith, c.turns-test.false)) so_far
+
+pub do_block-returns-then-is_empty-clause-agrees : goal.do_block-returns-then-is_empty-clause-agrees
+do_block-returns-then-is_empty-clause-agrees t c =
+    let none : length c.args.body.now ≡ 0 = search rules in
+    nothing_done c.args.stage.now c.args.depth c.args.body.now (state_of c.args.machine.now) none
