@@ -1,12 +1,10 @@
 -- Operators of truth values stay on values of other types.
-use Rattle.std.proofs.Common.{◌≡◌, Bool, true, false, refl}
-use Rattle.slee_value.specs.declared.value.Value.TheVariants as v
+use Rattle.std.proofs.Common.{◌≡◌, Bool, true, refl}
 use Rattle.slee_effect.specs.declared.value.Val.{Val}
-use Rattle.slee_effect.specs.declared.value.Val.TheVariants.{Plain}
 use Rattle.script_types.specs.declared.term.Joint.{Joint}
 use Rattle.script_types.specs.declared.term.Joint.TheVariants as j
 use Rattle.handler_meaning.specs.Running.{State, Stays}
-use Rattle.handler_meaning.specs.Values.{flag, apply, decides}
+use Rattle.handler_meaning.specs.Values.{flag, apply}
 use Rattle.script_machine.specs.Kinds.{NoFlag, is_choice}
 use Rattle.script_machine.proofs.KindLemmas.{no_flag_stays}
 
@@ -19,23 +17,6 @@ left_unchosen j.Multiply x y st is other = absurd cc
 left_unchosen j.Divide x y st is other = absurd cc
 left_unchosen j.Remainder x y st is other = absurd cc
 left_unchosen j.Join x y st is other = absurd cc
-
--- what is no truth value decides nothing
-pub undecided_there : (joint : Joint) (x : Val) → NoFlag x → decides joint x ≡ false
-undecided_there j.Both (Plain (v.Bool b)) other = absurd other
-undecided_there j.Either (Plain (v.Bool b)) other = absurd other
-undecided_there other_joint x other = refl
-
--- what is no operator between truth values decides nothing
-pub never_decided : (joint : Joint) (x : Val) → is_choice joint ≡ false → decides joint x ≡ false
-never_decided j.Both x is = absurd cc
-never_decided j.Either x is = absurd cc
-never_decided j.Add x is = refl
-never_decided j.Subtract x is = refl
-never_decided j.Multiply x is = refl
-never_decided j.Divide x is = refl
-never_decided j.Remainder x is = refl
-never_decided j.Join x is = refl
 
 pub right_unchosen : (joint : Joint) (b : Bool) (y : Val) (st : State) → NoFlag y → apply joint (flag b) y st ≡ Stays
 right_unchosen j.Both b y st other = no_flag_stays y _ st other

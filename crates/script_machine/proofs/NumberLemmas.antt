@@ -12,18 +12,8 @@ use Rattle.script_types.specs.declared.term.Test.{Test}
 use Rattle.script_types.specs.declared.term.Test.TheVariants as t
 use Rattle.handler_meaning.specs.Running.{State, Ending, Stays, Run, then_run, give}
 use Rattle.handler_meaning.specs.Values.{int, flag, with_int, apply, compare, same_values, is_less, two_ints, flagged}
-use Rattle.script_machine.specs.Kinds.{NoInt, is_arithmetic, is_of_numbers}
+use Rattle.script_machine.specs.Kinds.{NoInt, is_of_numbers}
 use Rattle.script_machine.proofs.KindLemmas.{no_int_stays}
-
-pub left_stays : (joint : Joint) (x y : Val) (st : State) → is_arithmetic joint ≡ true → NoInt x → apply joint x y st ≡ Stays
-left_stays j.Add x y st is other = no_int_stays x _ st other
-left_stays j.Subtract x y st is other = no_int_stays x _ st other
-left_stays j.Multiply x y st is other = no_int_stays x _ st other
-left_stays j.Divide x y st is other = no_int_stays x _ st other
-left_stays j.Remainder x y st is other = no_int_stays x _ st other
-left_stays j.Join x y st is other = absurd cc
-left_stays j.Both x y st is other = absurd cc
-left_stays j.Either x y st is other = absurd cc
 
 -- an operator of another type stays on a number
 pub right_stays : (joint : Joint) (n : ℤ) (y : Val) (st : State) → NoInt y → apply joint (int n) y st ≡ Stays

@@ -59,10 +59,6 @@ abbrev pub AreNumberedBy : {W : Type 0} → (List (List ℕ) → W → Type 0) �
 AreNumberedBy is_numbered names None = Unit {0}
 AreNumberedBy is_numbered names (Some x) = is_numbered names x
 
-abbrev pub AreNumberedAsked : List (List ℕ) → Option Asked → Type 0
-AreNumberedAsked names None = Unit {0}
-AreNumberedAsked names (Some asked) = IsNumberedAsked names asked
-
 -- a run stops for want of an answer to this key, or of memory
 abbrev pub Wants : Key → Stop → Type 0
 Wants key stop.NoMemory = Unit {0}

@@ -13,18 +13,7 @@ use slee_effect::Ref;
 use slee_value::Kind;
 use std::cmp::Ordering;
 
-/// Whether the left side of `and` or `or` alone is the whole.
-pub fn is_decided(joint: Joint, x: Lent) -> bool
-    ensures { result ≡ decides joint (value_lent x.entry) }
-{
-    match (joint, x.flag()) {
-        (Joint::Both, Some(flag)) => !flag,
-        (Joint::Either, Some(flag)) => flag,
-        _ => false,
-    }
-}
-
-/// The same where the left side is a truth value.
+/// Whether the left side of `and` or `or`, a truth value, alone is the whole.
 pub fn is_decided_flag(joint: Joint, x: bool) -> bool
     ensures { result ≡ decides joint (flag x) }
 {

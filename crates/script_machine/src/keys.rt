@@ -8,7 +8,7 @@ ghost use Rattle.script_machine.specs.Asking.{key_asked, IsNumberedAsked};
 ghost use Rattle.script_machine.specs.Numbering.{key_number, answer_numbers, numbers_seen};
 
 use crate::numbering::{AnswerNumbers, NumberedName, Spelling, is_same_name};
-use crate::{Asked, Scene, Wanted};
+use crate::{Asked, Scene, Wanted, WantedAttribute, WantedField, WantedState};
 use handler_meaning::{Key, Seen};
 use script_types::NamedList;
 use slee_value::Text;
@@ -35,34 +35,23 @@ pub(crate) fn is_asked(
     ensures turned { result ≡ same_key (key_asked asked.now) one.now }
 {
     match (one, asked) {
-        (Key::Field(e, x), Asked::Field(f, y)) => {
-            let name = Spelling::Name(x);
-            e.0 == f.0
-                && is_same_name(
-                    names,
-                    NumberedName { name, number },
-                    NumberedName::of_name(y),
-                )
+        (_, Asked::Field(entity, name)) => {
+            let entity = *entity;
+            WantedField { entity, name }.is(names, one, number)
         }
         (Key::Children(e, x), Asked::Children(f, y)) => {
             let name = Spelling::Name(x);
-            e.0 == f.0
-                && is_same_name(
-                    names,
-                    NumberedName { name, number },
-                    NumberedName::of_name(y),
-                )
+            let given = NumberedName { name, number };
+            e.0 == f.0 && is_same_name(names, given, NumberedName::of_name(y))
         }
         (Key::Priority(e), Asked::Priority(f)) => e.0 == f.0,
-        (Key::AcState(a), Asked::AcState(b)) => a.0 == b.0,
-        (Key::Attr(a, x), Asked::Attr(b, y)) => {
-            let name = Spelling::Text(x);
-            a.0 == b.0
-                && is_same_name(
-                    names,
-                    NumberedName { name, number },
-                    NumberedName::of_text(y),
-                )
+        (_, Asked::AcState(activity)) => {
+            let activity = *activity;
+            WantedState { activity }.is(names, one, number)
+        }
+        (_, Asked::Attr(activity, key)) => {
+            let activity = *activity;
+            WantedAttribute { activity, key }.is(names, one, number)
         }
         (Key::Attached(e, a), Asked::Attached(f, b)) => e.0 == f.0 && a.0 == b.0,
         (Key::Mask(e, a), Asked::Mask(f, b)) => e.0 == f.0 && a.0 == b.0,
@@ -70,11 +59,8 @@ pub(crate) fn is_asked(
         (Key::Timer(t), Asked::Timer(u)) => t.0 == u.0,
         (Key::Profile(t, x), Asked::Profile(u, y)) => {
             let name = Spelling::Name(t);
-            is_same_name(
-                names,
-                NumberedName { name, number },
-                NumberedName::of_name(u),
-            ) && x.as_bytes() == y.as_bytes()
+            let given = NumberedName { name, number };
+            is_same_name(names, given, NumberedName::of_name(u)) && x.as_bytes() == y.as_bytes()
         }
         (Key::Now, Asked::Now) => true,
         (Key::Activities(e), Asked::Activities(f)) => e.0 == f.0,

@@ -27,7 +27,7 @@ mod wanted;
 
 pub use arithmetic::{is_arithmetic, is_choice};
 pub use asked::Asked;
-pub use comparing::{is_decided, is_decided_flag, is_of_numbers, is_same_ref};
+pub use comparing::{is_decided_flag, is_of_numbers, is_same_ref};
 pub use effects::{EFFECT_BYTES_LIMIT, EFFECT_LIMIT};
 pub use frames::Finished;
 pub use kinds::{

@@ -5,7 +5,7 @@ ghost use Rattle.std.specs.Option.{option_copied};
 ghost use Rattle.handler_meaning.specs.Seeing.{same_key};
 ghost use Rattle.handler_meaning.specs.Running.{look};
 ghost use Rattle.script_machine.specs.Agreeing.{AgreesAs};
-ghost use Rattle.script_machine.specs.Asking.{key_asked, AreNumberedAsked, AreNumberedBy, IsNumberedAsked, IsNumberedNew, Wants, Peeks, new_key, noted};
+ghost use Rattle.script_machine.specs.Asking.{key_asked, AreNumberedBy, IsNumberedAsked, IsNumberedNew, Wants, Peeks, new_key, noted};
 ghost use Rattle.script_machine.specs.Lending.{standing};
 ghost use Rattle.script_machine.specs.Machines.{state_of};
 ghost use Rattle.script_machine.specs.Numbering.{key_number};
@@ -103,7 +103,7 @@ impl Machine<'_> {
     #[tactic(auto, unfolding(handler_meaning::specs::Running::observe))]
     pub fn peek<'s>(&self, scene: &Scene<'s>, asked: Option<Asked>) -> Result<Looked<'s>, Stop>
         requires names { self.now.names ≡ scene.now.names.now }
-        requires asked { AreNumberedAsked scene.now.names.now asked }
+        requires asked { AreNumberedBy IsNumberedAsked scene.now.names.now asked }
         ensures { Peeks scene.now.names.now (look (setting_of scene.now) (option_map key_asked asked.entry) (state_of self.now)) self.now result }
     {
         let Some(asked) = asked else {

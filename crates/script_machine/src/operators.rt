@@ -1,17 +1,10 @@
-//! Operators between two values.
-ghost use Rattle.std.specs.Prelude.{◌≡◌, true};
-ghost use Rattle.script_types.specs.declared.term.Joint.TheVariants as j;
+//! The operators `and` and `or`, where the left side alone is not the whole.
+ghost use Rattle.std.specs.Prelude.{◌≡◌};
 ghost use Rattle.handler_meaning.specs.Values.{apply, flag};
-ghost use Rattle.script_machine.specs.Agreeing.{Agrees, AgreesAs};
-ghost use Rattle.script_machine.specs.Kinds.{is_arithmetic};
-ghost use Rattle.script_machine.specs.Lending.{value_lent};
+ghost use Rattle.script_machine.specs.Agreeing.{AgreesAs};
 
-use crate::kinds::{flag_of, int_of};
-use crate::{Lent, Machine, Stop};
+use crate::{Machine, Stop};
 use script_types::Joint;
-use slee_effect::Val;
-use slee_value::Value;
-use std::alloc::Global;
 
 impl Machine<'_> {
     /// An operator between two truth values, to which the left one left the choice.

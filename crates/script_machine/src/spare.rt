@@ -28,28 +28,36 @@ impl Spare {
     }
 }
 
+/// An empty list: one that was used, where there is one.
+fn take_list<T: Drop>(used: &mut Vec<Vec<T>>, alloc: Global) -> Vec<T>
+    ensures { result.items ≡ [] }
+{
+    let mut list = used.pop().unwrap_or(Vec::new(alloc));
+    list.clear();
+    list
+}
+
+/// Keeps what is needed no longer, where there is memory for it.
+fn keep<T: Drop>(used: &mut Vec<T>, one: T) {
+    match used.push(one) {
+        Ok(()) | Err(_) => {}
+    }
+}
+
 impl Machine<'_> {
     /// An empty list for the variables of a method.
     pub fn take_variables(&mut self, alloc: Global) -> Vec<Variable>
         ensures empty { result.items ≡ [] }
         ensures same { self.new ≡ self.old }
     {
-        match self.spare.variables.pop() {
-            Some(mut list) => {
-                list.clear();
-                list
-            }
-            None => Vec::new(alloc),
-        }
+        take_list(&mut self.spare.variables, alloc)
     }
 
     /// Keeps a list of variables that are needed no longer.
     pub fn keep_variables(&mut self, list: Vec<Variable>)
         ensures { self.new ≡ self.old }
     {
-        match self.spare.variables.push(list) {
-            Ok(()) | Err(_) => {}
-        }
+        keep(&mut self.spare.variables, list);
     }
 
     /// An empty list for what a loop goes over.
@@ -57,22 +65,14 @@ impl Machine<'_> {
         ensures empty { result.items ≡ [] }
         ensures same { self.new ≡ self.old }
     {
-        match self.spare.items.pop() {
-            Some(mut list) => {
-                list.clear();
-                list
-            }
-            None => Vec::new(alloc),
-        }
+        take_list(&mut self.spare.items, alloc)
     }
 
     /// Keeps a list of things that are needed no longer.
     pub fn keep_items(&mut self, list: Vec<Ref>)
         ensures { self.new ≡ self.old }
     {
-        match self.spare.items.push(list) {
-            Ok(()) | Err(_) => {}
-        }
+        keep(&mut self.spare.items, list);
     }
 
     /// A value behind a pointer.
@@ -96,9 +96,7 @@ impl Machine<'_> {
     {
         let mut place = place;
         let value = mem::replace(&mut *place, Val::Plain(Value::Int(0)));
-        match self.spare.boxes.push(place) {
-            Ok(()) | Err(_) => {}
-        }
+        keep(&mut self.spare.boxes, place);
         value
     }
 

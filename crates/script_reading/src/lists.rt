@@ -9,7 +9,7 @@ ghost use Rattle.handler_meaning.specs.Observing as read;
 ghost use Rattle.handler_meaning.specs.Observing.{key_of};
 ghost use Rattle.handler_meaning.specs.declared.key.Key.TheVariants as k;
 ghost use Rattle.script_machine.specs.Agreeing.{AgreesAs};
-ghost use Rattle.script_machine.specs.Asking.{AreNumberedAsked, key_asked};
+ghost use Rattle.script_machine.specs.Asking.{AreNumberedBy, IsNumberedAsked, key_asked};
 ghost use Rattle.script_types.specs.Numbers.{IsNumbered};
 ghost use Rattle.script_machine.specs.Lending.{standing};
 ghost use Rattle.script_machine.specs.Numbering.{effect_number};
@@ -100,7 +100,7 @@ fn put_children(
 
 pub(crate) fn children_key(entity: Ref, relation: &Symbol<Name>) -> Option<Asked>
     ensures key { option_map key_asked result ≡ key_of (λ n. k.Children (record { 0 = n }) relation.now.name) entity }
-    ensures numbered { (names : List (List ℕ)) → IsNumbered names relation.now → AreNumberedAsked names result }
+    ensures numbered { (names : List (List ℕ)) → IsNumbered names relation.now → AreNumberedBy IsNumberedAsked names result }
 {
     match entity {
         Ref::Known(number) => Some(Asked::Children(EntityId(number), relation)),
@@ -172,7 +172,7 @@ fn put_activities(
 
 fn activities_key(entity: Ref) -> Option<Asked<'static>>
     ensures key { option_map key_asked result ≡ key_of (λ n. k.Activities (record { 0 = n })) entity }
-    ensures numbered { (names : List (List ℕ)) → AreNumberedAsked names result }
+    ensures numbered { (names : List (List ℕ)) → AreNumberedBy IsNumberedAsked names result }
 {
     match entity {
         Ref::Known(number) => Some(Asked::Activities(EntityId(number))),

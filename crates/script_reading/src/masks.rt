@@ -8,7 +8,7 @@ ghost use Rattle.handler_meaning.specs.Observing.{key_of_two};
 ghost use Rattle.handler_meaning.specs.Values.{flag};
 ghost use Rattle.handler_meaning.specs.declared.key.Key.TheVariants as k;
 ghost use Rattle.script_machine.specs.Agreeing.{AgreesAs};
-ghost use Rattle.script_machine.specs.Asking.{AreNumberedAsked, key_asked};
+ghost use Rattle.script_machine.specs.Asking.{AreNumberedBy, IsNumberedAsked, key_asked};
 ghost use Rattle.script_machine.specs.Lending.{standing};
 ghost use Rattle.script_machine.specs.Settings.{setting_of};
 ghost use Rattle.script_reading.specs.Done.{done};
@@ -204,7 +204,7 @@ fn mask_laid(
 
 fn mask_key(entity: Ref, activity: Ref) -> Option<Asked<'static>>
     ensures key { option_map key_asked result ≡ key_of_two (λ m n. k.Mask (record { 0 = m }) (record { 0 = n })) entity activity }
-    ensures numbered { (names : List (List ℕ)) → AreNumberedAsked names result }
+    ensures numbered { (names : List (List ℕ)) → AreNumberedBy IsNumberedAsked names result }
 {
     match (entity, activity) {
         (Ref::Known(entity), Ref::Known(activity)) => {

@@ -5,7 +5,7 @@ ghost use Rattle.handler_meaning.specs.Observing as read;
 ghost use Rattle.handler_meaning.specs.Observing.{key_of};
 ghost use Rattle.handler_meaning.specs.declared.key.Key.TheVariants as k;
 ghost use Rattle.script_machine.specs.Agreeing.{Agrees};
-ghost use Rattle.script_machine.specs.Asking.{AreNumberedAsked, key_asked};
+ghost use Rattle.script_machine.specs.Asking.{AreNumberedBy, IsNumberedAsked, key_asked};
 ghost use Rattle.script_machine.specs.Lending.{standing};
 ghost use Rattle.script_machine.specs.Settings.{setting_of};
 
@@ -70,7 +70,7 @@ fn priority_laid(machine: &Machine, scene: &Scene, entity: Ref, first: i64) -> i
 
 fn priority_key(entity: Ref) -> Option<Asked<'static>>
     ensures key { option_map key_asked result ≡ key_of (λ n. k.Priority (record { 0 = n })) entity }
-    ensures numbered { (names : List (List ℕ)) → AreNumberedAsked names result }
+    ensures numbered { (names : List (List ℕ)) → AreNumberedBy IsNumberedAsked names result }
 {
     match entity {
         Ref::Known(number) => Some(Asked::Priority(EntityId(number))),

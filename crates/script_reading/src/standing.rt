@@ -6,7 +6,7 @@ ghost use Rattle.handler_meaning.specs.Observing.{key_of, key_of_two};
 ghost use Rattle.handler_meaning.specs.Values.{with_text};
 ghost use Rattle.handler_meaning.specs.declared.key.Key.TheVariants as k;
 ghost use Rattle.script_machine.specs.Agreeing.{Agrees};
-ghost use Rattle.script_machine.specs.Asking.{AreNumberedAsked, key_asked};
+ghost use Rattle.script_machine.specs.Asking.{AreNumberedBy, IsNumberedAsked, key_asked};
 ghost use Rattle.script_machine.specs.Lending.{standing, value_at};
 ghost use Rattle.script_machine.specs.Settings.{setting_of};
 ghost use Rattle.script_reading.specs.Done.{done};
@@ -40,7 +40,7 @@ fn attached_over(entity: Ref, activity: Ref, effects: &[Effect], first: bool) ->
 
 fn attached_key(entity: Ref, activity: Ref) -> Option<Asked<'static>>
     ensures key { option_map key_asked result ≡ key_of_two (λ m n. k.Attached (record { 0 = m }) (record { 0 = n })) entity activity }
-    ensures numbered { (names : List (List ℕ)) → AreNumberedAsked names result }
+    ensures numbered { (names : List (List ℕ)) → AreNumberedBy IsNumberedAsked names result }
 {
     match (entity, activity) {
         (Ref::Known(entity), Ref::Known(activity)) => {
@@ -173,7 +173,7 @@ fn timer_laid(machine: &Machine, scene: &Scene, timer: Ref, first: Option<Ref>) 
 
 fn timer_key(timer: Ref) -> Option<Asked<'static>>
     ensures key { option_map key_asked result ≡ key_of (λ n. k.Timer (record { 0 = n })) timer }
-    ensures numbered { (names : List (List ℕ)) → AreNumberedAsked names result }
+    ensures numbered { (names : List (List ℕ)) → AreNumberedBy IsNumberedAsked names result }
 {
     match timer {
         Ref::Known(number) => Some(Asked::Timer(TimerId(number))),
