@@ -8,17 +8,17 @@ use Rattle.script_types.specs.declared.checked_step.Step.{Step as StepInMemory}
 use Rattle.script_types.specs.Program as p
 use Rattle.script_types.specs.Program.{Term, Step, Steps}
 use Rattle.script_types.specs.ProgramOf.{step_of, steps_of}
-use Rattle.handler_meaning.specs.Running.{State, Ending, Gave, Run, Variable, then_run, ticked}
+use Rattle.handler_meaning.specs.Running.{State, Ending, Gave, Run, Variable, then_run, give, tick, ticked}
 use Rattle.handler_meaning.specs.Doing.{assigns, on_entities, on_activities, on_timers}
 use Rattle.handler_meaning.specs.Terms.{eval}
 use Rattle.handler_meaning.specs.Running.{scoped}
 use Rattle.handler_meaning.specs.Steps.{Flow, Next, next, says, followed, repeat, walk, either}
 use Rattle.script_machine.specs.declared.stop.Stop.{Stop}
 use Rattle.script_machine.specs.Agreeing.{Stops, EndsAs}
-use Rattle.script_machine.specs.Machines.{MachineState}
+use Rattle.script_machine.specs.Machines.{MachineState, state_of}
 use Rattle.step_run.specs.declared.flow.Flow.{Flow as FlowInMemory}
 use Rattle.step_run.specs.Flows.{flow_of}
-use Rattle.term_run.proofs.RunLemmas.{stops_then}
+use Rattle.term_run.proofs.RunLemmas.{stops_then, assoc}
 use Rattle.block_run.specs.declared.stage.Stage.{Stage}
 use Rattle.block_run.specs.Loops.{variable_in, branched, turned}
 use Rattle.block_run.specs.Stages.{given, act_in, all_in, goes_over, invokes}
@@ -27,6 +27,14 @@ use Rattle.block_run.proofs.FlagLemmas.{flags}
 -- what an answer says of a run it says of the same run
 pub ends_as : (m n : Ending Flow) (new : MachineState) (result : Result FlowInMemory Stop) → m ≡ n → EndsAs flow_of n new result → EndsAs flow_of m new result
 ends_as m n new result e h = subst (λ (r : Ending Flow). EndsAs flow_of r new result) (sym e) h
+
+ticked_next : (m : Run (Unit {0})) (st : State) → ticked (next m) st ≡ then_run (ticked m st) (λ _. give Next)
+ticked_next m st = sym (assoc (tick st) (λ _. m) (λ _. give Next))
+
+-- a step that gave a value is done, and the next one comes
+pub at_hand_step : (stage : Stage) (depth : ℕ) (x : Step) (a : p.Assigning) (old new : MachineState) → x ≡ p.Assign a → ticked (assigns (given stage) a) (state_of old) ≡ Gave tt (state_of new) → ticked (act_in stage depth x) (state_of old) ≡ Gave Next (state_of new)
+unfolding act_in
+at_hand_step stage depth x a old new e h = ap (λ y. ticked (act_in stage depth y) (state_of old)) e ∙ (ticked_next (assigns (given stage) a) (state_of old) ∙ ap (λ r. then_run r (λ _. give Next)) h)
 
 module _ (stage : Stage) (depth : ℕ) (x : Step) (st : State) where
   abbrev acts : Ending Flow

@@ -1,12 +1,13 @@
 //! Steps one behind another, with blocks, loops and calls. A step's unit is spent when it begins.
-ghost use Rattle.std.specs.Prelude.{◌≡◌, ◌≤◌, map};
+ghost use Rattle.std.specs.Prelude.{◌≡◌, ◌≤◌, true, false, map};
 ghost use Rattle.std.specs.List.{AllByRecursion};
 ghost use Rattle.script_types.specs.ProgramOf.{term_of, step_of, steps_of, call_of};
-ghost use Rattle.handler_meaning.specs.Running.{ticked, scoped};
+ghost use Rattle.handler_meaning.specs.Running.{Gave, ticked, scoped};
 ghost use Rattle.handler_meaning.specs.Terms.{eval};
-ghost use Rattle.handler_meaning.specs.Steps.{repeat, walk};
+ghost use Rattle.handler_meaning.specs.Steps.{Next, repeat, walk};
 ghost use Rattle.script_types.specs.Numbers.{AreNumberedSteps, IsNumberedRange, IsNumberedStep, IsNumberedTerm};
 ghost use Rattle.script_machine.specs.Agreeing.{AgreesAs};
+ghost use Rattle.script_machine.specs.Machines.{state_of};
 ghost use Rattle.step_run.specs.Flows.{flow_of};
 ghost use Rattle.block_run.specs.Tidy.{IsTidy, AreTidy};
 ghost use Rattle.block_run.specs.Loops.{variable_in, branched, turned};
@@ -21,7 +22,7 @@ use handler_meaning::FailKind;
 use script_machine::{Machine, Stop, Variable};
 use script_types::{Call, Range, Step, Term};
 use slee_effect::Ref;
-use step_run::{Flow, do_saying};
+use step_run::{Flow, assign_at_hand, do_saying};
 
 /// What a step does, behind its unit.
 #[inline(always)]
@@ -48,6 +49,20 @@ fn act(machine: &mut Machine, stage: &Stage, depth: u32, step: &Step) -> Result<
     }
 }
 
+/// Does a step that needs nothing but variables, with all its units. Answers whether it did; where not, nothing is done.
+#[inline(always)]
+fn do_at_hand(machine: &mut Machine, stage: &Stage, depth: u32, step: &Step) -> bool
+    ensures done { result ≡ true → ticked (act_in stage.now depth (step_of step.now)) (state_of machine.old) ≡ Gave Next (state_of machine.new) }
+    ensures undone { result ≡ false → machine.new ≡ machine.old }
+    ensures spent { machine.new.left ≤ machine.old.left }
+    ensures names { machine.new.names ≡ machine.old.names }
+{
+    match step {
+        Step::Assign(x) => assign_at_hand(machine, &stage.scene, x),
+        _ => false,
+    }
+}
+
 /// A step.
 #[inline(always)]
 #[cycle(steps)]
@@ -60,6 +75,9 @@ fn do_step(machine: &mut Machine, stage: &Stage, depth: u32, step: &Step) -> Res
     ensures spent { machine.new.left ≤ machine.old.left }
     ensures names { machine.new.names ≡ machine.old.names }
 {
+    if do_at_hand(machine, stage, depth, step) {
+        return Ok(Flow::Next);
+    }
     machine.tick()?;
     act(machine, stage, depth, step)
 }

@@ -1,5 +1,6 @@
 pub mod Variables
 pub mod Settings
+pub mod Spending
 pub mod Agreeing
 pub mod Kinds
 pub mod Asking

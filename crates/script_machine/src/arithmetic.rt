@@ -1,5 +1,6 @@
 //! Numbers: what operators make of them, within 64 bits.
-ghost use Rattle.std.specs.Prelude.{◌≡◌, ℤ, pos, ◌+ℤ◌, ◌-ℤ◌, ◌*ℤ◌, int_div, int_rem, neg_ℤ};
+ghost use Rattle.std.specs.Prelude.{◌≡◌, ℤ, pos, IfSome, ◌+ℤ◌, ◌-ℤ◌, ◌*ℤ◌, int_div, int_rem, neg_ℤ};
+ghost use Rattle.handler_meaning.specs.Running.{State, Gave};
 ghost use Rattle.handler_meaning.specs.Values.{int, number, divided, apply};
 ghost use Rattle.script_machine.specs.Agreeing.{AgreesAs};
 ghost use Rattle.script_machine.specs.Kinds.{is_arithmetic, is_choice};
@@ -25,6 +26,19 @@ pub fn is_choice(joint: Joint) -> bool
     match joint {
         Joint::Both | Joint::Either => true,
         _ => false,
+    }
+}
+
+/// The sum, the difference or the product of two numbers, where it has 64 bits. Quotients are nothing for it.
+#[inline(always)]
+pub fn reckon(joint: Joint, m: i64, n: i64) -> Option<i64>
+    ensures { IfSome result (λ x. (st : State) → apply joint (int m) (int n) st ≡ Gave (int x) st) }
+{
+    match joint {
+        Joint::Add => m.checked_add(n),
+        Joint::Subtract => m.checked_sub(n),
+        Joint::Multiply => m.checked_mul(n),
+        _ => None,
     }
 }
 

@@ -9,6 +9,7 @@ use crate::effect_bytes::len_of_effect;
 use crate::{Machine, Stop};
 use handler_meaning::FailKind;
 use slee_effect::Effect;
+use slee_value::NoMemory;
 
 /// How many effects a run may have.
 pub const EFFECT_LIMIT: usize = 256;
@@ -16,7 +17,21 @@ pub const EFFECT_LIMIT: usize = 256;
 /// How many bytes its effects may have.
 pub const EFFECT_BYTES_LIMIT: u32 = 32_768;
 
+/// How many effects most runs have at most. For so many, memory is taken once.
+const FEW_EFFECTS: usize = 16;
+
 impl Machine<'_> {
+    /// Takes memory for so many effects as most runs have, before the first of them.
+    fn reserve_effects(&mut self) -> Result<(), NoMemory>
+        ensures { self.new ≡ self.old }
+    {
+        if self.effects.is_empty() {
+            self.effects.reserve(FEW_EFFECTS)?;
+            self.effect_numbers.reserve(FEW_EFFECTS)?;
+        }
+        Ok(())
+    }
+
     /// Adds an effect behind all others, whose name has this number.
     #[tactic(auto, using(crate::proofs::EffectLemmas::bytes_behind), unfolding(handler_meaning::specs::Running::effect))]
     pub fn add_numbered_effect(&mut self, effect: Effect, number: Option<usize>) -> Result<(), Stop>
@@ -32,6 +47,7 @@ impl Machine<'_> {
         if bytes > EFFECT_BYTES_LIMIT {
             return Err(Stop::Broken(FailKind::TooMuch));
         }
+        self.reserve_effects()?;
         self.effects.reserve(1)?;
         self.effect_numbers.push(number)?;
         match self.effects.push(effect) {

@@ -25,7 +25,7 @@ mod variable;
 mod variables;
 mod wanted;
 
-pub use arithmetic::{is_arithmetic, is_choice};
+pub use arithmetic::{is_arithmetic, is_choice, reckon};
 pub use asked::Asked;
 pub use comparing::{is_decided_flag, is_of_numbers, is_same_ref};
 pub use effects::{EFFECT_BYTES_LIMIT, EFFECT_LIMIT};

@@ -1,11 +1,12 @@
 //! The state of a run: its variables, the units that are left, its keys and its effects, with the numbers of the names in these.
-ghost use Rattle.std.specs.Prelude.{◌≡◌, ◌≤◌, ◌+◌, OnOk, OnErr, false};
-ghost use Rattle.handler_meaning.specs.Running.{tick, declare, assign};
+ghost use Rattle.std.specs.Prelude.{◌≡◌, ◌≤◌, ◌<◌, ◌+◌, OnOk, OnErr, true, false};
+ghost use Rattle.handler_meaning.specs.Running.{Holds, tick, declare, assign};
 ghost use Rattle.handler_meaning.specs.Meaning.{start};
 ghost use Rattle.handler_meaning.specs.Values.{int};
 ghost use Rattle.script_machine.specs.Agreeing.{Agrees};
 ghost use Rattle.script_machine.specs.Lending.{standing};
 ghost use Rattle.script_machine.specs.Machines.{state_of};
+ghost use Rattle.script_machine.specs.Spending.{with_units, Assigns};
 
 use crate::spare::Spare;
 use crate::{Stop, Variable};
@@ -85,6 +86,22 @@ impl<'a> Machine<'a> {
         Ok(())
     }
 
+    /// Spends so many units, or none where fewer are left.
+    #[inline(always)]
+    #[tactic(auto, unfolding(crate::specs::Lending::standing))]
+    pub fn try_spend(&mut self, units: u32) -> bool
+        ensures spent { result ≡ true → state_of self.old ≡ with_units units (state_of self.new) }
+        ensures few { result ≡ false → (self.new ≡ self.old) × (self.old.left < units) }
+        ensures names { self.new.names ≡ self.old.names }
+        ensures kept { standing self.new ≡ standing self.old }
+    {
+        if self.left < units {
+            return false;
+        }
+        self.left -= units;
+        true
+    }
+
     /// A new variable behind all others.
     pub fn declare(&mut self, variable: Variable) -> Result<(), Stop>
         ensures agrees { Agrees (declare variable) self.old self.new result }
@@ -92,6 +109,17 @@ impl<'a> Machine<'a> {
         ensures names { self.new.names ≡ self.old.names }
     {
         self.variables.push(variable)?;
+        Ok(())
+    }
+
+    /// A new variable behind all others, which holds this number.
+    #[inline(always)]
+    pub fn declare_number(&mut self, number: i64) -> Result<(), Stop>
+        ensures agrees { Agrees (declare (Holds (int number))) self.old self.new result }
+        ensures spent { self.new.left ≤ self.old.left }
+        ensures names { self.new.names ≡ self.old.names }
+    {
+        self.variables.push(Variable::of_number(number))?;
         Ok(())
     }
 
@@ -108,6 +136,22 @@ impl<'a> Machine<'a> {
         Err(Stop::Unchecked)
     }
 
+    /// Spends so many units and gives a number to the variable in this place, or does nothing where either can't be done.
+    #[inline(always)]
+    pub fn try_assign_number(&mut self, units: u32, place: usize, number: i64) -> bool
+        ensures done { result ≡ true → Assigns units place number self.old self.new }
+        ensures undone { result ≡ false → self.new ≡ self.old }
+        ensures names { self.new.names ≡ self.old.names }
+        ensures spent { self.new.left ≤ self.old.left }
+    {
+        if self.left < units || place >= self.variables.len() {
+            return false;
+        }
+        self.left -= units;
+        self.variables[place].set_number(number);
+        true
+    }
+
     /// Gives a number to the variable in this place.
     #[inline(always)]
     pub fn assign_number(&mut self, place: usize, number: i64) -> Result<(), Stop>
@@ -116,7 +160,7 @@ impl<'a> Machine<'a> {
         ensures names { self.new.names ≡ self.old.names }
     {
         if place < self.variables.len() {
-            self.variables[place] = Variable::of_number(number);
+            self.variables[place].set_number(number);
             return Ok(());
         }
         Err(Stop::Unchecked)

@@ -1,9 +1,9 @@
 //! Asking for the state by keys.
-ghost use Rattle.std.specs.Prelude.{◌≡◌, ◌≤◌, ◌||◌, map, option_map, Some};
+ghost use Rattle.std.specs.Prelude.{◌≡◌, ◌≤◌, ◌||◌, map, option_map, IfSome, Some};
 ghost use Rattle.std.specs.List.{list_any};
 ghost use Rattle.std.specs.Option.{option_copied};
 ghost use Rattle.handler_meaning.specs.Seeing.{same_key};
-ghost use Rattle.handler_meaning.specs.Running.{look};
+ghost use Rattle.handler_meaning.specs.Running.{look, Gave};
 ghost use Rattle.script_machine.specs.Agreeing.{AgreesAs};
 ghost use Rattle.script_machine.specs.Asking.{key_asked, AreNumberedBy, IsNumberedAsked, IsNumberedNew, Wants, Peeks, new_key, noted};
 ghost use Rattle.script_machine.specs.Lending.{standing};
@@ -14,10 +14,14 @@ ghost use Rattle.script_machine.specs.Settings.{setting_of};
 use crate::keys::{Kept, NumberedKeys, has_key, is_counted_at, kept_answer};
 use crate::{Asked, Machine, Scene, Stop, Wanted};
 use handler_meaning::{FailKind, Key, Seen};
+use slee_value::NoMemory;
 use std::alloc::Global;
 
 /// How many keys a transaction may read.
 pub const KEY_LIMIT: usize = 64;
+
+/// How many keys most runs read at most. For so many, memory is taken once.
+const FEW_KEYS: usize = 16;
 
 /// A key that isn't counted yet, with the number of its name.
 #[derive(Debug, Drop)]
@@ -146,6 +150,17 @@ impl Machine<'_> {
         })
     }
 
+    /// Takes memory for so many keys as most runs read, before the first of them.
+    fn reserve_keys(&mut self) -> Result<(), NoMemory>
+        ensures { self.new ≡ self.old }
+    {
+        if self.keys.is_empty() {
+            self.keys.reserve(FEW_KEYS)?;
+            self.key_numbers.reserve(FEW_KEYS)?;
+        }
+        Ok(())
+    }
+
     /// Counts the key under which something was found.
     #[tactic(auto, unfolding(crate::specs::Lending::standing))]
     pub fn note<'s>(&mut self, looked: Looked<'s>) -> Result<Option<&'s Seen>, Stop>
@@ -160,6 +175,7 @@ impl Machine<'_> {
         match key {
             None => Ok(seen),
             Some(NewKey { key, number }) => {
+                self.reserve_keys()?;
                 self.key_numbers.reserve(1)?;
                 self.keys.push(key)?;
                 match self.key_numbers.push(number) {
@@ -171,24 +187,33 @@ impl Machine<'_> {
         }
     }
 
-    /// What is known of a key, which is counted where it is new.
-    #[inline(never)]
-    fn look_first<'s>(&mut self, scene: &Scene<'s>, asked: Asked) -> Result<Option<&'s Seen>, Stop>
-        requires names { self.old.names ≡ scene.now.names.now }
-        requires asked { IsNumberedAsked scene.now.names.now asked }
-        ensures agrees { AgreesAs option_copied (look (setting_of scene.now) (Some (key_asked asked.entry))) self.old self.new result }
-        ensures spent { self.new.left ≤ self.old.left }
-        ensures names { self.new.names ≡ self.old.names }
-        ensures kept { standing self.new ≡ standing self.old }
+    /// What is known of a key that is counted already. Nothing where it isn't, or where that takes longer to tell.
+    #[inline(always)]
+    #[tactic(auto, using(crate::proofs::KeyLemmas::either_turned), unfolding(handler_meaning::specs::Running::observe))]
+    pub fn seen_again<'s, W: Wanted>(
+        &self,
+        scene: &Scene<'s>,
+        wanted: Option<W>,
+    ) -> Option<&'s Seen>
+        requires names { self.now.names ≡ scene.now.names.now }
+        requires wanted { AreNumberedBy W.is_numbered scene.now.names.now wanted }
+        ensures { IfSome result (λ seen. look (setting_of scene.now) (option_map W.key_of wanted) (state_of self.now) ≡ Gave (Some seen.now) (state_of self.now)) }
     {
-        let looked = self.peek(scene, Some(asked))?;
-        self.note(looked)
+        let wanted = wanted?;
+        let Kept { seen, place, .. } = kept_answer(scene, &wanted);
+        let before = keys_before(scene);
+        // Keys mostly stand in the order in which their answers were asked for.
+        if is_counted_at(scene.names, before, self.own_keys(), place, &wanted)
+            || has_key(scene.names, self.own_keys(), &wanted)
+        {
+            return seen;
+        }
+        None
     }
 
-    /// What is known of a key, which is counted. What is new has no key, and nothing is asked for.
-    #[inline(always)]
-    #[tactic(auto, unfolding(handler_meaning::specs::Running::observe))]
-    pub fn look<'s, W: Wanted>(
+    /// What is known of a key, which is counted where it is new. What is new has no key, and nothing is asked for.
+    #[inline(never)]
+    pub fn look_first<'s, W: Wanted>(
         &mut self,
         scene: &Scene<'s>,
         wanted: Option<W>,
@@ -203,10 +228,27 @@ impl Machine<'_> {
         let Some(wanted) = wanted else {
             return Ok(None);
         };
-        let Kept { seen, place, .. } = kept_answer(scene, &wanted);
-        if seen.is_some() && self.is_counted(scene, place, &wanted) {
-            return Ok(seen);
+        let looked = self.peek(scene, Some(wanted.asked()))?;
+        self.note(looked)
+    }
+
+    /// What is known of a key, which is counted. What is new has no key, and nothing is asked for.
+    #[inline(always)]
+    pub fn look<'s, W: Wanted>(
+        &mut self,
+        scene: &Scene<'s>,
+        wanted: Option<W>,
+    ) -> Result<Option<&'s Seen>, Stop>
+        requires names { self.old.names ≡ scene.now.names.now }
+        requires wanted { AreNumberedBy W.is_numbered scene.now.names.now wanted }
+        ensures agrees { AgreesAs option_copied (look (setting_of scene.now) (option_map W.key_of wanted)) self.old self.new result }
+        ensures spent { self.new.left ≤ self.old.left }
+        ensures names { self.new.names ≡ self.old.names }
+        ensures kept { standing self.new ≡ standing self.old }
+    {
+        match self.seen_again(scene, wanted) {
+            Some(seen) => Ok(Some(seen)),
+            None => self.look_first(scene, wanted),
         }
-        self.look_first(scene, wanted.asked())
     }
 }

@@ -1,9 +1,9 @@
 //! A variable of a script, seen as what the meaning of scripts says of it.
-ghost use Rattle.std.specs.Prelude.{◌≡◌};
+ghost use Rattle.std.specs.Prelude.{◌≡◌, Some, option_map};
 ghost use Rattle.std.specs.Option.{option_copied};
 ghost use Rattle.handler_meaning.specs.Running.{Holds, Child};
 ghost use Rattle.handler_meaning.specs.Values.{int};
-ghost use Rattle.script_machine.specs.Variables.{value_in, child_in};
+ghost use Rattle.script_machine.specs.Variables.{value_in, child_in, number_held, text_held};
 
 use slee_effect::{Ref, Val};
 use slee_value::Value;
@@ -67,6 +67,39 @@ impl Variable {
         match &self.held {
             Held::Value(value) => Some(value),
             Held::Child(_) => None,
+        }
+    }
+
+    /// The number that it holds, if it holds one.
+    #[inline(always)]
+    pub fn number(&self) -> Option<i64>
+        ensures { result ≡ number_held (Some self.now) }
+    {
+        match &self.held {
+            Held::Value(Val::Plain(Value::Int(number))) => Some(*number),
+            _ => None,
+        }
+    }
+
+    /// The text that it holds, if it holds one.
+    #[inline(always)]
+    pub fn text(&self) -> Option<&str>
+        ensures { option_map (λ t. t.now) result ≡ text_held (Some self.now) }
+    {
+        match &self.held {
+            Held::Value(Val::Plain(Value::Text(text))) => Some(text.as_str()),
+            _ => None,
+        }
+    }
+
+    /// Gives it a number. Most variables that are given one hold one.
+    #[inline(always)]
+    pub fn set_number(&mut self, number: i64)
+        ensures { self.new ≡ Holds (int number) }
+    {
+        match &mut self.held {
+            Held::Value(Val::Plain(Value::Int(old))) => *old = number,
+            held => *held = Held::Value(Val::Plain(Value::Int(number))),
         }
     }
 

@@ -1,10 +1,11 @@
 //! Variables by their places in the scope.
-ghost use Rattle.std.specs.Prelude.{◌≡◌, ◌++◌, slice_get};
+ghost use Rattle.std.specs.Prelude.{◌≡◌, ◌++◌, slice_get, option_map};
 ghost use Rattle.std.specs.Option.{option_copied};
 ghost use Rattle.handler_meaning.specs.Observing as read;
 ghost use Rattle.handler_meaning.specs.Overlay.{removes, is_removed};
 ghost use Rattle.script_machine.specs.Agreeing.{Agrees, AgreesAs};
 ghost use Rattle.script_machine.specs.Settings.{setting_of};
+ghost use Rattle.script_machine.specs.Variables.{number_held, text_held};
 
 use crate::comparing::is_same_ref;
 use crate::{Machine, Scene, Stop, Variable};
@@ -35,6 +36,28 @@ pub fn is_removed(entity: Ref, effects: &[Effect]) -> bool
 }
 
 impl Machine<'_> {
+    /// The number that the variable in this place holds, if it holds one.
+    #[inline(always)]
+    pub fn number_in(&self, place: usize) -> Option<i64>
+        ensures { result ≡ number_held (slice_get self.now.variables place) }
+    {
+        match variable_at(&self.variables, place) {
+            Some(variable) => variable.number(),
+            None => None,
+        }
+    }
+
+    /// The text that the variable in this place holds, if it holds one.
+    #[inline(always)]
+    pub fn text_in(&self, place: usize) -> Option<&str>
+        ensures { option_map (λ t. t.now) result ≡ text_held (slice_get self.now.variables place) }
+    {
+        match variable_at(&self.variables, place) {
+            Some(variable) => variable.text(),
+            None => None,
+        }
+    }
+
     /// The value of the variable in this place as it stands there.
     #[tactic(auto, using(crate::proofs::VariableLemmas::value_found))]
     pub fn variable_value(&self, place: usize) -> Result<&Val, Stop>

@@ -89,7 +89,26 @@ pub fn state_of(machine: &mut Machine, scene: &Scene, activity: Ref) -> Result<O
     ensures names { machine.new.names ≡ machine.old.names }
     ensures kept { standing machine.new ≡ standing machine.old }
 {
-    let seen = machine.look(scene, state_key(activity))?;
+    let Some(seen) = machine.seen_again(scene, state_key(activity)) else {
+        return first_state_of(machine, scene, activity);
+    };
+    Ok(state_laid(machine, scene, activity, activity_in(Some(seen))))
+}
+
+/// The same where the activity wasn't seen yet.
+#[inline(never)]
+fn first_state_of(
+    machine: &mut Machine,
+    scene: &Scene,
+    activity: Ref,
+) -> Result<Option<AcSeen>, Stop>
+    requires names { machine.old.names ≡ scene.now.names.now }
+    ensures agrees { Agrees (read.state_of (setting_of scene.now) activity) machine.old machine.new result }
+    ensures spent { machine.new.left ≤ machine.old.left }
+    ensures names { machine.new.names ≡ machine.old.names }
+    ensures kept { standing machine.new ≡ standing machine.old }
+{
+    let seen = machine.look_first(scene, state_key(activity))?;
     Ok(state_laid(machine, scene, activity, activity_in(seen)))
 }
 

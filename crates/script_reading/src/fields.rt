@@ -226,7 +226,31 @@ pub fn field_scalar<T: Scalar>(
     ensures names { machine.new.names ≡ machine.old.names }
     ensures kept { standing machine.new ≡ standing machine.old }
 {
-    let seen = machine.look(scene, field_key(scene.me, name))?;
+    let Some(seen) = machine.seen_again(scene, field_key(scene.me, name)) else {
+        return first_field_scalar(machine, scene, name, kind);
+    };
+    let property = Property::Field(scene.me, name);
+    let lent = lend_property(machine, scene, property, kind, Some(seen));
+    Ok(T::within(lent))
+}
+
+/// The same where the field wasn't read yet.
+#[inline(never)]
+#[tactic(auto, using(crate::proofs::OverlayLemmas::field_read))]
+fn first_field_scalar<T: Scalar>(
+    machine: &mut Machine,
+    scene: &Scene,
+    name: &Symbol<Name>,
+    kind: Kind,
+) -> Result<Option<T>, Stop>
+    requires names { machine.old.names ≡ scene.now.names.now }
+    requires numbered { IsNumbered scene.now.names.now name.now }
+    ensures finds { EndsFinding T.value_of T.is_other (read.field (setting_of scene.now) name.now.name kind (state_of machine.old)) machine.new result }
+    ensures spent { machine.new.left ≤ machine.old.left }
+    ensures names { machine.new.names ≡ machine.old.names }
+    ensures kept { standing machine.new ≡ standing machine.old }
+{
+    let seen = machine.look_first(scene, field_key(scene.me, name))?;
     let property = Property::Field(scene.me, name);
     let lent = lend_property(machine, scene, property, kind, seen);
     Ok(T::within(lent))
@@ -248,7 +272,31 @@ pub fn attribute<'a>(
     ensures names { machine.new.names ≡ machine.old.names }
     ensures kept { standing machine.new ≡ standing machine.old }
 {
-    let seen = machine.look(scene, attribute_key(activity, key))?;
+    let Some(seen) = machine.seen_again(scene, attribute_key(activity, key)) else {
+        return first_attribute(machine, scene, key, kind, activity);
+    };
+    let property = Property::Attribute(activity, key);
+    Ok(property_place(machine, scene, property, kind, Some(seen)))
+}
+
+/// The same where the attribute wasn't read yet.
+#[inline(never)]
+#[tactic(auto, using(crate::proofs::OverlayLemmas::attribute_read))]
+fn first_attribute<'a>(
+    machine: &mut Machine,
+    scene: &Scene<'a>,
+    key: &Symbol<Text>,
+    kind: Kind,
+    activity: Ref,
+) -> Result<Place<'a>, Stop>
+    requires names { machine.old.names ≡ scene.now.names.now }
+    requires numbered { IsNumbered scene.now.names.now key.now }
+    ensures agrees { AgreesAs (value_at (standing machine.new)) (read.attribute (setting_of scene.now) key.now.name kind activity) machine.old machine.new result }
+    ensures spent { machine.new.left ≤ machine.old.left }
+    ensures names { machine.new.names ≡ machine.old.names }
+    ensures kept { standing machine.new ≡ standing machine.old }
+{
+    let seen = machine.look_first(scene, attribute_key(activity, key))?;
     let property = Property::Attribute(activity, key);
     Ok(property_place(machine, scene, property, kind, seen))
 }

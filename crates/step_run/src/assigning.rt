@@ -1,19 +1,23 @@
 //! Steps that give a value to something.
-ghost use Rattle.std.specs.Prelude.{◌≡◌, ◌≤◌};
+ghost use Rattle.std.specs.Prelude.{◌≡◌, ◌≤◌, true, false};
 ghost use Rattle.script_types.specs.Program as p;
 ghost use Rattle.script_types.specs.ProgramOf.{term_of, assigning_of};
+ghost use Rattle.handler_meaning.specs.Running.{Gave, ticked};
 ghost use Rattle.handler_meaning.specs.Doing.{assigns};
 ghost use Rattle.script_types.specs.Numbers.{IsNumbered, IsNumberedAssigning, IsNumberedTerm};
 ghost use Rattle.script_machine.specs.Agreeing.{Agrees};
+ghost use Rattle.script_machine.specs.Machines.{state_of};
 ghost use Rattle.script_machine.specs.Settings.{setting_of};
 
 use crate::names::text_of_name;
 use script_machine::{Machine, Scene, Stop, Variable};
 use script_reading::used;
 use script_types::{Assigning, Symbol, Term};
-use slee_effect::Effect;
-use slee_value::{Name, Text};
-use term_run::{eval, eval_activity, eval_calculated, is_calculated};
+use slee_effect::{Effect, Val};
+use slee_value::{Name, Text, Value};
+use term_run::{
+    calculated_at_hand, eval, eval_activity, eval_calculated, eval_joined, is_calculated, is_joined,
+};
 
 /// `let NAME = e;`
 #[inline(always)]
@@ -26,7 +30,7 @@ fn declare_value(machine: &mut Machine, scene: &Scene, term: &Term) -> Result<()
 {
     if is_calculated(term) {
         let number = eval_calculated(machine, scene, term)?;
-        return machine.declare(Variable::of_number(number));
+        return machine.declare_number(number);
     }
     let x = eval(machine, scene, term)?;
     machine.declare(Variable::of_value(x))
@@ -44,6 +48,10 @@ fn assign_value(machine: &mut Machine, scene: &Scene, place: usize, term: &Term)
     if is_calculated(term) {
         let number = eval_calculated(machine, scene, term)?;
         return machine.assign_number(place, number);
+    }
+    if is_joined(term) {
+        let text = eval_joined(machine, scene, term)?;
+        return machine.assign(place, Val::Plain(Value::Text(text)));
     }
     let x = eval(machine, scene, term)?;
     machine.assign(place, x)
@@ -103,6 +111,31 @@ fn set_attribute(
         value,
     };
     machine.add_numbered_effect(effect, number)
+}
+
+/// Does a step that gives a variable what an operator gives between operands at hand, with all its units. Answers whether it did;
+/// where not, nothing is done.
+#[inline(always)]
+pub fn assign_at_hand(machine: &mut Machine, scene: &Scene, step: &Assigning) -> bool
+    ensures done { result ≡ true → ticked (assigns (setting_of scene.now) (assigning_of step.now)) (state_of machine.old) ≡ Gave tt (state_of machine.new) }
+    ensures undone { result ≡ false → machine.new ≡ machine.old }
+    ensures spent { machine.new.left ≤ machine.old.left }
+    ensures names { machine.new.names ≡ machine.old.names }
+{
+    let Assigning::Variable(place, term) = step else {
+        return false;
+    };
+    let Term::Chain(first, more) = term else {
+        return false;
+    };
+    if !more.is_empty() {
+        return false;
+    }
+    // A unit each for the step, the operator and its two operands.
+    match calculated_at_hand(machine, first) {
+        Some(number) => machine.try_assign_number(4, *place, number),
+        None => false,
+    }
 }
 
 /// A step that gives a value to something.

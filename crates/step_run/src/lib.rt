@@ -15,7 +15,7 @@ mod sayings;
 mod timers;
 
 pub use activities::do_on_activities;
-pub use assigning::do_assigning;
+pub use assigning::{assign_at_hand, do_assigning};
 pub use entities::do_on_entities;
 pub use flow::Flow;
 pub use ranges::LAST_MOMENT;

@@ -1,7 +1,8 @@
 -- A chain of operators as it runs: the units of its operators first, then its operands from left to right.
-use Rattle.std.specs.Prelude.{ℕ, zero, suc, Bool, false, List, [], ◌∷◌, length}
+use Rattle.std.specs.Prelude.{ℕ, zero, suc, Bool, true, false, List, [], ◌∷◌, length}
 use Rattle.slee_effect.specs.declared.value.Val.{Val}
 use Rattle.script_types.specs.declared.term.Joint.{Joint}
+use Rattle.script_types.specs.declared.term.Joint.TheVariants as j
 use Rattle.script_types.specs.declared.term.Test.{Test}
 use Rattle.script_types.specs.declared.term.Atom.{Atom}
 use Rattle.script_types.specs.declared.term.Question.{Question}
@@ -65,3 +66,12 @@ measured s atom = do
 abbrev pub is_calculated : TermInMemory → Bool
 is_calculated (t.Chain' _ x joint y _ more) = is_arithmetic joint
 is_calculated _ = false
+
+-- a term that begins with `++`, and so gives a text
+abbrev pub is_join : Joint → Bool
+is_join j.Join = true
+is_join _ = false
+
+abbrev pub is_joined : TermInMemory → Bool
+is_joined (t.Chain' _ x joint y _ more) = is_join joint
+is_joined _ = false

@@ -1,5 +1,7 @@
 //! What is asked of activities.
 ghost use Rattle.std.specs.Prelude.{◌≡◌, ◌≤◌};
+ghost use Rattle.slee_value.specs.declared.value.Value.TheVariants as v;
+ghost use Rattle.slee_effect.specs.declared.value.Val.TheVariants.{Plain};
 ghost use Rattle.script_types.specs.declared.term.Question.TheVariants as q;
 ghost use Rattle.handler_meaning.specs.Terms.{ask, is_active};
 ghost use Rattle.handler_meaning.specs.Values.{flag};
@@ -13,6 +15,7 @@ use handler_meaning::AcSeen;
 use script_machine::{Machine, Place, Scalar, Scene, Stop, activity_of};
 use script_reading::{attached, attribute, attribute_scalar, is_masked, state_of, used};
 use script_types::Symbol;
+use slee_effect::Ref;
 use slee_value::{Kind, Text};
 
 fn is_active(seen: Option<AcSeen>) -> bool
@@ -69,6 +72,25 @@ pub(crate) fn ask_attribute<'a>(
     ensures kept { standing machine.new ≡ standing machine.old }
 {
     let activity = activity_of(machine.lend(x))?;
+    used(machine, scene, activity)?;
+    attribute(machine, scene, key, kind, activity)
+}
+
+/// `attr(activity, NAME)`
+pub(crate) fn own_attribute<'a>(
+    machine: &mut Machine,
+    scene: &Scene<'a>,
+    key: &Symbol<Text>,
+    kind: Kind,
+) -> Result<Place<'a>, Stop>
+    requires names { machine.old.names ≡ scene.now.names.now }
+    requires key { IsNumbered scene.now.names.now key.now }
+    ensures agrees { AgreesAs (value_at (standing machine.new)) (ask (setting_of scene.now) (q.Attribute key.now kind) (Plain (v.Activity scene.now.arguments.now.activity))) machine.old machine.new result }
+    ensures spent { machine.new.left ≤ machine.old.left }
+    ensures names { machine.new.names ≡ machine.old.names }
+    ensures kept { standing machine.new ≡ standing machine.old }
+{
+    let activity = Ref::Known(scene.arguments.activity.0);
     used(machine, scene, activity)?;
     attribute(machine, scene, key, kind, activity)
 }

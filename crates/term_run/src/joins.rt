@@ -1,9 +1,8 @@
 //! Texts that are joined. The parts of a chain are written one behind another, and the whole takes memory once.
 ghost use Rattle.std.specs.Prelude.{◌≡◌, ◌≤◌, ◌<◌, [], IfOk, OnOk, string_bytes};
 ghost use Rattle.std.specs.List.{AllByRecursion};
-ghost use Rattle.handler_meaning.specs.Terms.{combine, eval, single};
+ghost use Rattle.handler_meaning.specs.Terms.{combine, eval};
 ghost use Rattle.handler_meaning.specs.Values.{text};
-ghost use Rattle.script_types.specs.declared.term.Atom.TheVariants as a;
 ghost use Rattle.script_types.specs.declared.term.Joint.TheVariants as j;
 ghost use Rattle.script_types.specs.ProgramOf.{term_of, ask_of, combine_of};
 ghost use Rattle.script_types.specs.Numbers.{IsNumberedTerm};
@@ -14,12 +13,13 @@ ghost use Rattle.script_machine.specs.Settings.{setting_of};
 ghost use Rattle.term_run.specs.Links.{linked, chained};
 ghost use Rattle.term_run.specs.Writing.{EndsWriting, Writes};
 
+use crate::at_hand::text_at_hand;
 use crate::chains::spend;
 use crate::terms::{eval_number, find, find_asked};
 use handler_meaning::FailKind;
 use script_machine::{Lent, Machine, Scene, Stop, TEXT_LIMIT, write_number};
-use script_types::{Atom, Joint, Question, Term};
-use slee_value::{NoMemory, Text, Value};
+use script_types::{Joint, Question, Term};
+use slee_value::{NoMemory, Text};
 
 /// What a chain gives that begins with `++`.
 #[inline(never)]
@@ -68,8 +68,8 @@ fn write_pair(
 {
     machine.tick()?;
     let (one, _, other) = parts;
-    let is_text = write_term(machine, scene, one, whole)?;
-    let is_other_text = write_term(machine, scene, other, whole)?;
+    let is_text = write_part(machine, scene, one, whole)?;
+    let is_other_text = write_part(machine, scene, other, whole)?;
     if !is_text || !is_other_text {
         return Err(Stop::Unchecked);
     }
@@ -116,7 +116,7 @@ fn write_link(
     ensures names { machine.new.names ≡ machine.old.names }
     ensures kept { standing machine.new ≡ standing machine.old }
 {
-    let is_text = write_term(machine, scene, term, whole)?;
+    let is_text = write_part(machine, scene, term, whole)?;
     match joint {
         Joint::Join => {}
         _ => return Err(Stop::Unchecked),
@@ -130,7 +130,32 @@ fn write_link(
     Ok(())
 }
 
+/// Writes the text that a term gives behind others, which may well be at hand.
+#[inline(always)]
+#[cycle(terms)]
+fn write_part(
+    machine: &mut Machine,
+    scene: &Scene,
+    term: &Term,
+    whole: &mut String,
+) -> Result<bool, Stop>
+    requires names { machine.old.names ≡ scene.now.names.now }
+    requires term { IsNumberedTerm scene.now.names.now (term_of term.now) }
+    ensures writes { EndsWriting (eval (setting_of scene.now) (term_of term.now) (state_of machine.old)) machine.new (string_bytes whole.old) (string_bytes whole.new) result }
+    ensures spent { machine.new.left ≤ machine.old.left }
+    ensures names { machine.new.names ≡ machine.old.names }
+    ensures kept { standing machine.new ≡ standing machine.old }
+{
+    if let Some(text) = text_at_hand(machine, term) {
+        whole.push_str(text)?;
+        machine.tick()?;
+        return Ok(true);
+    }
+    write_term(machine, scene, term, whole)
+}
+
 /// Writes the text that a term gives behind others. If it gives something else, nothing is written.
+#[inline(never)]
 #[cycle(terms)]
 fn write_term(
     machine: &mut Machine,
@@ -146,15 +171,6 @@ fn write_term(
     ensures kept { standing machine.new ≡ standing machine.old }
 {
     match term {
-        Term::Single(Atom::Slot(place)) => {
-            machine.tick()?;
-            let value = machine.variable_value(*place)?;
-            Ok(write_lent(Lent::Set(value), whole)?)
-        }
-        Term::Single(Atom::Constant(value)) => {
-            machine.tick()?;
-            write_constant(machine, scene, value, whole)
-        }
         Term::Ask(parts) => write_asked(machine, scene, parts, whole),
         _ => write_found(machine, scene, term, whole),
     }
@@ -225,18 +241,4 @@ fn write_lent(lent: Lent, whole: &mut String) -> Result<bool, NoMemory>
         }
         None => Ok(false),
     }
-}
-
-/// Writes a constant behind others, if it is a text.
-#[inline(always)]
-fn write_constant(
-    machine: &Machine,
-    scene: &Scene,
-    value: &Value,
-    whole: &mut String,
-) -> Result<bool, Stop>
-    ensures { EndsWriting (single (setting_of scene.now) (a.Constant value.now) (state_of machine.now)) machine.now (string_bytes whole.old) (string_bytes whole.new) result }
-{
-    let is_text = write_lent(Lent::Held(value), whole)?;
-    Ok(is_text)
 }

@@ -5,6 +5,7 @@ mod asked_activities;
 mod asked_names;
 mod asked_rows;
 mod asked_timers;
+mod at_hand;
 mod atoms;
 mod chains;
 mod joins;
@@ -13,5 +14,6 @@ mod terms;
 mod typed;
 
 pub use asked_names::activity_value;
-pub use terms::{eval, eval_calculated, eval_truth, is_calculated};
+pub use at_hand::calculated_at_hand;
+pub use terms::{eval, eval_calculated, eval_joined, eval_truth, is_calculated, is_joined};
 pub use typed::{eval_activity, eval_int, eval_text, eval_timer};

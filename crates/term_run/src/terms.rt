@@ -1,17 +1,20 @@
 //! Terms with all that stands in them. A term's unit is spent before its parts. A value is lent where it stands, and numbers and truth values go ways of their own.
 ghost use Rattle.std.specs.Prelude.{◌≡◌, ◌≤◌, ◌<◌, OnOk, true, false};
 ghost use Rattle.std.specs.List.{AllByRecursion};
-ghost use Rattle.handler_meaning.specs.Terms.{eval};
-ghost use Rattle.handler_meaning.specs.Values.{int, flag};
+ghost use Rattle.handler_meaning.specs.Running.{ticked};
+ghost use Rattle.handler_meaning.specs.Terms.{eval, single};
+ghost use Rattle.handler_meaning.specs.Values.{int, flag, text};
 ghost use Rattle.script_types.specs.ProgramOf.{term_of, ask_of, compare_of, combine_of};
-ghost use Rattle.script_types.specs.Numbers.{IsNumberedQuestion, IsNumberedTerm};
+ghost use Rattle.script_types.specs.Numbers.{IsNumberedAtom, IsNumberedQuestion, IsNumberedTerm};
 ghost use Rattle.script_machine.specs.Agreeing.{Agrees, AgreesAs, EndsFinding};
 ghost use Rattle.script_machine.specs.Kinds.{NoInt, NoFlag, is_arithmetic, is_choice, is_of_numbers};
 ghost use Rattle.script_machine.specs.Lending.{value_at, standing};
 ghost use Rattle.script_machine.specs.Machines.{state_of};
 ghost use Rattle.script_machine.specs.Settings.{setting_of};
-ghost use Rattle.term_run.specs.Links.{linked, chained, compared, applied, asked, is_calculated};
+ghost use Rattle.term_run.specs.Links.{linked, chained, compared, applied, asked, is_calculated, is_joined};
 
+use crate::asked_activities::own_attribute;
+use crate::at_hand::{calculated_at_hand, compared_at_hand, number_at_hand};
 use crate::atoms::{constant_scalar, made_flag, single, single_scalar, slot_scalar};
 use crate::chains::spend;
 use crate::joins::text_chain;
@@ -23,9 +26,10 @@ use script_machine::{
 use script_reading::field_scalar;
 use script_types::{Atom, Joint, Question, Term, Test};
 use slee_effect::Val;
-use slee_value::Value;
+use slee_value::{Text, Value};
 
-/// What a term gives.
+/// What a term gives. Many an argument is a number at hand.
+#[inline(always)]
 pub fn eval(machine: &mut Machine, scene: &Scene, term: &Term) -> Result<Val, Stop>
     requires names { machine.old.names ≡ scene.now.names.now }
     requires term { IsNumberedTerm scene.now.names.now (term_of term.now) }
@@ -35,7 +39,58 @@ pub fn eval(machine: &mut Machine, scene: &Scene, term: &Term) -> Result<Val, St
 {
     match term {
         Term::Chain(first, more) => eval_chain(machine, scene, first, more),
+        Term::Single(_) => eval_single(machine, scene, term),
         _ => eval_found(machine, scene, term),
+    }
+}
+
+/// What a term gives, which may well be a number at hand.
+#[inline(always)]
+fn eval_single(machine: &mut Machine, scene: &Scene, term: &Term) -> Result<Val, Stop>
+    requires names { machine.old.names ≡ scene.now.names.now }
+    requires term { IsNumberedTerm scene.now.names.now (term_of term.now) }
+    ensures agrees { Agrees (eval (setting_of scene.now) (term_of term.now)) machine.old machine.new result }
+    ensures spent { machine.new.left ≤ machine.old.left }
+    ensures names { machine.new.names ≡ machine.old.names }
+{
+    if let Some(number) = number_at_hand(machine, term) {
+        if machine.try_spend(1) {
+            return Ok(Val::Plain(Value::Int(number)));
+        }
+    }
+    eval_found(machine, scene, term)
+}
+
+/// Whether a term begins with `++`, so that it gives a text.
+#[inline(always)]
+pub fn is_joined(term: &Term) -> bool
+    ensures { result ≡ is_joined term.now }
+{
+    match term {
+        Term::Chain(first, _) => match first.1 {
+            Joint::Join => true,
+            _ => false,
+        },
+        _ => false,
+    }
+}
+
+/// The text that a term gives which begins with `++`.
+#[inline(always)]
+pub fn eval_joined(machine: &mut Machine, scene: &Scene, term: &Term) -> Result<Text, Stop>
+    requires names { machine.old.names ≡ scene.now.names.now }
+    requires term { IsNumberedTerm scene.now.names.now (term_of term.now) }
+    requires joined { is_joined term.now ≡ true }
+    ensures agrees { AgreesAs (λ t. text t) (eval (setting_of scene.now) (term_of term.now)) machine.old machine.new result }
+    ensures spent { machine.new.left ≤ machine.old.left }
+    ensures names { machine.new.names ≡ machine.old.names }
+{
+    match term {
+        Term::Chain(first, more) => match first.1 {
+            Joint::Join => text_chain(machine, scene, first, more),
+            _ => Err(Stop::Unchecked),
+        },
+        _ => Err(Stop::Unchecked),
     }
 }
 
@@ -51,6 +106,7 @@ pub fn is_calculated(term: &Term) -> bool
 }
 
 /// The number that a term gives which begins with an operator between numbers.
+#[inline(always)]
 pub fn eval_calculated(machine: &mut Machine, scene: &Scene, term: &Term) -> Result<i64, Stop>
     requires names { machine.old.names ≡ scene.now.names.now }
     requires term { IsNumberedTerm scene.now.names.now (term_of term.now) }
@@ -60,7 +116,7 @@ pub fn eval_calculated(machine: &mut Machine, scene: &Scene, term: &Term) -> Res
     ensures names { machine.new.names ≡ machine.old.names }
 {
     match term {
-        Term::Chain(first, more) => number_chain(machine, scene, first, more),
+        Term::Chain(first, more) => number_chain_at_hand(machine, scene, first, more),
         _ => Err(Stop::Unchecked),
     }
 }
@@ -138,7 +194,7 @@ fn find_any<'a, 's: 'a>(
     }
 }
 
-/// The number that a term gives, if it gives one. Most are variables, constants, fields and questions.
+/// The number that a term gives, if it gives one. Most are variables, constants and fields.
 #[inline(always)]
 #[cycle(terms)]
 pub(crate) fn eval_number(
@@ -166,7 +222,6 @@ pub(crate) fn eval_number(
             machine.tick()?;
             field_scalar(machine, scene, name, *kind)
         }
-        Term::Ask(parts) => asked_number(machine, scene, parts),
         _ => eval_any_number(machine, scene, term),
     }
 }
@@ -183,17 +238,44 @@ fn eval_any_number(machine: &mut Machine, scene: &Scene, term: &Term) -> Result<
     ensures kept { standing machine.new ≡ standing machine.old }
 {
     match term {
-        Term::Single(atom) => {
-            machine.tick()?;
-            single_scalar(machine, scene, atom)
-        }
+        Term::Single(atom) => ticked_number(machine, scene, atom),
         Term::Ask(parts) => asked_number(machine, scene, parts),
-        Term::Compare(parts) => {
-            let _ = eval_compared(machine, scene, parts)?;
-            Ok(None)
-        }
+        Term::Compare(parts) => compared_number(machine, scene, parts),
         Term::Chain(first, more) => number_in_chain(machine, scene, first, more),
     }
+}
+
+/// The number that a term without parts gives, if it gives one.
+#[inline(never)]
+fn ticked_number(machine: &mut Machine, scene: &Scene, atom: &Atom) -> Result<Option<i64>, Stop>
+    requires names { machine.old.names ≡ scene.now.names.now }
+    requires atom { IsNumberedAtom scene.now.names.now atom.now }
+    ensures finds { EndsFinding int NoInt (ticked (single (setting_of scene.now) atom.now) (state_of machine.old)) machine.new result }
+    ensures spent { machine.new.left ≤ machine.old.left }
+    ensures names { machine.new.names ≡ machine.old.names }
+    ensures kept { standing machine.new ≡ standing machine.old }
+{
+    machine.tick()?;
+    single_scalar(machine, scene, atom)
+}
+
+/// A comparison gives no number.
+#[inline(never)]
+#[cycle(terms)]
+fn compared_number(
+    machine: &mut Machine,
+    scene: &Scene,
+    parts: &(Test, Term, Term),
+) -> Result<Option<i64>, Stop>
+    requires names { machine.old.names ≡ scene.now.names.now }
+    requires parts { IsNumberedTerm scene.now.names.now (compare_of parts.now) }
+    ensures finds { EndsFinding int NoInt (eval (setting_of scene.now) (compare_of parts.now) (state_of machine.old)) machine.new result }
+    ensures spent { machine.new.left ≤ machine.old.left }
+    ensures names { machine.new.names ≡ machine.old.names }
+    ensures kept { standing machine.new ≡ standing machine.old }
+{
+    let _ = eval_compared(machine, scene, parts)?;
+    Ok(None)
 }
 
 /// The truth value that a term gives, if it gives one. Most are comparisons and fields.
@@ -208,7 +290,7 @@ pub fn eval_truth(machine: &mut Machine, scene: &Scene, term: &Term) -> Result<O
     ensures kept { standing machine.new ≡ standing machine.old }
 {
     match term {
-        Term::Compare(parts) => Ok(Some(eval_compared(machine, scene, parts)?)),
+        Term::Compare(parts) => Ok(Some(eval_test(machine, scene, parts)?)),
         Term::Single(Atom::Field(name, kind)) => {
             machine.tick()?;
             field_scalar(machine, scene, name, *kind)
@@ -255,7 +337,32 @@ pub(crate) fn find_asked<'a, 's: 'a>(
     ensures kept { standing machine.new ≡ standing machine.old }
 {
     machine.tick()?;
-    let (question, term) = parts;
+    match parts {
+        (Question::Attribute(key, kind), Term::Single(Atom::Activity)) => {
+            machine.tick()?;
+            own_attribute(machine, scene, key, *kind)
+        }
+        (question, term) => find_placed(machine, scene, question, term),
+    }
+}
+
+/// Where that stands which a question to a term gives, behind its unit.
+#[inline(never)]
+#[cycle(terms)]
+fn find_placed<'a, 's: 'a>(
+    machine: &mut Machine,
+    scene: &Scene<'s>,
+    question: &'a Question,
+    term: &'a Term,
+) -> Result<Place<'a>, Stop>
+    requires names { machine.old.names ≡ scene.now.names.now }
+    requires question { IsNumberedQuestion scene.now.names.now question.now }
+    requires term { IsNumberedTerm scene.now.names.now (term_of term.now) }
+    ensures agrees { AgreesAs (value_at (standing machine.new)) (asked (setting_of scene.now) question.now (term_of term.now)) machine.old machine.new result }
+    ensures spent { machine.new.left ≤ machine.old.left }
+    ensures names { machine.new.names ≡ machine.old.names }
+    ensures kept { standing machine.new ≡ standing machine.old }
+{
     let x = find(machine, scene, term)?;
     ask(machine, scene, question, &x)
 }
@@ -337,6 +444,24 @@ fn asked_truth(
             let x = find(machine, scene, term)?;
             ask_scalar(machine, scene, question, &x)
         }
+    }
+}
+
+/// What a comparison of two terms gives, which may well be numbers at hand.
+#[inline(always)]
+#[cycle(terms)]
+fn eval_test(machine: &mut Machine, scene: &Scene, parts: &(Test, Term, Term)) -> Result<bool, Stop>
+    requires names { machine.old.names ≡ scene.now.names.now }
+    requires parts { IsNumberedTerm scene.now.names.now (compare_of parts.now) }
+    ensures agrees { AgreesAs flag (eval (setting_of scene.now) (compare_of parts.now)) machine.old machine.new result }
+    ensures spent { machine.new.left ≤ machine.old.left }
+    ensures names { machine.new.names ≡ machine.old.names }
+    ensures kept { standing machine.new ≡ standing machine.old }
+{
+    let (test, one, other) = parts;
+    match compared_at_hand(machine, one, other) {
+        Some((x, y)) => machine.compare_numbers(*test, x, y),
+        None => eval_compared(machine, scene, parts),
     }
 }
 
@@ -556,6 +681,34 @@ fn number_chain(
     spend(machine, more.len())?;
     let x = number_pair(machine, scene, first)?;
     number_links(machine, scene, more, x)
+}
+
+/// The same, where most chains are one operator between operands at hand.
+#[inline(always)]
+fn number_chain_at_hand(
+    machine: &mut Machine,
+    scene: &Scene,
+    first: &(Term, Joint, Term),
+    more: &[(Joint, Term)],
+) -> Result<i64, Stop>
+    requires names { machine.old.names ≡ scene.now.names.now }
+    requires first { IsNumberedTerm scene.now.names.now (combine_of first.now) }
+    requires more { AllByRecursion (λ x. IsNumberedTerm scene.now.names.now (term_of x.1)) more.now }
+    requires joint { is_arithmetic first.now.1 ≡ true }
+    ensures agrees { AgreesAs int (chained (setting_of scene.now) (combine_of first.now) more.now) machine.old machine.new result }
+    ensures spent { machine.new.left ≤ machine.old.left }
+    ensures names { machine.new.names ≡ machine.old.names }
+    ensures kept { standing machine.new ≡ standing machine.old }
+{
+    if more.is_empty() {
+        if let Some(number) = calculated_at_hand(machine, first) {
+            // A unit each for the operator and its two operands.
+            if machine.try_spend(3) {
+                return Ok(number);
+            }
+        }
+    }
+    number_chain(machine, scene, first, more)
 }
 
 /// What a chain gives that begins with `and` or `or`.

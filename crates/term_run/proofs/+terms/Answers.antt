@@ -16,6 +16,7 @@ use Rattle.script_machine.specs.Lending.{value_at, standing}
 use Rattle.script_machine.specs.Machines.{state_of}
 use Rattle.script_machine.specs.Kinds.{NoInt, NoFlag}
 use Rattle.term_run.proofs.ChainLemmas.{chain_eval, chain_numbered, number_stops, number_step}
+use Rattle.term_run.proofs.HandLemmas.{tick_apart, given_behind}
 use Rattle.term_run.proofs.+terms.Goals as goal
 
 pub terms::find_any-returns-in-Chain-clause-agrees : goal.terms::find_any-returns-in-Chain-clause-agrees
@@ -26,8 +27,8 @@ pub terms::eval_any_truth-returns-in-Chain-clause-finds : goal.terms::eval_any_t
 terms::eval_any_truth-returns-in-Chain-clause-finds t c =
     subst (λ (x : Ending Val). EndsFinding flag NoFlag x c.truth_in_chain.new.machine c.truth_in_chain.result) (sym (chain_eval (setting_of c.args.scene.now) c.args.term.now c.in-Chain.first c.in-Chain.more (state_of c.args.machine.now) c.in-Chain.is)) (rw (c.deref-in-Chain.ensures, c.deref-in-Chain-2.ensures.value) at c.truth_in_chain.ensures.finds)
 
-pub terms::eval_any_number-returns-in_ok-eval_compared-in-Compare-clause-finds : goal.terms::eval_any_number-returns-in_ok-eval_compared-in-Compare-clause-finds
-terms::eval_any_number-returns-in_ok-eval_compared-in-Compare-clause-finds t c = (flag c.in_ok-eval_compared-in-Compare.field-0, (tt, search rules))
+pub terms::compared_number-returns-clause-finds : goal.terms::compared_number-returns-clause-finds
+terms::compared_number-returns-clause-finds t c = (flag c.in_ok-eval_compared.field-0, (tt, search rules))
 
 pub terms::eval_any_number-returns-in-Chain-clause-finds : goal.terms::eval_any_number-returns-in-Chain-clause-finds
 terms::eval_any_number-returns-in-Chain-clause-finds t c =
@@ -66,10 +67,6 @@ pub terms::eval_any_number-returns-in-Ask-clause-finds : goal.terms::eval_any_nu
 terms::eval_any_number-returns-in-Ask-clause-finds t c =
     subst (λ (x : TermInMemory). EndsFinding int NoInt (eval (setting_of c.args.scene.now) (term_of x) (state_of c.args.machine.now)) c.asked_number.new.machine c.asked_number.result) (sym c.in-Ask.is) (rw c.deref.ensures at c.asked_number.ensures.finds)
 
-pub terms::eval_number-returns-in-Ask-clause-finds : goal.terms::eval_number-returns-in-Ask-clause-finds
-terms::eval_number-returns-in-Ask-clause-finds t c =
-    subst (λ (x : TermInMemory). EndsFinding int NoInt (eval (setting_of c.args.scene.now) (term_of x) (state_of c.args.machine.now)) c.asked_number.new.machine c.asked_number.result) (sym c.in-Ask.is) (rw c.deref.ensures at c.asked_number.ensures.finds)
-
 pub terms::eval_any_truth-returns-in-Ask-clause-finds : goal.terms::eval_any_truth-returns-in-Ask-clause-finds
 terms::eval_any_truth-returns-in-Ask-clause-finds t c =
     subst (λ (x : TermInMemory). EndsFinding flag NoFlag (eval (setting_of c.args.scene.now) (term_of x) (state_of c.args.machine.now)) c.asked_truth.new.machine c.asked_truth.result) (sym c.in-Ask.is) (rw c.deref.ensures at c.asked_truth.ensures.finds)
@@ -82,3 +79,12 @@ joins::write_asked-returns-in_ok-write_number-in-TextOfInt-clause-writes t c =
 pub joins::write_term-returns-in-Ask-clause-writes : goal.joins::write_term-returns-in-Ask-clause-writes
 joins::write_term-returns-in-Ask-clause-writes t c =
     subst (λ (x : TermInMemory). EndsWriting (eval (setting_of c.args.scene.now) (term_of x) (state_of c.args.machine.now)) c.write_asked.new.machine (string_bytes c.args.whole.now) (string_bytes c.write_asked.new.whole) c.write_asked.result) (sym c.in-Ask.is) (rw c.deref.ensures at c.write_asked.ensures.writes)
+
+pub terms::eval_test-returns-in-Some-clause-agrees : goal.terms::eval_test-returns-in-Some-clause-agrees
+terms::eval_test-returns-in-Some-clause-agrees t c =
+    subst (λ (x : Ending Val). EndsAs flag x c.compared_at_hand.new.machine c.compare_numbers.result) (sym (c.in-Some.ensures.given (setting_of c.args.scene.now) c.args.parts.now.0)) (rw (to_z-of_z w64 c.in-Some.x (search rules), to_z-of_z w64 c.in-Some.y (search rules)) at c.compare_numbers.ensures)
+
+pub joins::write_part-returns-in-Some-clause-writes : goal.joins::write_part-returns-in-Some-clause-writes
+joins::write_part-returns-in-Some-clause-writes t c =
+    let spent = tick_apart (state_of c.args.machine.now) (state_of c.tick.new.self) c.in_ok-tick.ensures.agrees in
+    (text c.in-Some.text.now, (search rules, given_behind (eval (setting_of c.args.scene.now) (term_of c.args.term.now)) 1 (text c.in-Some.text.now) c.args.machine.now c.tick.new.self (c.in-Some.ensures (setting_of c.args.scene.now)) spent))

@@ -19,6 +19,9 @@ decreases-terms::eval_number l = 16 * l.machine.now.left + 5
 abbrev pub decreases-terms::eval_any_number : goal.decreases-terms::eval_any_number
 decreases-terms::eval_any_number l = 16 * l.machine.now.left + 4
 
+abbrev pub decreases-terms::compared_number : goal.decreases-terms::compared_number
+decreases-terms::compared_number l = 16 * l.machine.now.left + 1
+
 abbrev pub decreases-terms::eval_truth : goal.decreases-terms::eval_truth
 decreases-terms::eval_truth l = 16 * l.machine.now.left + 5
 
@@ -36,6 +39,12 @@ decreases-terms::placed_number l = 16 * l.machine.now.left + 6
 
 abbrev pub decreases-terms::asked_truth : goal.decreases-terms::asked_truth
 decreases-terms::asked_truth l = 16 * l.machine.now.left
+
+abbrev pub decreases-terms::eval_test : goal.decreases-terms::eval_test
+decreases-terms::eval_test l = 16 * l.machine.now.left + 3
+
+abbrev pub decreases-terms::find_placed : goal.decreases-terms::find_placed
+decreases-terms::find_placed l = 16 * l.machine.now.left + 6
 
 abbrev pub decreases-terms::eval_compared : goal.decreases-terms::eval_compared
 decreases-terms::eval_compared l = 16 * l.machine.now.left
@@ -89,10 +98,13 @@ abbrev pub decreases-joins::write_pair : goal.decreases-joins::write_pair
 decreases-joins::write_pair l = 16 * l.machine.now.left
 
 abbrev pub decreases-joins::write_links : goal.decreases-joins::write_links
-decreases-joins::write_links l = 16 * l.machine.now.left + 9
+decreases-joins::write_links l = 16 * l.machine.now.left + 10
 
 abbrev pub decreases-joins::write_link : goal.decreases-joins::write_link
-decreases-joins::write_link l = 16 * l.machine.now.left + 8
+decreases-joins::write_link l = 16 * l.machine.now.left + 9
+
+abbrev pub decreases-joins::write_part : goal.decreases-joins::write_part
+decreases-joins::write_part l = 16 * l.machine.now.left + 8
 
 abbrev pub decreases-joins::write_term : goal.decreases-joins::write_term
 decreases-joins::write_term l = 16 * l.machine.now.left + 7
