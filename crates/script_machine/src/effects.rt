@@ -18,7 +18,7 @@ pub const EFFECT_LIMIT: usize = 256;
 pub const EFFECT_BYTES_LIMIT: u32 = 32_768;
 
 /// How many effects most runs have at most. For so many, memory is taken once.
-const FEW_EFFECTS: usize = 16;
+const FEW_EFFECTS: usize = 8;
 
 impl Machine<'_> {
     /// Takes memory for so many effects as most runs have, before the first of them.

@@ -2,7 +2,7 @@
 ghost use Rattle.std.specs.Prelude.{◌≡◌, ◌≤◌, ◌<◌, ◌+◌, OnOk, OnErr, true, false};
 ghost use Rattle.handler_meaning.specs.Running.{Holds, tick, declare, assign};
 ghost use Rattle.handler_meaning.specs.Meaning.{start};
-ghost use Rattle.handler_meaning.specs.Values.{int};
+ghost use Rattle.handler_meaning.specs.Values.{int, text};
 ghost use Rattle.script_machine.specs.Agreeing.{Agrees};
 ghost use Rattle.script_machine.specs.Lending.{standing};
 ghost use Rattle.script_machine.specs.Machines.{state_of};
@@ -150,6 +150,20 @@ impl<'a> Machine<'a> {
         self.left -= units;
         self.variables[place].set_number(number);
         true
+    }
+
+    /// Gives a text to the variable in this place.
+    #[inline(always)]
+    pub fn assign_text(&mut self, place: usize, given: Text) -> Result<(), Stop>
+        ensures agrees { Agrees (assign place (text given)) self.old self.new result }
+        ensures spent { self.new.left ≤ self.old.left }
+        ensures names { self.new.names ≡ self.old.names }
+    {
+        if place < self.variables.len() {
+            self.variables[place] = Variable::of_text(given);
+            return Ok(());
+        }
+        Err(Stop::Unchecked)
     }
 
     /// Gives a number to the variable in this place.

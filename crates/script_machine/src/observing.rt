@@ -21,7 +21,7 @@ use std::alloc::Global;
 pub const KEY_LIMIT: usize = 64;
 
 /// How many keys most runs read at most. For so many, memory is taken once.
-const FEW_KEYS: usize = 16;
+const FEW_KEYS: usize = 8;
 
 /// A key that isn't counted yet, with the number of its name.
 #[derive(Debug, Drop)]

@@ -2,11 +2,11 @@
 ghost use Rattle.std.specs.Prelude.{◌≡◌, Some, option_map};
 ghost use Rattle.std.specs.Option.{option_copied};
 ghost use Rattle.handler_meaning.specs.Running.{Holds, Child};
-ghost use Rattle.handler_meaning.specs.Values.{int};
+ghost use Rattle.handler_meaning.specs.Values.{int, text};
 ghost use Rattle.script_machine.specs.Variables.{value_in, child_in, number_held, text_held};
 
 use slee_effect::{Ref, Val};
-use slee_value::Value;
+use slee_value::{Text, Value};
 use std::marker::Model;
 
 /// A variable: it holds a value, or stands for a child.
@@ -48,6 +48,16 @@ impl Variable {
     {
         Variable {
             held: Held::Value(Val::Plain(Value::Int(number))),
+        }
+    }
+
+    /// A variable that holds this text.
+    #[inline(always)]
+    pub fn of_text(given: Text) -> Self
+        ensures { result ≡ Holds (text given) }
+    {
+        Variable {
+            held: Held::Value(Val::Plain(Value::Text(given))),
         }
     }
 

@@ -13,8 +13,8 @@ use crate::names::text_of_name;
 use script_machine::{Machine, Scene, Stop, Variable};
 use script_reading::used;
 use script_types::{Assigning, Symbol, Term};
-use slee_effect::{Effect, Val};
-use slee_value::{Name, Text, Value};
+use slee_effect::Effect;
+use slee_value::{Name, Text};
 use term_run::{
     calculated_at_hand, eval, eval_activity, eval_calculated, eval_joined, is_calculated, is_joined,
 };
@@ -51,7 +51,7 @@ fn assign_value(machine: &mut Machine, scene: &Scene, place: usize, term: &Term)
     }
     if is_joined(term) {
         let text = eval_joined(machine, scene, term)?;
-        return machine.assign(place, Val::Plain(Value::Text(text)));
+        return machine.assign_text(place, text);
     }
     let x = eval(machine, scene, term)?;
     machine.assign(place, x)
