@@ -3,8 +3,8 @@
 say the same. Outside the gate.
 
     python3 bench/check_rows.py [WORD]      all rows, or those that have WORD
-    python3 bench/check_rows.py --documents the deployments, one a line, as they stand at the end of crates/deploy_rows/stdin
-    python3 bench/check_rows.py --answers   their answers by hand, as they stand at the end of crates/deploy_rows/stdout
+    python3 bench/check_rows.py --documents the deployments, one a line, as they stand at the end of crates/golden_deployments/stdin
+    python3 bench/check_rows.py --answers   their answers by hand, as they stand at the end of crates/golden_deployments/stdout
 
 A row is a script in one of the roles below, in which @KIND stands right before the place of its first fault, with a blank behind
 it that isn't part of the script; without that mark the script has no fault. Behind them stand whole deployments with their answers.

@@ -1,9 +1,9 @@
 #!/usr/bin/env python3
 """Deployments and the first fault of each, worked out by hand from docs/FORMATS.md. With no fault the answer is None.
 
-    python3 bench/deployment_rows.py             do the definitions of deployment_parts say the same? Without the tool that
+    python3 bench/deployment_rows.py             do the definitions of deploy_model say the same? Without the tool that
                                                  evaluates definitions (deployments.py says where it is looked for) nothing is run
-    python3 bench/deployment_rows.py --program   does the built program descriptor_rows? (cd crates/descriptor_rows && rt run < stdin)
+    python3 bench/deployment_rows.py --program   does the built program golden_parts? (cd crates/golden_parts && rt run < stdin)
     python3 bench/deployment_rows.py --write     writes what the gate runs that program on, and what it has to print
 
 The rows are: deployments one by one; one good deployment with each fault that parts can have, in the order of the walk, alone and
@@ -18,7 +18,7 @@ import sys
 
 import deployments
 
-CRATE = os.path.join(os.path.dirname(os.path.abspath(__file__)), "..", "crates", "descriptor_rows")
+CRATE = os.path.join(os.path.dirname(os.path.abspath(__file__)), "..", "crates", "golden_parts")
 
 
 def item(key, **members):
@@ -331,7 +331,7 @@ class Builder:
         self.kinds = {word: getattr(kind, "value", kind) for word, kind in found.items()}
 
     def record(self, kind_of_row, /, **fields):
-        return self.world.record(f"deployment_parts.parts.{kind_of_row}", **fields)
+        return self.world.record(f"deploy_model.parts.{kind_of_row}", **fields)
 
     def text(self, s):
         return self.rundefs.codes(s)
@@ -435,7 +435,7 @@ def texts(rows):
 def run_program():
     rows = [*of_the_gate(), *(row_and_answer(d, wanted) for _, d, wanted in [*other_pairs(), *long_lists(LONGER_LISTS)])]
     given, wanted = texts(rows)
-    done = subprocess.run([os.path.join(CRATE, "out", "descriptor_rows")], input=given, capture_output=True, text=True, check=False)
+    done = subprocess.run([os.path.join(CRATE, "out", "golden_parts")], input=given, capture_output=True, text=True, check=False)
     differ = 0
     for found, line in zip([*done.stdout.split("\n"), *[""] * len(wanted)], wanted.split("\n")):
         if found != line:
@@ -453,7 +453,7 @@ def run_definitions():
     import rundefs
 
     builder = Builder(rundefs, world)
-    fault_of = builder.world.eval("deployment_parts.specs.Tables.parts_fault")
+    fault_of = builder.world.eval("deploy_model.specs.Tables.parts_fault")
     rows = [*ROWS, *alone_and_in_pairs(), *other_pairs()]
     wrong = 0
     for name, row, wanted in rows:

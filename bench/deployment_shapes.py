@@ -1,6 +1,6 @@
 #!/usr/bin/env python3
 """Documents and the first fault of each, worked out by hand from docs/FORMATS.md, and a check that the definition of
-deploy_tables says the same. Without the tool that evaluates definitions (deployments.py says where it is looked for) nothing
+deploy_schema says the same. Without the tool that evaluates definitions (deployments.py says where it is looked for) nothing
 is run, and it says so. With no fault the answer is None. Given a folder of cases, it runs their deployments too."""
 import json
 import os
@@ -226,7 +226,7 @@ def main():
     import rundefs
 
     documents = Documents(rundefs, world)
-    fault_of = world.eval("deploy_tables.specs.Tables.shape_fault")
+    fault_of = world.eval("deploy_schema.specs.Tables.shape_fault")
     rows = ROWS + deployment_rows.ROWS + (list(cases(sys.argv[1])) if len(sys.argv) > 1 else [])
     wrong = 0
     for name, row, wanted in rows:

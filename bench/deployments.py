@@ -150,10 +150,10 @@ class Deployment:
         )
 
     def given(self, kind, **fields):
-        return self.world.record("deployment_parts.specs.Deployed." + kind, **fields)
+        return self.world.record("deploy_model.specs.Deployed." + kind, **fields)
 
     def choice(self, kind, word):
-        return self.world.variant("deployment_parts.choice." + kind, word)()
+        return self.world.variant("deploy_model.choice." + kind, word)()
 
     def handling(self, handler):
         initial, custom = handler.get("initial"), handler.get("custom")

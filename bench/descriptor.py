@@ -11,7 +11,7 @@ Building 10,000 blocks is to take at most 2.3 times what 5,000 take. Two figures
 A table by names doubles when it is full, which costs as much as all doublings before, so building grows in steps: tables double
 at 4,608, 9,216 and 18,432 names. 5,000 and 10,000 both stand right behind a step; from 9,000 to 9,500 there is one, which no
 figure here speaks of.
-Build the program first: cd crates/descriptor_rows && rt run < stdin
+Build the program first: cd crates/golden_parts && rt run < stdin
 """
 import json
 import os
@@ -24,7 +24,7 @@ import tempfile
 
 from deployment_rows import CRATE, deployment, item, on
 
-PROGRAM = os.path.join(CRATE, "out", "descriptor_rows")
+PROGRAM = os.path.join(CRATE, "out", "golden_parts")
 SIZES, AT_MOST = (5_000, 10_000), 2.3
 TIMES, RUNS = 10, 15
 
@@ -66,7 +66,7 @@ def print_times(what, shown, took):
 
 def main():
     if not os.path.exists(PROGRAM):
-        sys.exit("build it first: cd crates/descriptor_rows && rt run < stdin")
+        sys.exit("build it first: cd crates/golden_parts && rt run < stdin")
     rows = [blocks(n) for n in SIZES]
     for n, row in zip(SIZES, rows):
         if ended([PROGRAM], row).stdout != f"ok 1 0 0 {n} {n}\n":

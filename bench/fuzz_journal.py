@@ -5,13 +5,13 @@
     python3 bench/fuzz_journal.py --count 500         so many
     python3 bench/fuzz_journal.py --seed 8            others
     python3 bench/fuzz_journal.py --deploy FILE       with the deployment of a file, in place of the one that is built in
-                                                      (and of `bench` for journal_bench)
+                                                      (and of `bench` for bench_journal)
     python3 bench/fuzz_journal.py --cmd PROGRAM..     with another program and its words, as
-                                                      --cmd crates/journal_bench/out/journal_bench open bench
+                                                      --cmd crates/bench_journal/out/bench_journal open bench
 
 Each pair of files `journal.a` and `journal.b` lies in a folder of its own beside the deployment `deploy.json`. The
 program has to end by itself with a status that is named for such files: 0, or 8 for a damaged journal and 9 for
-another deployment, of which the last line tells; `journal_bench` has the status 1 for both. What it tells of headers,
+another deployment, of which the last line tells; `bench_journal` has the status 1 for both. What it tells of headers,
 lengths, sides and deployments has to be what this script finds by docs/FORMATS.md, and after a fault both files are as
 they were.
 """
@@ -26,7 +26,7 @@ import time
 
 TOP = os.path.join(os.path.dirname(os.path.abspath(__file__)), "..")
 SLEE = "slee"
-JOURNAL_BENCH = "journal_bench"
+JOURNAL_BENCH = "bench_journal"
 # What may be wrong with the records themselves, of which this script knows nothing.
 DEEPER = r"status 8 bad-journal [ab] (0 snapshot|\d+ (record|replay))"
 LARGEST = 2**64 - 1

@@ -4,7 +4,7 @@
     python3 bench/fuzz_scripts.py [COUNT] [SEED]
 
 It makes COUNT scripts from the grammar, spoils most of them a little, and asks both what each is and how a good one is laid
-out; each good one has to be printed, read and printed again alike. Build the program first: cd crates/lang_rows && rt run < stdin
+out; each good one has to be printed, read and printed again alike. Build the program first: cd crates/golden_scripts && rt run < stdin
 """
 import os
 import random
@@ -13,7 +13,7 @@ import subprocess
 import sys
 
 HERE = os.path.dirname(os.path.abspath(__file__))
-PROGRAM = os.path.join(HERE, "..", "crates", "lang_rows", "out", "lang_rows")
+PROGRAM = os.path.join(HERE, "..", "crates", "golden_scripts", "out", "golden_scripts")
 ONE = ("text", "len", "active", "attached", "bound", "lookup", "has_timer")
 NAMED = ("table", "count", "priority")
 CONSTANTS = ("true", "false", "none", "now", "activity", "failure")

@@ -4,7 +4,7 @@
     python3 bench/journal.py
 
 Each line is the median of five runs of 2,000 flushes, taken in turn with the bare loop. The ratio is to be at most 2.5.
-Build the program first: cd crates/journal_bench && rt run -- write 0 1
+Build the program first: cd crates/bench_journal && rt run -- write 0 1
 """
 import os
 import statistics
@@ -14,7 +14,7 @@ import tempfile
 import time
 
 HERE = os.path.dirname(os.path.abspath(__file__))
-PROGRAM = os.path.join(HERE, "..", "crates", "journal_bench", "out", "journal_bench")
+PROGRAM = os.path.join(HERE, "..", "crates", "bench_journal", "out", "bench_journal")
 COUNT = 2_000
 RUNS = 5
 
@@ -52,7 +52,7 @@ def both(size):
 
 def main():
     if not os.path.exists(PROGRAM):
-        sys.exit("build it first: cd crates/journal_bench && rt run -- write 0 1")
+        sys.exit("build it first: cd crates/bench_journal && rt run -- write 0 1")
     print(f"{'bytes':>7} {'us/flush':>9} {'us/bare':>9} {'ratio':>6} {'least':>6} {'most':>6}")
     for size in (16, 256, 4_096, 65_535):
         runs = [both(size) for _ in range(RUNS)]

@@ -6,8 +6,8 @@
     python3 bench/lines.py --small          a tenth of the lines
 
 Tables: `starts`, n, 2n and 4n lines of `start` (all activities stay alive); `calls`, calls of three lines one after
-another; `reading`, megabytes a second of reading alone, in processor time, by the program line_bench (build it first:
-cd crates/line_bench && rt run -- 1 < stdin), and in wall time by runs of one entry; `memory`, the memory and the user time of 180,000
+another; `reading`, megabytes a second of reading alone, in processor time, by the program bench_lines (build it first:
+cd crates/bench_lines && rt run -- 1 < stdin), and in wall time by runs of one entry; `memory`, the memory and the user time of 180,000
 lines with 480,000 entries; `alive`, the cost of a step while 10, 1,000 and 10,000 calls are alive; `files`, entries a second over real files
 in the current folder, and how much of that is waiting for the disk; `opening`, the time of `show` as the journal grows.
 Times are the least of three runs. All but `files` run in a folder in memory where there is one, so that the journal's
@@ -23,7 +23,7 @@ import time
 
 
 MEMORY = "/dev/shm" if os.path.isdir("/dev/shm") else None
-LINE_BENCH = os.path.join(os.path.dirname(os.path.abspath(__file__)), "..", "crates", "line_bench", "out", "line_bench")
+LINE_BENCH = os.path.join(os.path.dirname(os.path.abspath(__file__)), "..", "crates", "bench_lines", "out", "bench_lines")
 
 
 def run(command, words, lines, where=MEMORY):

@@ -4,7 +4,7 @@
     python3 bench/meaning_rows.py [WORD]            all rows, or those whose script or name has WORD
     python3 bench/meaning_rows.py --write FOLDER [WHAT..]   writes the rows as a program can read them, FOLDER/stdin, and what it has to
                                                     print, FOLDER/stdout: all, or those that run this (`handler exception` are those
-                                                    of crates/run_rows)
+                                                    of crates/golden_runs)
 
 Each row is a script, what the state answers, and what comes out: the outcome, the failure's text where there is one, the effects;
 or the keys that are read; or the outcomes of a delivery. Of each run it is looked at besides that its effects refer to what it was
@@ -82,11 +82,11 @@ class Run:
         import rundefs
 
         self.world, self.rundefs, self.asked = world, rundefs, {}
-        self.meaning = world.eval("handler_meaning.specs.Meaning.meaning")
-        self.delivered = world.eval("handler_meaning.specs.Delivery.delivered")
-        self.removal_lines = world.eval("handler_meaning.specs.Removal.removal_lines")
-        self.refer = world.eval("script_references.specs.References.Refer")
-        self.in_answer = world.eval("script_references.specs.Told.in_answer")
+        self.meaning = world.eval("script_meaning.specs.Meaning.meaning")
+        self.delivered = world.eval("script_meaning.specs.Delivery.delivered")
+        self.removal_lines = world.eval("script_meaning.specs.Removal.removal_lines")
+        self.refer = world.eval("script_laws.specs.References.Refer")
+        self.in_answer = world.eval("script_laws.specs.Told.in_answer")
 
     def variant(self, path, name):
         return self.world.variant(path, name)
@@ -106,7 +106,7 @@ class Run:
         return self.rundefs.NONE if x is None else self.rundefs.SOME(x)
 
     def seen(self, name, *args):
-        return self.rundefs.SOME(self.variant("handler_meaning.seen.Seen", name)(*args))
+        return self.rundefs.SOME(self.variant("script_meaning.seen.Seen", name)(*args))
 
     def names(self, values):
         return tuple((self.rundefs.Tup((self.rundefs.codes(n), self.value(x)))) for n, x in sorted(values.items()))
@@ -130,7 +130,7 @@ class Run:
         if name in ("priority", "clock"):
             return self.seen("Number", found or 0)
         if name == "activity":
-            return self.seen("Ac", self.option(found and self.world.record("handler_meaning.seen.AcSeen", null="null" in found, ending="ending" in found)))
+            return self.seen("Ac", self.option(found and self.world.record("script_meaning.seen.AcSeen", null="null" in found, ending="ending" in found)))
         if name == "attached":
             return self.seen("Flag", bool(found))
         if name == "masks":
@@ -172,8 +172,8 @@ class Run:
 
     def run(self, program, part, fields, failure, before, given):
         """What a script of the first block means: a report, or what else it comes to."""
-        which = self.world.record("handler_meaning.which.Which", block=0, part=part)
-        args = self.world.record("handler_meaning.outcome.Args", activity=self.rundefs.Tup((1,)), fields=fields, failure=failure)
+        which = self.world.record("script_meaning.which.Which", block=0, part=part)
+        args = self.world.record("script_meaning.outcome.Args", activity=self.rundefs.Tup((1,)), fields=fields, failure=failure)
         answers = self.rundefs.Fn(1, lambda key: self.answer(given, key))
         ended = self.meaning(answers, program, which, self.rundefs.Tup((1,)), args, before)
         if ended.con.name == "Done" and not self.refers(before, ended.args[0], given):
@@ -191,8 +191,8 @@ class Run:
         return f"{r.con.name} {r.args[0].con.name} {r.args[0].args[0]}"
 
     def handled(self, program, given):
-        handler = self.variant("handler_meaning.which.Part", "On")(0)
-        before = self.world.record("handler_meaning.specs.Meaning.Before", effects=(), keys=())
+        handler = self.variant("script_meaning.which.Part", "On")(0)
+        before = self.world.record("script_meaning.specs.Meaning.Before", effects=(), keys=())
         return self.run(program, handler, self.names(PING), (), before, given)
 
     def told(self, script, given, effects=True):
@@ -212,8 +212,8 @@ class Run:
         """The outcome, effects and keys of an exception callback behind a handler that failed."""
         program = self.program(handler, exception=exception)
         failed = self.handled(program, {key: x for key, x in given.items() if x is not MISSING}).args[0]
-        before = self.world.record("handler_meaning.specs.Meaning.Before", effects=failed.effects, keys=failed.keys)
-        ended = self.run(program, self.variant("handler_meaning.which.Part", "Exception")(), (), failed.failure, before, given)
+        before = self.world.record("script_meaning.specs.Meaning.Before", effects=failed.effects, keys=failed.keys)
+        ended = self.run(program, self.variant("script_meaning.which.Part", "Exception")(), (), failed.failure, before, given)
         return self.report(ended), self.keys(ended)
 
     def keys(self, ended):

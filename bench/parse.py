@@ -4,7 +4,7 @@
     python3 bench/parse.py
 
 Each line is the median of five runs over texts of one size, in megabytes of script text a second of the processor. It is
-to be at least 20. Build the program first: cd crates/lang_rows && rt run < stdin
+to be at least 20. Build the program first: cd crates/golden_scripts && rt run < stdin
 """
 import os
 import resource
@@ -13,7 +13,7 @@ import subprocess
 import sys
 
 HERE = os.path.dirname(os.path.abspath(__file__))
-PROGRAM = os.path.join(HERE, "..", "crates", "lang_rows", "out", "lang_rows")
+PROGRAM = os.path.join(HERE, "..", "crates", "golden_scripts", "out", "golden_scripts")
 SIZES = (2_000, 16_000, 1_000_000)
 WHOLE = 20_000_000
 RUNS = 5
@@ -57,7 +57,7 @@ def speed(text):
 
 def main():
     if not os.path.exists(PROGRAM):
-        sys.exit("build it first: cd crates/lang_rows && rt run < stdin")
+        sys.exit("build it first: cd crates/golden_scripts && rt run < stdin")
     print(f"{'text':>12} {'bytes':>8} {'MB/s':>6} {'least':>6} {'most':>6}")
     for name, piece in (("prepaid", PREPAID), ("statements", STATEMENTS), ("expressions", EXPRESSIONS), ("commented", COMMENTED)):
         for size in SIZES:

@@ -7,7 +7,7 @@ Each line is one deployment of a megabyte: the seconds to read its parts, and to
 median of five; and the memory at the peak as a multiple of its size. A deployment is to be read in under 0.3 seconds and 40
 times its size. Where scripts are most of it, the seconds in which they are parsed (what the same deployment takes longer than
 one whose scripts are comments of the same length) and checked come next: a check is to take at most twice as long as the
-parser. Build the program first: cd crates/deploy_rows && rt run < stdin
+parser. Build the program first: cd crates/golden_deployments && rt run < stdin
 """
 import json
 import os
@@ -18,7 +18,7 @@ import subprocess
 import sys
 
 HERE = os.path.dirname(os.path.abspath(__file__))
-PROGRAM = os.path.join(HERE, "..", "crates", "deploy_rows", "out", "deploy_rows")
+PROGRAM = os.path.join(HERE, "..", "crates", "golden_deployments", "out", "golden_deployments")
 SIZE = 1_048_576
 TIMES = 20
 RUNS = 5
@@ -176,7 +176,7 @@ def memory(text):
 
 def main():
     if not os.path.exists(PROGRAM):
-        sys.exit("build it first: cd crates/deploy_rows && rt run < stdin")
+        sys.exit("build it first: cd crates/golden_deployments && rt run < stdin")
     for make in MAKES:
         if sys.argv[1:] and make.__name__ not in sys.argv[1:]:
             continue

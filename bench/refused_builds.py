@@ -3,10 +3,10 @@
 
     python3 bench/refused_builds.py
 
-The program descriptor_rows reads some rows, builds them and asks the deployments. With one allocation refused it has to end with
+The program golden_parts reads some rows, builds them and asks the deployments. With one allocation refused it has to end with
 status 12 behind a front of the lines that it prints with ample memory, with status 0 and all of them, or, where no memory was found
 to read the input, with status 1 and no line. At its end no more memory may be held than with ample memory. Build the program first:
-cd crates/descriptor_rows && rt run < stdin
+cd crates/golden_parts && rt run < stdin
 A C compiler is wanted for the small library that refuses (see bench/fail_alloc.py).
 """
 import os
@@ -18,7 +18,7 @@ from collections import Counter
 import deployment_rows as rows
 from fail_alloc import library
 
-PROGRAM = os.path.join(rows.CRATE, "out", "descriptor_rows")
+PROGRAM = os.path.join(rows.CRATE, "out", "golden_parts")
 UNREAD, NO_MEMORY = 1, 12
 
 
@@ -54,7 +54,7 @@ def fault_of(status, text, whole):
 
 def main():
     if not os.path.exists(PROGRAM):
-        sys.exit("build it first: cd crates/descriptor_rows && rt run < stdin")
+        sys.exit("build it first: cd crates/golden_parts && rt run < stdin")
     text, wanted = given()
     with tempfile.TemporaryDirectory() as folder:
         refuses = library(folder)

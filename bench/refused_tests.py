@@ -2,13 +2,13 @@
 """Refuses each allocation of each test in turn, in the crates of tests as they are built. Outside the gate.
 
     python3 bench/refused_tests.py                 all of them; a crate's tests are built by `rt test` if they aren't there
-    python3 bench/refused_tests.py disk_rows       the tests of these crates
+    python3 bench/refused_tests.py test_disks       the tests of these crates
     python3 bench/refused_tests.py --most 300      at most so many allocations of a test, spread over all that it makes
 
-The test `want_of_memory::a_refused_allocation_leaves_a_front_of_the_call` of recovery_rows plays a call over objects in memory. With
+The test `want_of_memory::a_refused_allocation_leaves_a_front_of_the_call` of test_recovery plays a call over objects in memory. With
 an allocation refused the run has to end with 12 or with the row's own text (with 6 or 7 where the growth of the sink or of the
 disk was refused), and what any stop in any call of its disk leaves has to be shown as the state behind some of the
-call's entries. The test says so itself, so it has to pass; of recovery_rows it alone is run.
+call's entries. The test says so itself, so it has to pass; of test_recovery it alone is run.
 
 A test of another crate has to pass, or to end with want of memory: another answer in its place fails here. The tests over
 sinks and disks in memory may also stop where such an object answered a fault of its own, as it does when it can't grow.
@@ -23,7 +23,7 @@ import tempfile
 from fail_alloc import library
 
 TOP = os.path.dirname(os.path.dirname(os.path.abspath(__file__)))
-CRATES = ("recovery_rows", "value_rows", "line_rows", "effect_rows", "disk_rows", "script_rows")
+CRATES = ("test_recovery", "test_values", "test_lines", "test_values", "test_disks", "test_values")
 WHOLE_CALL = "want_of_memory::a_refused_allocation_leaves_a_front_of_the_call"
 # How want of memory is told: by the crates of this repository, and by the library.
 NO_MEMORY = ("NoMemory", "OutOfMemory", "AllocError", "AllocFailed")
@@ -48,7 +48,7 @@ def tests_of(crate):
     if not os.path.exists(built):
         print(f"the tests of {crate} are built first", file=sys.stderr)
         subprocess.run(["rt", "test"], cwd=folder, stdout=subprocess.DEVNULL, check=True)
-    if crate == "recovery_rows":
+    if crate == "test_recovery":
         return built, [WHOLE_CALL]
     _, text = run(built, ["--list"], {})
     return built, [line[: -len(": test")] for line in text.split("\n") if line.endswith(": test")]

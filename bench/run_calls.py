@@ -39,10 +39,10 @@ class Calls:
         return self.case.world.variant("trace_history.choice.Choice", name)(*args)
 
     def step(self, choice):
-        if not self.word("slee_steps.specs.Steps.is_enabled")(self.state, choice):
+        if not self.word("router_steps.specs.Steps.is_enabled")(self.state, choice):
             raise AssertionError("a choice that isn't enabled")
-        entry = self.word("slee_steps.specs.Steps.step_entry")(self.state, choice)
-        self.state = self.word("slee_steps.specs.Steps.after")(self.state, choice)
+        entry = self.word("router_steps.specs.Steps.step_entry")(self.state, choice)
+        self.state = self.word("router_steps.specs.Steps.after")(self.state, choice)
         return [bytes(line).decode() for line in entry.lines]
 
     def take(self, line):
@@ -76,17 +76,17 @@ def two_attempts(world):
         calls.take(line)
     yield calls.on("Initial", 1), ["initial a1 v1 s e1 new", "  attached e1 a1"]
     yield calls.on("Initial", 2), ["initial a2 v2 s e1 old", "  attached e1 a2"]
-    key = world.variant("handler_meaning.key.Key", "Field")(rundefs.Tup((1,)), rundefs.codes("n"))
-    seen = calls.word("slee_state.specs.Look.look")(calls.state, key)
+    key = world.variant("script_meaning.key.Key", "Field")(rundefs.Tup((1,)), rundefs.codes("n"))
+    seen = calls.word("router_state.specs.Look.look")(calls.state, key)
     yield repr(seen), "Held (Some (Int 0))"
     known = (rundefs.Tup((key, seen)),)
-    conflict = calls.word("slee_state.specs.Observed.conflict")
+    conflict = calls.word("router_state.specs.Observed.conflict")
     yield repr(conflict(known, calls.state)), "None"
     yield calls.on("Deliver", 2), ["deliver a2 v2 e1 fine"]
     found = conflict(known, calls.state).args[0]
     yield (repr(found[1]), repr(found[2])), ("Held (Some (Int 0))", "Held (Some (Int 1))")
     yield calls.on("Deliver", 1), ["deliver a1 v1 e1 fine"]
-    yield repr(calls.word("slee_state.specs.Look.look")(calls.state, key)), "Held (Some (Int 2))"
+    yield repr(calls.word("router_state.specs.Look.look")(calls.state, key)), "Held (Some (Int 2))"
 
 
 def restarts(world):

@@ -5,7 +5,7 @@
 
 The cases are those of examples/, and of /work/shared/cases or the folder that CASES names where it is there. What evaluates
 definitions is rundefs, in /work/shared/tools/rundefs or the folder that RUNDEFS names; without it nothing is run, and the script says so.
-Each play, resume, show, compact and trial of a case is computed by `slee_state` and `slee_steps`, the journal between them by the payloads
+Each play, resume, show, compact and trial of a case is computed by `router_state` and `router_steps`, the journal between them by the payloads
 and snapshots of both formats. What isn't a definition there (workers, statuses of the disk, other commands) is skipped, with a word.
 """
 import json
@@ -74,13 +74,13 @@ class Case:
         return self.world.eval(path)
 
     def initial(self):
-        return self.word("slee_state.specs.Initial.initial")(self.deployment.deployed, self.deployment.program)
+        return self.word("router_state.specs.Initial.initial")(self.deployment.deployed, self.deployment.program)
 
     def base(self):
         """The state for which the journal stands; each record is tested where it stands."""
         if self.journal is None:
             return self.initial()
-        restored = self.word("slee_state.specs.Restoring.state_of_snapshot")
+        restored = self.word("router_state.specs.Restoring.state_of_snapshot")
         found = restored(self.journal.form, self.deployment.deployed, self.deployment.program, tuple(self.journal.snapshot))
         if not found.args:
             raise Misfit(0, "snapshot")
@@ -92,24 +92,24 @@ class Case:
     def renew(self, state):
         """A new side of format 2 with the state's snapshot; it isn't side A."""
         self.renewed = True
-        snapshot = bytes(self.word("slee_state.specs.Restoring.snapshot_text")(2, state))
+        snapshot = bytes(self.word("router_state.specs.Restoring.snapshot_text")(2, state))
         self.journal = Journal(self.source, self.journal.generation + 1 if self.journal else 2, snapshot)
 
     def replayed(self, state):
         at = len(self.journal.head())
         for payload in self.journal.payloads:
-            found = self.word("slee_steps.specs.Payloads.choice_in")(self.journal.form, tuple(payload))
+            found = self.word("router_steps.specs.Payloads.choice_in")(self.journal.form, tuple(payload))
             if not found.args:
                 raise Misfit(at, "record")
             choice = found.args[0]
-            if not self.word("slee_steps.specs.Steps.is_enabled")(state, choice) or self.payload(self.journal.form, state, choice) != payload:
+            if not self.word("router_steps.specs.Steps.is_enabled")(state, choice) or self.payload(self.journal.form, state, choice) != payload:
                 raise Misfit(at, "replay")
-            state = self.word("slee_steps.specs.Steps.after")(state, choice)
+            state = self.word("router_steps.specs.Steps.after")(state, choice)
             at += 5 + len(payload)
         return state
 
     def payload(self, form, state, choice):
-        return bytes(self.word("slee_steps.specs.Payloads.payload")(form, state, choice))
+        return bytes(self.word("router_steps.specs.Payloads.payload")(form, state, choice))
 
     def signals(self, text):
         read = self.word("signal_script.specs.Signals.signals_of")(tuple(text))
@@ -121,15 +121,15 @@ class Case:
         """The entries of one worker, and the state behind them."""
         entries, state = [], base
         while len(entries) < steps:
-            found = self.word("slee_steps.specs.Histories.solo_choice")(state, lines)
+            found = self.word("router_steps.specs.Histories.solo_choice")(state, lines)
             if not found.args:
                 return entries, state, False
             choice, lines = found.args[0]
-            entries.append(self.word("slee_steps.specs.Steps.step_entry")(state, choice))
+            entries.append(self.word("router_steps.specs.Steps.step_entry")(state, choice))
             if self.journal is not None:
                 self.journal.payloads.append(self.payload(2, state, choice))
-            state = self.word("slee_steps.specs.Steps.after")(state, choice)
-        left = self.word("slee_steps.specs.Histories.solo_choice")(state, lines)
+            state = self.word("router_steps.specs.Steps.after")(state, choice)
+        left = self.word("router_steps.specs.Histories.solo_choice")(state, lines)
         return entries, state, bool(left.args)
 
     def played(self, steps, lines):
@@ -144,17 +144,17 @@ class Case:
         return bytes(self.word("trace_history.specs.Totals.output_text")(tuple(entries), tuple(status.encode())))
 
     def well(self, state):
-        if not self.word("slee_state.specs.Well.is_well")(state):
+        if not self.word("router_state.specs.Well.is_well")(state):
             raise AssertionError("a state that isn't well formed")
-        spelled = self.word("slee_state.specs.Snapshot.spelled_state")
-        restored = self.word("slee_state.specs.Restoring.restored")
+        spelled = self.word("router_state.specs.Snapshot.spelled_state")
+        restored = self.word("router_state.specs.Restoring.restored")
         for form in (1, 2):
             found = restored(form, self.deployment.deployed, self.deployment.program, spelled(form, state))
             if not found.args or bytes(spelled(form, found.args[0])) != bytes(spelled(form, state)):
                 raise AssertionError("a snapshot that isn't read as its state")
 
     def show(self):
-        return bytes(self.word("slee_state.specs.Show.show_text")(self.base())) + b"status 0 ok\n"
+        return bytes(self.word("router_state.specs.Show.show_text")(self.base())) + b"status 0 ok\n"
 
     def compact(self):
         self.renew(self.base())

@@ -5,12 +5,12 @@
     python3 bench/script_speed.py --instructions [NAME..]     the instructions of a run, in millions
     python3 bench/script_speed.py --allocations [NAME..]      how often a run takes memory
 
-Each line is one script, run by the program run_rows: the microseconds of a run, the least and the median of 25. Each is the
+Each line is one script, run by the program golden_runs: the microseconds of a run, the least and the median of 25. Each is the
 difference between a process that runs it many times and one that runs it not at all, both of which read the deployment and the
 answers once. A loop goes round as often as a run may, which takes some 10,000 units, and is to take at most 200 microseconds; a
 handler of ten statements is to take a few. The median is held against the bound; the least, for which all scripts take turns, shows
 what the program takes where nothing else holds it up. Instructions and allocations, counted by valgrind, of ten runs less of none,
-are the same whatever else goes on. Build the program first: cd crates/run_rows && rt run < stdin
+are the same whatever else goes on. Build the program first: cd crates/golden_runs && rt run < stdin
 """
 import copy
 import json
@@ -23,7 +23,7 @@ import sys
 
 from meaning_table import DEPLOYMENT
 
-PROGRAM = os.path.join(os.path.dirname(os.path.abspath(__file__)), "..", "crates", "run_rows", "out", "run_rows")
+PROGRAM = os.path.join(os.path.dirname(os.path.abspath(__file__)), "..", "crates", "golden_runs", "out", "golden_runs")
 AT_MOST, TEN_AT_MOST = 200, 5
 TIMES, RUNS, COUNTED = 400, 25, 10
 # A handler of ten statements is run so many times as often.
@@ -153,7 +153,7 @@ def rows_of(wanted):
 
 def main():
     if not os.path.exists(PROGRAM):
-        sys.exit("build it first: cd crates/run_rows && rt run < stdin")
+        sys.exit("build it first: cd crates/golden_runs && rt run < stdin")
     wanted, slow = sys.argv[1:], 0
     for word, counts in (("--instructions", instructions), ("--allocations", allocations)):
         if word in wanted:

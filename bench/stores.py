@@ -8,7 +8,7 @@ Instructions are counted by valgrind, of so many rounds less of a run that only 
 else it does. The ratio from the first to the last is to be at most 2.5; a line above it is marked. Times are the median of five
 runs, over as many rounds as take a tenth of a second; a busy machine tells them wrong, and with 100,000 rows they show also that
 the rows no longer fit into the processor's caches, as the calls go from row to row in no order.
-Build the programs first: cd crates/store_bench && rt run -- fields at 10 20, and cd crates/order_bench && rt run -- order next 10 20
+Build the programs first: cd crates/bench_stores && rt run -- fields at 10 20, and cd crates/bench_order && rt run -- order next 10 20
 """
 import argparse
 import functools
@@ -148,7 +148,7 @@ CALLS = {
     ),
 }
 # the programs that call them
-PROGRAMS = dict.fromkeys(CALLS, "store_bench") | {"order": "order_bench"}
+PROGRAMS = dict.fromkeys(CALLS, "bench_stores") | {"order": "bench_order"}
 
 
 def program_of(store):

@@ -2,14 +2,14 @@
 use Rattle.std.proofs.Common.{◌≡◌, ℕ, ◌==◌, true, List, [], ◌∷◌, map, refl, ap, if◌then◌else◌, inl, inr}
 use Rattle.std.specs.List.{AllByRecursion}
 use Rattle.std.proofs.lemmas.Bool.{cases_Bool}
-use Rattle.slee_state.specs.Contexts.{ends}
-use Rattle.slee_state.specs.declared.rows.Activity.{Activity}
-use Rattle.sorted_rows.specs.Keys.{activity_key, is_key, number_key}
-use Rattle.sorted_rows.proofs.ChangeLemmas.{number_is}
-use Rattle.leaf_rows.proofs.ChangeLemmas.{map_same}
-use Rattle.row_index.specs.declared.entry.Entry.{Entry}
-use Rattle.row_index.specs.Index.{IsIndex}
-use Rattle.row_index.proofs.IndexLemmas.{index_map}
+use Rattle.router_state.specs.Contexts.{ends}
+use Rattle.router_state.specs.declared.rows.Activity.{Activity}
+use Rattle.rows_sorted.specs.Keys.{activity_key, is_key, number_key}
+use Rattle.rows_sorted.proofs.ChangeLemmas.{number_is}
+use Rattle.rows_leaves.proofs.ChangeLemmas.{map_same}
+use Rattle.rows_index.specs.declared.entry.Entry.{Entry}
+use Rattle.rows_index.specs.Index.{IsIndex}
+use Rattle.rows_index.proofs.IndexLemmas.{index_map}
 use Rattle.activity_context.specs.Indexed.{name_entry}
 
 -- the activity of the key ends

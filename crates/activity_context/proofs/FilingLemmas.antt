@@ -7,26 +7,26 @@ use Rattle.std.proofs.lemmas.Bool.{cases_Bool, and_parts}
 use Rattle.std.proofs.lemmas.Bool.Decides.{nat_tests}
 use Rattle.std.proofs.lemmas.Map.Views.{any-filter_same}
 use Rattle.std.proofs.lemmas.Slice.Eq.{bytes_eq-Decides}
-use Rattle.slee_state.specs.Contexts.{name_before, named_at}
-use Rattle.slee_state.specs.Orders.{put, rises_by}
-use Rattle.slee_state.specs.declared.rows.Named.{Named}
-use Rattle.sorted_rows.specs.Keys.{is_key, is_pair, key_before, named_key, pair_key, Rises}
-use Rattle.sorted_rows.proofs.OrderLemmas.{AllInOrder, all_filter, all_from_all, before_joins, in_order, put_rises, filter_rises}
-use Rattle.sorted_rows.proofs.PartLemmas.{parted_by_key}
-use Rattle.sorted_rows.proofs.RowLemmas.{inserted_is}
-use Rattle.row_index.specs.declared.entry.Entry.{Entry}
-use Rattle.row_index.specs.Index.{entry_before, entry_key, is_entry}
-use Rattle.row_index.proofs.FoundLemmas.{all_two, none_at}
-use Rattle.row_index.proofs.IndexLemmas.{entry_same, is_itself}
-use Rattle.row_index.proofs.RowLemmas.{any_fails, each_fails}
-use Rattle.row_index.proofs.SumLemmas.{all_passed}
-use Rattle.text_index.specs.Numbers.{number_of}
+use Rattle.router_state.specs.Contexts.{name_before, named_at}
+use Rattle.router_state.specs.Orders.{put, rises_by}
+use Rattle.router_state.specs.declared.rows.Named.{Named}
+use Rattle.rows_sorted.specs.Keys.{is_key, is_pair, key_before, named_key, pair_key, Rises}
+use Rattle.rows_sorted.proofs.OrderLemmas.{AllInOrder, all_filter, all_from_all, before_joins, in_order, put_rises, filter_rises}
+use Rattle.rows_sorted.proofs.PartLemmas.{parted_by_key}
+use Rattle.rows_sorted.proofs.RowLemmas.{inserted_is}
+use Rattle.rows_index.specs.declared.entry.Entry.{Entry}
+use Rattle.rows_index.specs.Index.{entry_before, entry_key, is_entry}
+use Rattle.rows_index.proofs.FoundLemmas.{all_two, none_at}
+use Rattle.rows_index.proofs.IndexLemmas.{entry_same, is_itself}
+use Rattle.rows_index.proofs.RowLemmas.{any_fails, each_fails}
+use Rattle.rows_index.proofs.SumLemmas.{all_passed}
+use Rattle.rows_index.specs.Numbers.{number_of}
 use Rattle.activity_context.specs.declared.numbered.NumberedName.{NumberedName}
 use Rattle.activity_context.specs.Naming.{AreFiled, AreFound, AreNeeded, activity_entry, as_kept, in_byte_order, numbered_key}
-use Rattle.text_index.proofs.ItemLemmas as items
-use Rattle.text_index.proofs.ItemLemmas.{all_put, filter_agree}
-use Rattle.text_index.proofs.SortLemmas as sorting
-use Rattle.text_index.proofs.SortLemmas.{IsAhead, AreApart}
+use Rattle.rows_index.proofs.ItemLemmas as items
+use Rattle.rows_index.proofs.ItemLemmas.{all_put, filter_agree}
+use Rattle.rows_index.proofs.SortLemmas as sorting
+use Rattle.rows_index.proofs.SortLemmas.{IsAhead, AreApart}
 
 pub one_way : (x y : Named) → name_before x y ≡ true → name_before y x ≡ false
 one_way x y ahead = (parted_by_key named_key (named_key y)).low_not_behind x ahead

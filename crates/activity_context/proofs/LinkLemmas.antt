@@ -1,9 +1,9 @@
 -- Attachments by their pairs of numbers.
 use Rattle.std.proofs.Common.{◌≡◌, ℕ, Bool, true, false, refl}
 use Rattle.std.specs.Prelude.{◌&&◌, ◌==◌}
-use Rattle.slee_state.specs.Contexts.{is_link}
-use Rattle.slee_state.specs.declared.rows.Link.{Link}
-use Rattle.sorted_rows.specs.Keys.{is_pair, link_key}
+use Rattle.router_state.specs.Contexts.{is_link}
+use Rattle.router_state.specs.declared.rows.Link.{Link}
+use Rattle.rows_sorted.specs.Keys.{is_pair, link_key}
 
 turned : (p q : Bool) → (p && q) ≡ (q && p)
 turned true true = refl

@@ -2,11 +2,11 @@
 use Rattle.std.proofs.Common.{◌≡◌, ℕ, ◌==◌, true, List, ap, ◌∙◌, arith}
 use Rattle.std.proofs.lemmas.Bool.Decides.{nat_tests}
 use Rattle.std.proofs.lemmas.Slice.Eq.{bytes_eq-Decides}
-use Rattle.slee_state.specs.Contexts.{has_name}
-use Rattle.slee_state.specs.declared.rows.AcKind.{AcKind}
-use Rattle.slee_state.specs.declared.rows.AcKind.TheVariants as kinds
-use Rattle.slee_state.specs.declared.rows.Activity.{Activity}
-use Rattle.text_index.specs.Numbers.{number_of}
+use Rattle.router_state.specs.Contexts.{has_name}
+use Rattle.router_state.specs.declared.rows.AcKind.{AcKind}
+use Rattle.router_state.specs.declared.rows.AcKind.TheVariants as kinds
+use Rattle.router_state.specs.declared.rows.Activity.{Activity}
+use Rattle.rows_index.specs.Numbers.{number_of}
 use Rattle.activity_context.specs.Indexed.{name_number}
 
 own_number : (n : ℕ) → (n == n) ≡ true

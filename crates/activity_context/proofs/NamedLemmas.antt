@@ -6,16 +6,16 @@ use Rattle.std.specs.List.Sorted.{IsPermutation}
 use Rattle.std.specs.Str.{bytes_eq}
 use Rattle.std.proofs.lemmas.List.{length-map}
 use Rattle.std.proofs.lemmas.List.Sorted.{IsPermutation-sym, length_permutation}
-use Rattle.slee_state.specs.Contexts.{name_before, without_name}
-use Rattle.slee_state.specs.Orders.{put}
-use Rattle.slee_state.specs.declared.rows.Named.{Named}
-use Rattle.sorted_rows.specs.Keys.{named_key, text_key}
-use Rattle.sorted_rows.proofs.PartLemmas.{parted_by_key}
-use Rattle.row_index.proofs.RowLemmas.{filter_behind}
+use Rattle.router_state.specs.Contexts.{name_before, without_name}
+use Rattle.router_state.specs.Orders.{put}
+use Rattle.router_state.specs.declared.rows.Named.{Named}
+use Rattle.rows_sorted.specs.Keys.{named_key, text_key}
+use Rattle.rows_sorted.proofs.PartLemmas.{parted_by_key}
+use Rattle.rows_index.proofs.RowLemmas.{filter_behind}
 use Rattle.activity_context.specs.declared.numbered.NumberedName.{NumberedName}
 use Rattle.activity_context.specs.Naming.{as_kept, in_byte_order}
 use Rattle.activity_context.proofs.FilingLemmas.{chain, one_way}
-use Rattle.text_index.proofs.SortLemmas.{sorted_same}
+use Rattle.rows_index.proofs.SortLemmas.{sorted_same}
 
 -- as many names are kept
 pub as_many : (rows : List NumberedName) → length (in_byte_order rows) ≡ length rows

@@ -1,11 +1,11 @@
 -- The faults of the calls, in their order.
 use Rattle.std.specs.Prelude.{ℕ, List, Option, Some, None, if◌then◌else◌, is_some, Result, Ok, Err}
 use Rattle.slee_value.specs.declared.ids.ActivityId.{ActivityId}
-use Rattle.slee_state.specs.Contexts.{activity_at, external, named_at}
-use Rattle.slee_state.specs.declared.rows.AcKind.{AcKind}
-use Rattle.slee_state.specs.declared.rows.AcKind.TheVariants as kinds
-use Rattle.slee_state.specs.declared.rows.Activity.{Activity}
-use Rattle.slee_state.specs.declared.rows.Named.{Named}
+use Rattle.router_state.specs.Contexts.{activity_at, external, named_at}
+use Rattle.router_state.specs.declared.rows.AcKind.{AcKind}
+use Rattle.router_state.specs.declared.rows.AcKind.TheVariants as kinds
+use Rattle.router_state.specs.declared.rows.Activity.{Activity}
+use Rattle.router_state.specs.declared.rows.Named.{Named}
 use Rattle.activity_context.specs.declared.fault.AcFault.{AcFault}
 use Rattle.activity_context.specs.declared.fault.AcFault.TheVariants as faults
 

@@ -1,12 +1,12 @@
 -- How activities are kept with an index of external names.
 use Rattle.std.specs.Prelude.{ℕ, min}
-use Rattle.slee_state.specs.declared.rows.AcKind.{AcKind}
-use Rattle.slee_state.specs.declared.rows.AcKind.TheVariants as kinds
-use Rattle.slee_state.specs.declared.rows.Activity.{Activity}
-use Rattle.sorted_rows.specs.Keys.{activity_key, Rises}
-use Rattle.row_index.specs.Index.{IsIndex}
-use Rattle.row_index.specs.declared.entry.Entry.{Entry}
-use Rattle.text_index.specs.Numbers.{number_of}
+use Rattle.router_state.specs.declared.rows.AcKind.{AcKind}
+use Rattle.router_state.specs.declared.rows.AcKind.TheVariants as kinds
+use Rattle.router_state.specs.declared.rows.Activity.{Activity}
+use Rattle.rows_sorted.specs.Keys.{activity_key, Rises}
+use Rattle.rows_index.specs.Index.{IsIndex}
+use Rattle.rows_index.specs.declared.entry.Entry.{Entry}
+use Rattle.rows_index.specs.Numbers.{number_of}
 use Rattle.activity_context.specs.Views.{ActivitiesView}
 use Rattle.activity_context.specs.declared.activities.Activities.TheInside.{Inside}
 

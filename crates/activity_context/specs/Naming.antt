@@ -1,13 +1,13 @@
 -- How names are kept: under the numbers of their texts, and with an index by activity.
 use Rattle.std.specs.Prelude.{◌≡◌, min, IsTrue, List, map}
 use Rattle.std.specs.List.{AllByRecursion, list_any}
-use Rattle.slee_state.specs.Contexts.{name_before}
-use Rattle.slee_state.specs.Orders.{rises_by, sorted}
-use Rattle.slee_state.specs.declared.rows.Named.{Named}
-use Rattle.sorted_rows.specs.Keys.{Key, is_pair}
-use Rattle.row_index.specs.declared.entry.Entry.{Entry}
-use Rattle.row_index.specs.Index.{is_entry}
-use Rattle.text_index.specs.Numbers.{number_of}
+use Rattle.router_state.specs.Contexts.{name_before}
+use Rattle.router_state.specs.Orders.{rises_by, sorted}
+use Rattle.router_state.specs.declared.rows.Named.{Named}
+use Rattle.rows_sorted.specs.Keys.{Key, is_pair}
+use Rattle.rows_index.specs.declared.entry.Entry.{Entry}
+use Rattle.rows_index.specs.Index.{is_entry}
+use Rattle.rows_index.specs.Numbers.{number_of}
 use Rattle.activity_context.specs.Views.{NamesView}
 use Rattle.activity_context.specs.declared.numbered.NumberedName.{NumberedName}
 use Rattle.activity_context.specs.declared.names.Names.TheInside.{Inside}

@@ -3,10 +3,10 @@ use Rattle.std.specs.Prelude.{ℕ, Bool, nat_lt, ◌≤◌, List}
 use Rattle.slee_value.specs.declared.ids.ActivityId.{ActivityId}
 use Rattle.slee_value.specs.declared.ids.EntityId.{EntityId}
 use Rattle.slee_value.specs.declared.value.Value.{Value}
-use Rattle.slee_state.specs.declared.rows.Activity.{Activity}
-use Rattle.slee_state.specs.declared.rows.Attribute.{Attribute}
-use Rattle.slee_state.specs.declared.rows.Link.{Link}
-use Rattle.slee_state.specs.declared.rows.Named.{Named}
+use Rattle.router_state.specs.declared.rows.Activity.{Activity}
+use Rattle.router_state.specs.declared.rows.Attribute.{Attribute}
+use Rattle.router_state.specs.declared.rows.Link.{Link}
+use Rattle.router_state.specs.declared.rows.Named.{Named}
 
 -- for how many rows there is room in each list
 pub record Rooms : Type 0 where

@@ -1,20 +1,19 @@
 //! Activities that rise by number, of which an external one is found by its name; clauses see them as a list, with the room.
 ghost use Rattle.std.specs.Prelude.{ℕ, ◌≡◌, ◌+◌, ◌<◌, ◌≤◌, [], length, None, Some, IsTrue, OnOk, slice_get, option_copied};
-ghost use Rattle.slee_state.specs.Orders.{put};
-ghost use Rattle.slee_state.specs.Ordered.{are_below, rises_in};
-ghost use Rattle.slee_state.specs.Contexts.{activity_at, external, with_activity, with_end, without_activity};
+ghost use Rattle.router_state.specs.Orders.{put};
+ghost use Rattle.router_state.specs.Ordered.{are_below, rises_in};
+ghost use Rattle.router_state.specs.Contexts.{activity_at, external, with_activity, with_end, without_activity};
 ghost use Rattle.activity_context.specs.Faults.{start_fault, active_fault};
 ghost use Rattle.activity_context.specs.Views.{activity_before};
 
 use crate::AcFault;
 use crate::externals::{external_among, name_entry, name_number};
-use leaf_rows::Leaves;
-use row_index::Entry;
-use slee_state::{AcKind, Activity};
+use router_state::{AcKind, Activity};
+use rows_index::{Entry, number_of};
+use rows_leaves::Leaves;
 use slee_value::{ActivityId, Name, NoMemory};
 use std::alloc::Global;
 use std::marker::Model;
-use text_index::number_of;
 
 /// Activities by number, with their numbers by the number of their name.
 #[derive(Drop)]

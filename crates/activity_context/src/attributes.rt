@@ -1,10 +1,10 @@
 //! Rows of attributes.
 ghost use Rattle.std.specs.Prelude.{◌≡◌, ◌+◌, ◌<◌, ◌≤◌};
-ghost use Rattle.slee_state.specs.Contexts.{with_attribute};
-ghost use Rattle.sorted_rows.specs.Keys.{attribute_key, Rises};
+ghost use Rattle.router_state.specs.Contexts.{with_attribute};
+ghost use Rattle.rows_sorted.specs.Keys.{attribute_key, Rises};
 
-use leaf_rows::Leaves;
-use slee_state::Attribute;
+use router_state::Attribute;
+use rows_leaves::Leaves;
 use slee_value::{ActivityId, Text, Value};
 
 /// The activity's attribute has this value.

@@ -1,17 +1,17 @@
 //! The contexts of activities; clauses see them as four lists, with the next number and the room.
 ghost use Rattle.std.specs.Prelude.{◌≡◌, ◌+◌, ◌-◌, ◌<◌, ◌≤◌, ◌^◌, not, [], length, Some, IsTrue, IfOk, OnOk, OnErr, slice_get, option_copied, option_map};
 ghost use Rattle.std.specs.List.Sorted.{IsPermutation};
-ghost use Rattle.slee_state.specs.Ordered.{rises_in, are_below};
-ghost use Rattle.slee_state.specs.Orders.{put, rises_by};
-ghost use Rattle.slee_state.specs.Contexts.{activity_at, external, with_activity, with_end, without_activity, attribute_at, attribute_before, link_before, name_before, with_attribute, without_attributes, is_linked, links_on, with_link, without_link, without_links_on, named_at, with_name, without_name, without_names_of};
+ghost use Rattle.router_state.specs.Ordered.{rises_in, are_below};
+ghost use Rattle.router_state.specs.Orders.{put, rises_by};
+ghost use Rattle.router_state.specs.Contexts.{activity_at, external, with_activity, with_end, without_activity, attribute_at, attribute_before, link_before, name_before, with_attribute, without_attributes, is_linked, links_on, with_link, without_link, without_links_on, named_at, with_name, without_name, without_names_of};
 ghost use Rattle.activity_context.specs.Faults.{fault_of, start_fault, active_fault, bind_fault, unbind_fault};
 ghost use Rattle.activity_context.specs.Views.{HasRoom, activity_before, parts_of_link, parts_of_name, parts_of_attribute};
 
 use crate::activities::Activities;
 use crate::names::Names;
 use crate::{AcFault, attributes, links};
-use leaf_rows::{Leaves, Run};
-use slee_state::{AcKind, Activity, Attribute, Link};
+use router_state::{AcKind, Activity, Attribute, Link};
+use rows_leaves::{Leaves, Run};
 use slee_value::{ActivityId, EntityId, Name, NoMemory, Text, Value};
 use std::alloc::Global;
 use std::marker::Model;

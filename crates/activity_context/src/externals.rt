@@ -1,14 +1,13 @@
 //! External activities by their names.
 ghost use Rattle.std.specs.Prelude.{◌≡◌, option_copied};
-ghost use Rattle.slee_state.specs.Contexts.{activity_at, has_name};
-ghost use Rattle.text_index.specs.Found.{first_found};
+ghost use Rattle.router_state.specs.Contexts.{activity_at, has_name};
+ghost use Rattle.rows_index.specs.Found.{first_found};
 ghost use Rattle.activity_context.specs.Indexed.{name_entry, name_number};
 
-use leaf_rows::{Leaves, Run};
-use row_index::Entry;
-use slee_state::{AcKind, Activity};
+use router_state::{AcKind, Activity};
+use rows_index::{Entry, number_of};
+use rows_leaves::{Leaves, Run};
 use slee_value::Name;
-use text_index::number_of;
 
 /// Above the numbers of all names: here stand the activities that have none.
 const NAMELESS: u64 = u64::MAX;

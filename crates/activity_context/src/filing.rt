@@ -2,16 +2,15 @@
 ghost use Rattle.std.specs.Prelude.{◌≡◌, ◌+◌, ◌<◌, ◌≤◌, not, None, filter, find, option_copied};
 ghost use Rattle.std.specs.List.{list_any};
 ghost use Rattle.std.specs.Str.{bytes_eq};
-ghost use Rattle.slee_state.specs.Contexts.{with_name, without_name, without_names_of};
-ghost use Rattle.sorted_rows.specs.Keys.{is_key, is_pair};
+ghost use Rattle.router_state.specs.Contexts.{with_name, without_name, without_names_of};
+ghost use Rattle.rows_sorted.specs.Keys.{is_key, is_pair};
 ghost use Rattle.activity_context.specs.Naming.{AreFiled, AreFound, AreNeeded, in_byte_order, numbered_key};
 
 use crate::numbered::NumberedName;
-use leaf_rows::{Leaves, Run};
-use row_index::Entry;
-use slee_state::Named;
+use router_state::Named;
+use rows_index::{Entry, number_of};
+use rows_leaves::{Leaves, Run};
 use slee_value::{ActivityId, Text};
-use text_index::number_of;
 
 /// The first of these names that has the text.
 fn named_among<'a>(rows: Run<'a, NumberedName>, name: &Text) -> Option<&'a NumberedName>

@@ -1,10 +1,10 @@
 //! Rows of attachments.
 ghost use Rattle.std.specs.Prelude.{◌≡◌, ◌+◌, ◌<◌, ◌≤◌};
-ghost use Rattle.slee_state.specs.Contexts.{is_linked, with_link, without_link};
-ghost use Rattle.sorted_rows.specs.Keys.{link_key, Rises};
+ghost use Rattle.router_state.specs.Contexts.{is_linked, with_link, without_link};
+ghost use Rattle.rows_sorted.specs.Keys.{link_key, Rises};
 
-use leaf_rows::Leaves;
-use slee_state::Link;
+use router_state::Link;
+use rows_leaves::Leaves;
 use slee_value::{ActivityId, EntityId};
 
 /// Whether there is this attachment.

@@ -1,14 +1,14 @@
 //! Names of the naming facility; clauses see them as a list in byte order, and as they are kept, with the room.
 ghost use Rattle.std.specs.Prelude.{◌≡◌, ◌+◌, ◌<◌, ◌≤◌, [], length, Some, IsTrue, OnOk, slice_get};
 ghost use Rattle.std.specs.List.Sorted.{IsPermutation};
-ghost use Rattle.slee_state.specs.Orders.{rises_by};
-ghost use Rattle.slee_state.specs.Contexts.{name_before, named_at, with_name, without_name, without_names_of};
+ghost use Rattle.router_state.specs.Orders.{rises_by};
+ghost use Rattle.router_state.specs.Contexts.{name_before, named_at, with_name, without_name, without_names_of};
 
 use crate::filing::{cut_named, cut_names_of, file, row_named};
 use crate::numbered::NumberedName;
-use leaf_rows::Leaves;
-use row_index::Entry;
-use slee_state::Named;
+use router_state::Named;
+use rows_index::Entry;
+use rows_leaves::Leaves;
 use slee_value::{ActivityId, NoMemory, Text};
 use std::alloc::Global;
 use std::marker::Model;

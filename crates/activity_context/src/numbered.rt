@@ -1,7 +1,7 @@
 //! A name under the number of its text.
 
-use slee_state::Named;
-use sorted_rows::Keyed;
+use router_state::Named;
+use rows_sorted::Keyed;
 
 /// A name under the number of its text.
 #[derive(Debug, Drop)]

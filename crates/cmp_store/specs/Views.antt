@@ -1,8 +1,8 @@
 -- What contracts see of the store of fields.
 use Rattle.std.specs.Prelude.{ℕ, Bool, List}
 use Rattle.std.specs.List.{list_any}
-use Rattle.slee_state.specs.Orders.{same_text}
-use Rattle.slee_state.specs.declared.rows.Field.{Field}
+use Rattle.router_state.specs.Orders.{same_text}
+use Rattle.router_state.specs.declared.rows.Field.{Field}
 
 -- the fields, by entity, then by name, and how many more can be added without memory
 pub record FieldsView : Type 0 where

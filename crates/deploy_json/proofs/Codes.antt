@@ -11,15 +11,15 @@ use Rattle.script_types.specs.declared.codes.FieldCode.{FieldCode}
 use Rattle.script_types.specs.declared.codes.EventCode.{EventCode}
 use Rattle.script_types.specs.Codes.{Handler, Method, Block, Codes}
 use Rattle.script_types.specs.CodesOf.{handler_of_code, method_of_code, block_of_code, codes_of}
-use Rattle.deployment_parts.specs.declared.parts.Relation.{Relation}
-use Rattle.deployment_parts.specs.declared.parts.Block.{Block as BlockPart}
-use Rattle.deployment_parts.specs.declared.parts.Parts.{Parts}
-use Rattle.deployment_parts.specs.Resolving.{relation_of, field_of, attribute_of}
-use Rattle.deployment_parts.specs.Rules.{Numbering}
-use Rattle.deployment_parts.specs.Tables.{key_number}
+use Rattle.deploy_model.specs.declared.parts.Relation.{Relation}
+use Rattle.deploy_model.specs.declared.parts.Block.{Block as BlockPart}
+use Rattle.deploy_model.specs.declared.parts.Parts.{Parts}
+use Rattle.deploy_model.specs.Resolving.{relation_of, field_of, attribute_of}
+use Rattle.deploy_model.specs.Rules.{Numbering}
+use Rattle.deploy_model.specs.Tables.{key_number}
 use Rattle.slee_descriptor.specs.CodesOfParts.{handler_code, method_code, block_code, block_names, table_names, names_in, codes_in}
-use Rattle.deploy_parts.specs.Rows.{handler_row, method_row, block_row, parts_row}
-use Rattle.deploy_reading.proofs.LookUps.{position_mapped}
+use Rattle.deploy_json.specs.Rows.{handler_row, method_row, block_row, parts_row}
+use Rattle.deploy_json.proofs.LookUps.{position_mapped}
 use Rattle.deploy_json.specs.Scripts.{statements_or_none, bare_block, script_in, handler_in, method_in, block_in, codes_in_rows}
 
 script_same : (s : Script) → tree_of_script s ≡ script_in s.text

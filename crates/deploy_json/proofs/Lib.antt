@@ -1,2 +1,10 @@
+pub mod Walks
+pub mod LookUps
+pub mod NoFault
+pub mod Answering
+pub mod Faultless
+pub mod Shaped
+pub mod Each
+pub mod Misreading
 pub mod Codes
 pub mod Places

@@ -17,25 +17,25 @@ use Rattle.script_types.specs.CodesOf.{codes_of}
 use Rattle.script_types.specs.Program.{Program}
 use Rattle.script_types.specs.Programs.{Built, program_of}
 use Rattle.script_types.specs.TypingPlaces.{place_of_misuse}
-use Rattle.deployment_parts.specs.declared.parts.BlockEvent.{BlockEvent}
-use Rattle.deployment_parts.specs.declared.parts.Method.{Method}
-use Rattle.deployment_parts.specs.declared.parts.Block.{Block}
-use Rattle.deployment_parts.specs.declared.parts.Parts.{Parts}
-use Rattle.deployment_parts.specs.Rules.{Numbering}
-use Rattle.deployment_parts.specs.Tables.{key_number}
+use Rattle.deploy_model.specs.declared.parts.BlockEvent.{BlockEvent}
+use Rattle.deploy_model.specs.declared.parts.Method.{Method}
+use Rattle.deploy_model.specs.declared.parts.Block.{Block}
+use Rattle.deploy_model.specs.declared.parts.Parts.{Parts}
+use Rattle.deploy_model.specs.Rules.{Numbering}
+use Rattle.deploy_model.specs.Tables.{key_number}
 use Rattle.slee_descriptor.specs.CodesOfParts.{handler_code, method_code, block_code, codes_in}
 use Rattle.handler_check.specs.Paths as c
 use Rattle.handler_check.specs.Told.{Fault, told, checked}
-use Rattle.deploy_parts.specs.Rows.{HandlerRow, MethodRow, BlockRow, PartsRow, handler_row, method_row, block_row, parts_row}
-use Rattle.deploy_reading.specs.declared.fault.ReadFault.{ReadFault}
-use Rattle.deploy_reading.specs.declared.fault.ReadFault.TheVariants as faults
+use Rattle.deploy_json.specs.Rows.{HandlerRow, MethodRow, BlockRow, PartsRow, handler_row, method_row, block_row, parts_row}
+use Rattle.deploy_json.specs.declared.fault.ReadFault.{ReadFault}
+use Rattle.deploy_json.specs.declared.fault.ReadFault.TheVariants as faults
 use Rattle.deploy_json.specs.Scripts.{method_name, path_in, script_path, text_in, script_text}
-use Rattle.deploy_json.specs.Reading.{Reading, check_at, programmed, checked_parts}
+use Rattle.deploy_json.specs.Checking.{Reading, check_at, programmed, checked_parts}
 use Rattle.deploy_json.proofs.Codes.{codes_same}
 use Rattle.script_types.specs.ProgramOf.{kept_program, IsChecked}
 use Rattle.slee_descriptor.specs.declared.deployment.Deployment.{Deployment}
-use Rattle.deploy_reading.specs.Reading.{Tells, parts_of}
-use Rattle.deploy_json.specs.Reading.{read_as, reading_of}
+use Rattle.deploy_json.specs.Reading.{Tells, parts_of}
+use Rattle.deploy_json.specs.Checking.{read_as, reading_of}
 
 -- names of methods
 name_found : (o : Option Method) → option_map_or (λ (m : MethodCode). m.name) (option_map method_code o) [] ≡ option_map_or (λ (m : MethodRow). m.name) (option_map method_row o) []

@@ -9,13 +9,13 @@ use Rattle.script_types.specs.declared.codes.CodePart.TheVariants as part
 use Rattle.script_types.specs.declared.codes.CodePlace.{CodePlace}
 use Rattle.script_types.specs.Codes.{Handler, Method, Block, Codes}
 use Rattle.script_types.specs.CodesOf.{codes_of, block_of_code}
-use Rattle.deployment_parts.specs.declared.parts.Block.{Block as BlockPart}
-use Rattle.deployment_parts.specs.declared.parts.Parts.{Parts}
-use Rattle.deployment_parts.specs.Resolving.{field_of}
-use Rattle.deployment_parts.specs.Rules.{Numbering}
-use Rattle.deployment_parts.specs.Tables.{key_number}
+use Rattle.deploy_model.specs.declared.parts.Block.{Block as BlockPart}
+use Rattle.deploy_model.specs.declared.parts.Parts.{Parts}
+use Rattle.deploy_model.specs.Resolving.{field_of}
+use Rattle.deploy_model.specs.Rules.{Numbering}
+use Rattle.deploy_model.specs.Tables.{key_number}
 use Rattle.slee_descriptor.specs.CodesOfParts.{block_code, codes_in}
-use Rattle.deploy_parts.specs.Rows.{HandlerRow, MethodRow, BlockRow, PartsRow}
+use Rattle.deploy_json.specs.Rows.{HandlerRow, MethodRow, BlockRow, PartsRow}
 
 abbrev pub statements_or_none : Result Statements SyntaxFault → Statements
 statements_or_none (Ok script) = script

@@ -2,16 +2,16 @@
 ghost use Rattle.std.specs.Prelude.{◌≡◌, [], IfOk, Option, MatchResult, Ok};
 ghost use Rattle.script_types.specs.declared.codes.Codes.{Codes as CodesInMemory};
 ghost use Rattle.script_types.specs.ProgramOf.{IsChecked};
-ghost use Rattle.deployment_parts.specs.declared.parts.Parts.{Parts as PartsInMemory};
-ghost use Rattle.deployment_parts.specs.Tables.{parts_fault};
+ghost use Rattle.deploy_model.specs.declared.parts.Parts.{Parts as PartsInMemory};
+ghost use Rattle.deploy_model.specs.Tables.{parts_fault};
 ghost use Rattle.slee_descriptor.specs.CodesOfParts.{codes_in};
 ghost use Rattle.handler_check.specs.Told.{Tells as CheckTells, checked};
-ghost use Rattle.deploy_parts.specs.Rows.{parts_row};
-ghost use Rattle.deploy_reading.specs.Reading.{Tells};
-ghost use Rattle.deploy_json.specs.Reading.{checked_parts, reading_of, read_as};
+ghost use Rattle.deploy_json.specs.Rows.{parts_row};
+ghost use Rattle.deploy_json.specs.Reading.{Tells};
+ghost use Rattle.deploy_json.specs.Checking.{checked_parts, reading_of, read_as};
 
-use deploy_reading::{ReadFault, read_parts};
-use deployment_parts::{DeployFault, Parts};
+use crate::{ReadFault, read_parts};
+use deploy_model::{DeployFault, Parts};
 use handler_check::{CheckFault, Checked, check};
 use slee_descriptor::Deployment;
 use slee_value::NoMemory;

@@ -1,8 +1,21 @@
-//! Deployments read from JSON, with their scripts checked, or the first thing that is wrong with the bytes.
+//! Deployments read from JSON: the document, its parts and its scripts, checked, or the first thing that is wrong with the bytes.
 #![tactic(auto)]
 
+mod block;
+mod build;
 mod checking;
+mod document;
+mod fault;
+mod handler;
+mod item;
+mod parts_fault;
+mod reading;
+mod script;
+mod value;
 
 pub use checking::read_deployment;
-pub use deploy_reading::ReadFault;
+pub use document::build_parts;
+pub use fault::ReadFault;
 pub use handler_check::Checked;
+pub use parts_fault::PartsFault;
+pub use reading::read_parts;

@@ -4,9 +4,9 @@ use Rattle.std.specs.Prelude.{is_some, nat_lt}
 use Rattle.std.specs.Ordering.{is_lt, is_eq, is_gt, nat_cmp}
 use Rattle.std.specs.declared.cmp.Ordering.{Ordering}
 use Rattle.std.proofs.lemmas.Bool.Decides.{nat_tests}
-use Rattle.slee_state.specs.declared.rows.Entity.{Entity}
-use Rattle.slee_state.specs.Trees.{entity_at, parent_of}
-use Rattle.slee_state.specs.Paths.{step_before, path_before}
+use Rattle.router_state.specs.declared.rows.Entity.{Entity}
+use Rattle.router_state.specs.Trees.{entity_at, parent_of}
+use Rattle.router_state.specs.Paths.{step_before, path_before}
 use Rattle.entity_tree.specs.Kept.{AreParents}
 use Rattle.entity_tree.specs.Climbing.{BeginsWith, path_at, step_of}
 use Rattle.entity_tree.proofs.RowLemmas.{found_number}

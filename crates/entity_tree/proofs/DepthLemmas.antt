@@ -5,11 +5,11 @@ use Rattle.std.specs.List.{filter, find}
 use Rattle.std.specs.Option.{option_map_or}
 use Rattle.std.proofs.lemmas.Bool.{cases_Bool}
 use Rattle.std.proofs.lemmas.Bool.Decides.{nat_tests}
-use Rattle.slee_state.specs.declared.rows.Entity.{Entity}
-use Rattle.slee_state.specs.Orders.{put}
-use Rattle.slee_state.specs.Trees.{entity_at, number_of, parent_of, children, with_priority, without_entity}
-use Rattle.sorted_rows.specs.Keys.{is_key, key_before}
-use Rattle.sorted_rows.proofs.OrderLemmas.{all_filter}
+use Rattle.router_state.specs.declared.rows.Entity.{Entity}
+use Rattle.router_state.specs.Orders.{put}
+use Rattle.router_state.specs.Trees.{entity_at, number_of, parent_of, children, with_priority, without_entity}
+use Rattle.rows_sorted.specs.Keys.{is_key, key_before}
+use Rattle.rows_sorted.proofs.OrderLemmas.{all_filter}
 use Rattle.entity_tree.specs.declared.depths.Depth.{Depth}
 use Rattle.entity_tree.specs.Kept.{AreEntities, AreParents, entity_before, is_entity}
 use Rattle.entity_tree.specs.Climbing.{path_at, step_of}

@@ -5,11 +5,11 @@ use Rattle.std.specs.List.{filter}
 use Rattle.std.proofs.lemmas.Bool.{cases_Bool}
 use Rattle.std.proofs.lemmas.List.{map-append}
 use Rattle.std.proofs.lemmas.Bool.Decides.{nat_tests}
-use Rattle.slee_state.specs.declared.rows.Entity.{Entity}
-use Rattle.slee_state.specs.Orders.{put, triple_before}
-use Rattle.slee_state.specs.Trees.{entity_at, parent_of, children, with_priority, without_entity}
-use Rattle.sorted_rows.specs.Keys.{key_before, is_key, entity_key, pair_key, Rises}
-use Rattle.sorted_rows.proofs.OrderLemmas.{IsBefore, in_order, order_filter, all_filter, all_from_all}
+use Rattle.router_state.specs.declared.rows.Entity.{Entity}
+use Rattle.router_state.specs.Orders.{put, triple_before}
+use Rattle.router_state.specs.Trees.{entity_at, parent_of, children, with_priority, without_entity}
+use Rattle.rows_sorted.specs.Keys.{key_before, is_key, entity_key, pair_key, Rises}
+use Rattle.rows_sorted.proofs.OrderLemmas.{IsBefore, in_order, order_filter, all_filter, all_from_all}
 use Rattle.entity_tree.specs.declared.branch.Branch.{Branch}
 use Rattle.entity_tree.specs.Kept.{entity_before, parent_at, branch_key, branch_of}
 use Rattle.entity_tree.proofs.ListLemmas.{all_filtered, all_of_any, filter_all, filter_none, filter_agree, filter_swap, filter_of_map, put_filtered}

@@ -3,13 +3,13 @@ use Rattle.std.proofs.Common.{◌≡◌, ℕ, ℤ, ◌+◌, ◌<◌, ◌≤◌, 
 use Rattle.std.specs.Prelude.{◌||◌, nat_lt, is_some, IsTrue}
 use Rattle.std.specs.List.{AllByRecursion, filter}
 use Rattle.std.proofs.lemmas.Bool.Decides.{nat_tests}
-use Rattle.slee_state.specs.declared.rows.Entity.{Entity}
-use Rattle.slee_state.specs.declared.rows.Stem.{Stem}
-use Rattle.slee_state.specs.declared.rows.Stem.TheVariants as stems
-use Rattle.slee_state.specs.Orders.{put}
-use Rattle.slee_state.specs.Ordered.{are_below}
-use Rattle.slee_state.specs.Trees.{children, entity_at, number_of, is_root, parent_in, parent_of, with_priority, without_entity}
-use Rattle.sorted_rows.proofs.OrderLemmas.{all_filter, all_from_all}
+use Rattle.router_state.specs.declared.rows.Entity.{Entity}
+use Rattle.router_state.specs.declared.rows.Stem.{Stem}
+use Rattle.router_state.specs.declared.rows.Stem.TheVariants as stems
+use Rattle.router_state.specs.Orders.{put}
+use Rattle.router_state.specs.Ordered.{are_below}
+use Rattle.router_state.specs.Trees.{children, entity_at, number_of, is_root, parent_in, parent_of, with_priority, without_entity}
+use Rattle.rows_sorted.proofs.OrderLemmas.{all_filter, all_from_all}
 use Rattle.entity_tree.specs.declared.branch.Branch.{Branch}
 use Rattle.entity_tree.specs.Kept.{AreEntities, IsIndex, branch_of, entity_before}
 use Rattle.entity_tree.proofs.ListLemmas.{all_tested, all_two, filter_none}

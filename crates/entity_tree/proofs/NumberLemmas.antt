@@ -6,8 +6,8 @@ use Rattle.std.specs.Option.{option_or}
 use Rattle.std.proofs.lemmas.Bool.{cases_Bool}
 use Rattle.std.proofs.lemmas.Bool.Decides.{nat_tests}
 use Rattle.std.proofs.lemmas.List.Folds.{find-append}
-use Rattle.slee_state.specs.Orders.{put}
-use Rattle.sorted_rows.specs.Keys.{key_before, is_key, number_key}
+use Rattle.router_state.specs.Orders.{put}
+use Rattle.rows_sorted.specs.Keys.{key_before, is_key, number_key}
 use Rattle.entity_tree.proofs.ListLemmas.{and_true}
 
 -- what is looked for passes the filter

@@ -4,7 +4,7 @@ use Rattle.std.specs.Prelude.{int_lt}
 use Rattle.std.proofs.lemmas.Bool.{cases_Bool, le-ltb, eq-eqb}
 use Rattle.std.proofs.lemmas.Bool.Decides.{nat_tests}
 use Rattle.std.proofs.lemmas.Int.{ints}
-use Rattle.slee_state.specs.Paths.{step_before, step_same, path_before}
+use Rattle.router_state.specs.Paths.{step_before, step_same, path_before}
 use Rattle.entity_tree.specs.Climbing.{BeginsWith}
 
 not_below_itself : (a : ℤ) → int_lt a a ≡ false

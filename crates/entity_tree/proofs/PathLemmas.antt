@@ -4,9 +4,9 @@ use Rattle.std.specs.Prelude.{nat_le, is_some, if◌then◌else◌}
 use Rattle.std.specs.Option.{option_map_or}
 use Rattle.std.proofs.lemmas.Bool.{cases_Bool}
 use Rattle.std.proofs.lemmas.Bool.Decides.{nat_tests}
-use Rattle.slee_state.specs.declared.rows.Entity.{Entity}
-use Rattle.slee_state.specs.Trees.{entity_at, parent_of}
-use Rattle.slee_state.specs.Paths.{path}
+use Rattle.router_state.specs.declared.rows.Entity.{Entity}
+use Rattle.router_state.specs.Trees.{entity_at, parent_of}
+use Rattle.router_state.specs.Paths.{path}
 use Rattle.entity_tree.specs.Kept.{AreParents}
 use Rattle.entity_tree.specs.Climbing.{BeginsWith, path_at, step_of}
 use Rattle.entity_tree.proofs.RowLemmas.{found_number, found_holds}

@@ -1,10 +1,10 @@
 -- One entity is given another priority, and what a change leaves of the invariants.
 use Rattle.std.proofs.Common.{◌≡◌, ℕ, ℤ, ◌<◌, List, [], map}
 use Rattle.std.specs.Prelude.{if◌then◌else◌}
-use Rattle.slee_state.specs.declared.rows.Entity.{Entity}
-use Rattle.slee_state.specs.Trees.{number_of, parent_of, has_priority, with_priority}
-use Rattle.sorted_rows.specs.Keys.{is_key, entity_key}
-use Rattle.sorted_rows.proofs.OrderLemmas.{all_from_all}
+use Rattle.router_state.specs.declared.rows.Entity.{Entity}
+use Rattle.router_state.specs.Trees.{number_of, parent_of, has_priority, with_priority}
+use Rattle.rows_sorted.specs.Keys.{is_key, entity_key}
+use Rattle.rows_sorted.proofs.OrderLemmas.{all_from_all}
 use Rattle.entity_tree.specs.Kept.{AreEntities}
 use Rattle.entity_tree.proofs.ListLemmas.{all_mapped}
 use Rattle.entity_tree.proofs.NumberLemmas.{set_by_key}

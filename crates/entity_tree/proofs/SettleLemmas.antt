@@ -4,10 +4,10 @@ use Rattle.std.specs.Prelude.{is_some, nat_lt}
 use Rattle.std.specs.List.{AllByRecursion}
 use Rattle.std.proofs.lemmas.Bool.{cases_Bool}
 use Rattle.std.proofs.lemmas.Bool.Decides.{nat_tests}
-use Rattle.slee_state.specs.declared.rows.Entity.{Entity}
-use Rattle.slee_state.specs.Trees.{entity_at, parent_of}
-use Rattle.sorted_rows.specs.Keys.{Rises, entity_key}
-use Rattle.sorted_rows.proofs.OrderLemmas.{AllInOrder, IsBefore, all_from_all, in_order}
+use Rattle.router_state.specs.declared.rows.Entity.{Entity}
+use Rattle.router_state.specs.Trees.{entity_at, parent_of}
+use Rattle.rows_sorted.specs.Keys.{Rises, entity_key}
+use Rattle.rows_sorted.proofs.OrderLemmas.{AllInOrder, IsBefore, all_from_all, in_order}
 use Rattle.entity_tree.specs.declared.depths.Depth.{Depth}
 use Rattle.entity_tree.specs.Kept.{AreParents, is_entity}
 use Rattle.entity_tree.specs.Climbing.{path_at}

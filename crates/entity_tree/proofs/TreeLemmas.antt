@@ -7,10 +7,10 @@ use Rattle.std.proofs.lemmas.List.{append-nil, append_assoc, map-append, reverse
 use Rattle.std.proofs.lemmas.Bool.Decides.{nat_tests}
 use Rattle.std.proofs.lemmas.List.Concat.{flat_map-append}
 use Rattle.slee_value.specs.declared.ids.EntityId.{EntityId}
-use Rattle.slee_state.specs.declared.rows.Entity.{Entity}
-use Rattle.slee_state.specs.Trees.{entity_at, parent_of, children, tree, tree_of}
-use Rattle.sorted_rows.specs.Keys.{Rises, entity_key}
-use Rattle.sorted_rows.proofs.OrderLemmas.{in_order, all_filter, all_from_all}
+use Rattle.router_state.specs.declared.rows.Entity.{Entity}
+use Rattle.router_state.specs.Trees.{entity_at, parent_of, children, tree, tree_of}
+use Rattle.rows_sorted.specs.Keys.{Rises, entity_key}
+use Rattle.rows_sorted.proofs.OrderLemmas.{in_order, all_filter, all_from_all}
 use Rattle.entity_tree.specs.declared.branch.Branch.{Branch}
 use Rattle.entity_tree.specs.Kept.{AreParents, branch_of, numbers_of}
 use Rattle.entity_tree.proofs.ListLemmas.{all_back, all_front, all_two, all_joined, all_mapped}

@@ -1,7 +1,7 @@
 -- What the comparison of two entities by their paths is about: paths, and what is left of them where they are followed up.
 use Rattle.std.specs.Prelude.{◌≡◌, ℕ, ℤ, List, [], ◌∷◌, length}
-use Rattle.slee_state.specs.declared.rows.Entity.{Entity}
-use Rattle.slee_state.specs.Paths.{path}
+use Rattle.router_state.specs.declared.rows.Entity.{Entity}
+use Rattle.router_state.specs.Paths.{path}
 
 -- the whole path of the entity of this number
 abbrev pub path_at : List Entity → ℕ → List (ℤ × ℕ)

@@ -1,8 +1,8 @@
 -- What the store of entities keeps of how deep they stand.
 use Rattle.std.specs.Prelude.{◌≡◌, ℕ, ◌==◌, nat_lt, Bool, if◌then◌else◌, List, find, length, map}
 use Rattle.std.specs.Option.{option_map_or}
-use Rattle.slee_state.specs.declared.rows.Entity.{Entity}
-use Rattle.sorted_rows.specs.Keys.{Key, number_key}
+use Rattle.router_state.specs.declared.rows.Entity.{Entity}
+use Rattle.rows_sorted.specs.Keys.{Key, number_key}
 use Rattle.entity_tree.specs.declared.depths.Depth.{Depth}
 use Rattle.entity_tree.specs.Kept.{is_entity}
 use Rattle.entity_tree.specs.Climbing.{path_at}

@@ -3,9 +3,9 @@ use Rattle.std.specs.Prelude.{◌≡◌, ℕ, ◌<◌, ◌==◌, nat_lt, Bool, i
 use Rattle.std.specs.List.{AllByRecursion}
 use Rattle.std.specs.Option.{option_map_or}
 use Rattle.slee_value.specs.declared.ids.EntityId.{EntityId}
-use Rattle.slee_state.specs.declared.rows.Entity.{Entity}
-use Rattle.slee_state.specs.Trees.{entity_at, parent_of, children}
-use Rattle.sorted_rows.specs.Keys.{Key, pair_key}
+use Rattle.router_state.specs.declared.rows.Entity.{Entity}
+use Rattle.router_state.specs.Trees.{entity_at, parent_of, children}
+use Rattle.rows_sorted.specs.Keys.{Key, pair_key}
 use Rattle.entity_tree.specs.declared.branch.Branch.{Branch}
 
 -- entities stand by number

@@ -1,7 +1,7 @@
 //! Children by their parents.
 
+use rows_sorted::Keyed;
 use slee_value::EntityId;
-use sorted_rows::Keyed;
 
 /// An entity below its parent. The parent of a root is 0.
 #[derive(Debug, Clone, Copy)]

@@ -4,10 +4,10 @@ ghost use Rattle.entity_tree.specs.Kept.{AreParents};
 ghost use Rattle.entity_tree.specs.Depths.{AreDepths, HasDepths, depth_at, with_steps};
 
 use crate::reading::parent_in;
-use leaf_rows::Leaves;
-use slee_state::Entity;
+use router_state::Entity;
+use rows_leaves::Leaves;
+use rows_sorted::Keyed;
 use slee_value::EntityId;
-use sorted_rows::Keyed;
 
 /// How many steps the path of an entity has.
 #[derive(Debug, Clone, Copy)]

@@ -1,15 +1,15 @@
 //! Entities, the index of children and the depths, changed together.
 ghost use Rattle.std.specs.Prelude.{◌≡◌, ◌<◌, ◌≤◌, ◌+◌, [], None, length};
-ghost use Rattle.slee_state.specs.Orders.{put};
-ghost use Rattle.slee_state.specs.Trees.{children, entity_at, parent_of, with_priority, without_entity};
+ghost use Rattle.router_state.specs.Orders.{put};
+ghost use Rattle.router_state.specs.Trees.{children, entity_at, parent_of, with_priority, without_entity};
 ghost use Rattle.entity_tree.specs.Kept.{AreParents, IsIndex, entity_before};
 ghost use Rattle.entity_tree.specs.Depths.{AreDepths, HasDepths};
 
 use crate::branch::Branch;
 use crate::depths::{Depth, settle, steps_below};
 use crate::reading::{has_child, parent_at, parent_in};
-use leaf_rows::Leaves;
-use slee_state::Entity;
+use router_state::Entity;
+use rows_leaves::Leaves;
 use slee_value::EntityId;
 
 /// The entity stands in its place, and its parent finds it. Where it has children already, their depths are still to be settled.

@@ -1,17 +1,17 @@
 //! The order of entities by their paths, without the paths: both are followed up from one depth until they meet.
 ghost use Rattle.std.specs.Prelude.{◌≡◌, ◌-◌, ◌<◌, ◌≤◌, ◌==◌, false, Some, length, IsTrue};
 ghost use Rattle.std.specs.Ordering.{is_lt, is_gt, is_eq};
-ghost use Rattle.slee_state.specs.Paths.{step_before, path_before};
-ghost use Rattle.slee_state.specs.Trees.{entity_at};
-ghost use Rattle.slee_state.specs.declared.rows.Entity.{Entity};
+ghost use Rattle.router_state.specs.Paths.{step_before, path_before};
+ghost use Rattle.router_state.specs.Trees.{entity_at};
+ghost use Rattle.router_state.specs.declared.rows.Entity.{Entity};
 ghost use Rattle.entity_tree.specs.Kept.{AreParents, is_entity};
 ghost use Rattle.entity_tree.specs.Climbing.{BeginsWith, path_at, step_of};
 ghost use Rattle.entity_tree.specs.Depths.{AreDepths};
 
 use crate::depths::{Depth, depth_of};
 use crate::reading::{entity_in, parent_in};
-use leaf_rows::Leaves;
-use slee_state::Entity;
+use router_state::Entity;
+use rows_leaves::Leaves;
 use slee_value::EntityId;
 use std::cmp::Ordering;
 

@@ -1,12 +1,12 @@
 //! Entities read by their numbers, and children by their parents.
 ghost use Rattle.std.specs.Prelude.{◌≡◌, ◌==◌, [], false, length, filter, nat_lt, option_copied, IfOk};
 ghost use Rattle.std.specs.Option.{option_map_or};
-ghost use Rattle.slee_state.specs.Trees.{entity_at, parent_in, is_child_of, children_under, service_above, service_of};
+ghost use Rattle.router_state.specs.Trees.{entity_at, parent_in, is_child_of, children_under, service_above, service_of};
 ghost use Rattle.entity_tree.specs.Kept.{IsIndex, parent_at, numbers_of};
 
 use crate::branch::Branch;
-use leaf_rows::Leaves;
-use slee_state::{Entity, Stem};
+use router_state::{Entity, Stem};
+use rows_leaves::Leaves;
 use slee_value::{EntityId, Name, NoMemory};
 use std::alloc::Global;
 

@@ -1,11 +1,11 @@
 //! The order in which a tree goes: children by number, each behind its own tree, and then the entity.
 ghost use Rattle.std.specs.Prelude.{◌≡◌, ◌==◌, ◌+◌, ◌++◌, ◌≤◌, map, filter, length, IfOk, IsOk, OnOk, IsTrue, vec_capacity, vec_len};
-ghost use Rattle.slee_state.specs.Trees.{tree_of};
+ghost use Rattle.router_state.specs.Trees.{tree_of};
 ghost use Rattle.entity_tree.specs.Kept.{AreParents, IsIndex, is_entity, numbers_of};
 
 use crate::branch::Branch;
-use leaf_rows::Leaves;
-use slee_state::Entity;
+use router_state::Entity;
+use rows_leaves::Leaves;
 use slee_value::{EntityId, NoMemory};
 use std::alloc::Global;
 

@@ -1,10 +1,10 @@
 //! The store of event masks. Contracts see it as the list of all masks in order, and the number of masks that can be added without memory.
 ghost use Rattle.std.specs.Prelude.{◌≡◌, ◌+◌, ◌≤◌, ◌<◌, ◌||◌, [], Some, not, nat_lt, length, slice_get, filter, IsTrue, OnOk};
-ghost use Rattle.slee_state.specs.Masks.{is_mask_of, is_masked, mask_before, with_mask, with_mask_set, with_masks, without_masks};
-ghost use Rattle.slee_state.specs.Orders.{rises_by};
+ghost use Rattle.router_state.specs.Masks.{is_mask_of, is_masked, mask_before, with_mask, with_mask_set, with_masks, without_masks};
+ghost use Rattle.router_state.specs.Orders.{rises_by};
 
-use leaf_rows::{Leaves, Run};
-use slee_state::Mask;
+use router_state::Mask;
+use rows_leaves::{Leaves, Run};
 use slee_value::{ActivityId, EntityId, NoMemory, Text};
 use std::alloc::Global;
 use std::marker::Model;

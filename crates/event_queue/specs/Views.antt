@@ -1,9 +1,9 @@
 -- What contracts see of the store of events.
 use Rattle.std.specs.Prelude.{ℕ, ◌≤◌, List}
-use Rattle.slee_state.specs.declared.rows.Queued.{Queued}
-use Rattle.slee_state.specs.declared.rows.ServiceMark.{ServiceMark}
-use Rattle.slee_state.specs.declared.rows.EntityMark.{EntityMark}
-use Rattle.slee_state.specs.declared.rows.Suspension.{Suspension}
+use Rattle.router_state.specs.declared.rows.Queued.{Queued}
+use Rattle.router_state.specs.declared.rows.ServiceMark.{ServiceMark}
+use Rattle.router_state.specs.declared.rows.EntityMark.{EntityMark}
+use Rattle.router_state.specs.declared.rows.Suspension.{Suspension}
 
 -- The four lists, and how many rows each of them takes without memory.
 pub record QueuesView : Type 0 where

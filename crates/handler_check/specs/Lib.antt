@@ -1,2 +1,4 @@
+pub mod Building
+pub mod Items
 pub mod Paths
 pub mod Told

@@ -5,7 +5,7 @@ ghost use Rattle.handler_check.specs.Told.{Tells, checked, fault_at};
 
 use crate::fault::CheckFault;
 use crate::path::{path_of, token_place};
-use program_check::{CodeFault, check_codes};
+use crate::{CodeFault, check_codes};
 use script_types::{CodePlace, Codes, Misuse};
 use slee_descriptor::Deployment;
 use std::alloc::Global;

@@ -10,8 +10,8 @@ use Rattle.script_tree.specs.Reading.{Writes, IsFault, script_read, read_by, pla
 use Rattle.script_tree.specs.declared.fault.SyntaxFault.{SyntaxFault}
 use Rattle.script_tree.specs.declared.fault.SyntaxFault.TheVariants as faults
 use Rattle.script_print.proofs.Texts.{text_again}
-use Rattle.script_parser.specs.Whole.{IsWhole}
-use Rattle.grammar_laws.proofs.Misfits.{first_misfit}
+use Rattle.script_parse.specs.Whole.{IsWhole}
+use Rattle.script_print.proofs.Misfits.{first_misfit}
 use Rattle.handler_lang.specs.Refusals.{Refuses, IsFirst}
 
 pub written : (text : Bytes) (ts : List Lexeme) (script : Statements) → ts ≡ lexemes_of text → IsWhole ts script → Writes text script

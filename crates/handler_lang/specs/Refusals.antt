@@ -3,7 +3,7 @@ use Rattle.script_tree.specs.declared.fault.SyntaxFault.{SyntaxFault}
 use Rattle.script_tree.specs.declared.fault.SyntaxFault.TheVariants as faults
 use Rattle.script_tree.specs.Tree.{Bytes, Statements}
 use Rattle.script_tree.specs.Reading.{Writes}
-use Rattle.grammar_laws.specs.Beginnings.{FirstMisfit}
+use Rattle.script_print.specs.Beginnings.{FirstMisfit}
 
 -- a text that writes no script; or memory ran out
 abbrev pub Refuses : Bytes → SyntaxFault → Type 0

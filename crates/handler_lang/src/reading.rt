@@ -7,8 +7,8 @@ ghost use Rattle.script_tree.specs.Script.{tree_of_script};
 ghost use Rattle.script_tree.specs.Tree.{statements_of};
 ghost use Rattle.handler_lang.specs.Refusals.{Refuses, IsFirst};
 
-use expression_parser::ReadError;
-use script_parser::script;
+use script_parse::script;
+use script_parse_terms::ReadError;
 use script_tree::{Misfit, Script, Stmt, SyntaxFault, fault_in, lexemes, place_of_token};
 use slee_value::{NoMemory, Text};
 use std::alloc::Global;

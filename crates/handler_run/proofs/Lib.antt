@@ -1,3 +1,5 @@
+pub mod TidyScripts
+pub mod RunLemmas
 pub mod TidyStatements
 pub mod TidyPrograms
-pub mod RunLemmas
+pub mod CheckedLemmas

@@ -1,46 +1,51 @@
--- A script of a checked deployment has a meaning.
-use Rattle.std.proofs.Common.{◌≡◌, ◌≤◌, List, length, map, Option, Some, None, Ok, refl, sym, subst}
-use Rattle.std.specs.Prelude.{slice_get}
+-- A run on a stage is what its script means.
+use Rattle.std.proofs.Common.{◌≡◌, ℕ, List, map, Some, Result, sym, ap, ◌∙◌, subst}
+use Rattle.std.specs.Prelude.{slice_get, option_map}
+use Rattle.std.proofs.lemmas.Option.{slice_get-map}
 use Rattle.slee_value.specs.declared.ids.EntityId.{EntityId}
-use Rattle.script_types.specs.declared.codes.Codes.{Codes as CodesInMemory}
+use Rattle.slee_effect.specs.declared.reference.Ref.{Ref}
+use Rattle.slee_effect.specs.declared.effect.Effect.{Effect}
+use Rattle.script_types.specs.declared.symbol.Symbol.{Symbol}
+use Rattle.script_types.specs.declared.checked_step.Step.{Step as StepInMemory}
 use Rattle.script_types.specs.declared.checked_script.BlockSteps.{BlockSteps}
-use Rattle.script_types.specs.Codes.{Codes}
-use Rattle.script_types.specs.CodesOf.{codes_of}
-use Rattle.script_tree.specs.Tree.{Bytes}
-use Rattle.script_types.specs.Numbers.{IsNumberedProgram}
-use Rattle.script_types.specs.Program.{Program, BlockProgram, Steps}
-use Rattle.script_types.specs.Programs.{program_of}
-use Rattle.script_types.specs.ProgramOf.{block_program_of, kept_program, IsChecked}
-use Rattle.handler_meaning.specs.declared.outcome.Args.{Args}
-use Rattle.handler_meaning.specs.declared.which.Which.{Which}
-use Rattle.handler_meaning.specs.Answers.{Answers}
-use Rattle.handler_meaning.specs.Running.{key_limit}
-use Rattle.handler_meaning.specs.Meaning.{Before, Unchecked, meaning_with, meaning_of, meaning}
-use Rattle.script_safety.specs.Fitting.{IsSound}
-use Rattle.script_safety.proofs.Calls.{meaning_is_sound}
-use Rattle.numbering_laws.proofs.Programs.{program_numbered}
-use Rattle.block_run.specs.Tidy.{IsTidyProgram}
-use Rattle.handler_run.specs.Scripts.{script_of_block, script_of}
-use Rattle.handler_run.proofs.TidyPrograms.{program_tidy}
+use Rattle.script_types.specs.Program.{Program, BlockProgram}
+use Rattle.script_types.specs.ProgramOf.{steps_of, block_program_of}
+use Rattle.script_meaning.specs.declared.key.Key.{Key}
+use Rattle.script_meaning.specs.declared.seen.Seen.{Seen}
+use Rattle.script_meaning.specs.declared.outcome.Args.{Args}
+use Rattle.script_meaning.specs.declared.which.Which.{Which}
+use Rattle.script_meaning.specs.Answers.{kept}
+use Rattle.script_meaning.specs.Running.{Setting}
+use Rattle.script_meaning.specs.Steps.{act_all}
+use Rattle.script_meaning.specs.Calls.{call_at}
+use Rattle.script_meaning.specs.Meaning.{Before, Meaning, start, report, setting_of, script_in, meaning_in, meaning_with, meaning_of, meaning}
+use Rattle.script_run_blocks.specs.declared.stage.Stage.{Stage}
+use Rattle.script_run_blocks.specs.Stages.{given, program_of, all_in}
+use Rattle.handler_run.specs.declared.run.Run.{Run}
+use Rattle.handler_run.specs.declared.run.Unfinished.{Unfinished}
+use Rattle.handler_run.specs.Runs.{Means}
 
-block_sound : (all : Codes) (program : Program) (answers : Answers) (which : Which) (e : EntityId) (arguments : Args) (before : Before) (steps : Steps) (o : Option BlockProgram) → program_of all ≡ Ok program → slice_get program which.block ≡ o → script_of_block o which ≡ Some steps → length before.keys ≤ key_limit → IsSound answers before (meaning_of answers program o which.part e arguments before)
-block_sound all program answers which e arguments before steps None made is there few = absurd cc
-block_sound all program answers which e arguments before steps (Some block) made is there few =
-    subst (λ o. IsSound answers before (meaning_with answers program block o e arguments before)) (sym there)
-    (meaning_is_sound all program made answers which.block block which.part steps e arguments before is there few)
+abbrev setting_with : Args → Ref → List (Key × Seen) → List Effect → List Key → List (Symbol (List ℕ)) → Setting
+setting_with arguments me known effects keys masks = record { answers = kept known; effects = effects; keys = keys; arguments = arguments; me = me; masks = map (λ x. x.name) masks }
 
--- no script of a checked deployment comes to what a checked program doesn't have
-pub never_unchecked : (codes : CodesInMemory) (blocks : List BlockSteps) (answers : Answers) (which : Which) (e : EntityId) (arguments : Args) (before : Before) (steps : Steps) → IsChecked codes → script_of (kept_program codes) which ≡ Some steps → length before.keys ≤ key_limit → blocks ≡ codes.programs → meaning answers (map block_program_of blocks) which e arguments before ≡ Unchecked → ⊥
-never_unchecked codes blocks answers which e arguments before steps made there few all h =
-    let program : Program = kept_program codes in
-    let sound : IsSound answers before (meaning answers program which e arguments before) = block_sound (codes_of codes) program answers which e arguments before steps (slice_get program which.block) made refl there few in
-    let own : IsSound answers before (meaning answers (map block_program_of blocks) which e arguments before) = subst (λ (l : List BlockSteps). IsSound answers before (meaning answers (map block_program_of l) which e arguments before)) (sym all) sound in
-    subst (IsSound answers before) h own
+pub setting_is : (arguments : Args) (me : Ref) (known known2 : List (Key × Seen)) (effects effects2 : List Effect) (keys keys2 : List Key) (masks masks2 : List (Symbol (List ℕ))) → known ≡ known2 → effects ≡ effects2 → keys ≡ keys2 → masks ≡ masks2 → setting_with arguments me known effects keys masks ≡ setting_with arguments me known2 effects2 keys2 masks2
+setting_is arguments me known known2 effects effects2 keys keys2 masks masks2 a b c d =
+    ap (λ x. setting_with arguments me x effects keys masks) a
+    ∙ ap (λ x. setting_with arguments me known2 x keys masks) b
+    ∙ ap (λ x. setting_with arguments me known2 effects2 x masks) c
+    ∙ ap (λ x. setting_with arguments me known2 effects2 keys2 x) d
 
-pub checked_tidy : (codes : CodesInMemory) (blocks : List BlockSteps) → IsChecked codes → blocks ≡ codes.programs → IsTidyProgram (map block_program_of blocks)
-checked_tidy codes blocks made all = subst (λ (l : List BlockSteps). IsTidyProgram (map block_program_of l)) (sym all) (program_tidy (codes_of codes) (kept_program codes) made)
-
-pub checked_numbered : (codes : CodesInMemory) (blocks : List BlockSteps) (names : List Bytes) → IsChecked codes → blocks ≡ codes.programs → names ≡ codes.names → IsNumberedProgram names (map block_program_of blocks)
-checked_numbered codes blocks names made all same =
-    subst (λ (l : List BlockSteps). IsNumberedProgram names (map block_program_of l)) (sym all)
-    (subst (λ (n : List Bytes). IsNumberedProgram n (kept_program codes)) (sym same) (program_numbered (codes_of codes) (kept_program codes) made))
+pub run_is : (stage : Stage) (known : List (Key × Seen)) (blocks : List BlockSteps) (which : Which) (me : EntityId) (arguments : Args) (before : Before) (block : BlockSteps) (script steps : List StepInMemory) (result : Result Run Unfinished) → Means (report (all_in stage 8 (steps_of steps) start)) result → slice_get blocks which.block ≡ Some block → Some (steps_of script) ≡ script_in (block_program_of block) which.part → steps ≡ script → given stage ≡ setting_of (kept known) (block_program_of block) me arguments before → program_of stage ≡ map block_program_of blocks → Means (meaning (kept known) (map block_program_of blocks) which me arguments before) result
+unfolding all_in meaning_in
+run_is stage known blocks which me arguments before block script steps result h is own own_steps there same =
+    let program : Program = map block_program_of blocks in
+    let one : BlockProgram = block_program_of block in
+    let s : Setting = setting_of (kept known) one me arguments before in
+    let run : Setting → Program → List StepInMemory → Meaning = λ s p l. report (act_all s (call_at s p 8) (steps_of l) start) in
+    let at : slice_get program which.block ≡ Some one = slice_get-map block_program_of blocks which.block ∙ ap (option_map block_program_of) is in
+    let found : meaning (kept known) program which me arguments before ≡ run s program script =
+    ap (λ o. meaning_of (kept known) program o which.part me arguments before) at
+    ∙ ap (λ o. meaning_with (kept known) program one o me arguments before) (sym own) in
+    let on_stage : run (given stage) (program_of stage) steps ≡ run s program script =
+    ap (λ s. run s (program_of stage) steps) there ∙ ap (λ p. run s p steps) same ∙ ap (run s program) own_steps in
+    subst (λ m. Means m result) (on_stage ∙ sym found) h

@@ -10,8 +10,8 @@ use Rattle.script_types.specs.TypingExpressions.{Role, Setting}
 use Rattle.script_types.specs.ElaborationOfStatements.{MadeAll, statements_made}
 use Rattle.script_types.specs.Program.{Steps, HandlerProgram, MethodProgram, BlockProgram, Program}
 use Rattle.script_types.specs.Programs.{placed, steps_of, handlers_of, methods_of, callback_of, block_of, blocks_of, program_of}
-use Rattle.script_safety.proofs.Programs.{built_ok, built_same}
-use Rattle.block_run.specs.Tidy.{AreTidy, IsTidyScript, IsTidyBlock, IsTidyProgram}
+use Rattle.script_laws.proofs.SafePrograms.{built_ok, built_same}
+use Rattle.script_run_blocks.specs.Tidy.{AreTidy, IsTidyScript, IsTidyBlock, IsTidyProgram}
 use Rattle.handler_run.proofs.TidyStatements.{TidyAll, statements_tidy}
 
 placed_tidy : (place : CodePlace) (r : Checked MadeAll) (steps : Steps) → TidyAll r → placed place r ≡ Ok steps → AreTidy steps

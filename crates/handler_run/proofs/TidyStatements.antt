@@ -19,9 +19,9 @@ use Rattle.script_types.specs.TypingStatements.{check_handler, check_result, che
 use Rattle.script_types.specs.Elaboration.{value_named, child_named, attribute_named, expression_of, asked_of}
 use Rattle.script_types.specs.ElaborationOfStatements.{Made, MadeAll, assigning_of, arguments_of, rank_of, method_in, on_entities_of, who_of, fields_of, on_activities_of, repeat_of, timer_of, return_of, verb_of, loop_of, statement_made, statements_made}
 use Rattle.script_types.specs.Program.{Term, Step}
-use Rattle.script_safety.proofs.Runs.{bind_ok, ok_same, tested_true}
-use Rattle.step_run.specs.Firing.{AreApart, names_in}
-use Rattle.block_run.specs.Tidy.{IsTidy, AreTidy}
+use Rattle.script_laws.proofs.SafeRuns.{bind_ok, ok_same, tested_true}
+use Rattle.script_run_steps.specs.Firing.{AreApart, names_in}
+use Rattle.script_run_blocks.specs.Tidy.{IsTidy, AreTidy}
 
 abbrev TidyMade : Checked Made → Type 0
 TidyMade (Ok made) = IsTidy made.step

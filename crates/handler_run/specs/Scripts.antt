@@ -1,8 +1,8 @@
 -- The scripts of a deployment.
 use Rattle.std.specs.Prelude.{Option, Some, None, slice_get}
-use Rattle.handler_meaning.specs.declared.which.Which.{Which}
+use Rattle.script_meaning.specs.declared.which.Which.{Which}
 use Rattle.script_types.specs.Program.{Program, BlockProgram, Steps}
-use Rattle.handler_meaning.specs.Meaning.{script_in}
+use Rattle.script_meaning.specs.Meaning.{script_in}
 
 abbrev pub script_of_block : Option BlockProgram → Which → Option Steps
 script_of_block None which = None

@@ -1,7 +1,15 @@
-//! The interpreter of checked scripts: a run is what a script means, over the answers that were kept.
+//! The interpreter of checked scripts: a whole run is what a script means, over the answers that were kept.
 #![tactic(auto)]
 
+mod before;
+mod checked;
+mod keys;
 mod run;
+mod scripts;
+mod words;
 
-pub use run::run_script;
-pub use script_run::{Before, Keys, Known, Run, word_of};
+pub use before::Before;
+pub use checked::run_script;
+pub use keys::{Keys, Known};
+pub use run::{Run, Unfinished, run_in};
+pub use words::word_of;

@@ -4,7 +4,7 @@ use Rattle.std.specs.Prelude.{◌&&◌, ◌≢◌}
 use Rattle.std.specs.Str.{bytes_eq}
 use Rattle.slee_value.specs.declared.value.Value.{Value}
 use Rattle.script_types.specs.declared.codes.FieldCode.{FieldCode}
-use Rattle.slee_state.specs.Fits.{are_declared, is_of_kind}
+use Rattle.router_state.specs.Fits.{are_declared, is_of_kind}
 
 none_behind : (a b : Bool) → a && (b && false) ≡ false
 none_behind true true = refl

@@ -9,19 +9,19 @@ use Rattle.std.proofs.lemmas.Bool.Decides.{nat_tests}
 use Rattle.std.proofs.lemmas.List.{length-map}
 use Rattle.std.proofs.lemmas.List.Sorted.{IsPermutation-sym, length_permutation}
 use Rattle.std.proofs.lemmas.Slice.Eq.{bytes_eq-Decides}
-use Rattle.slee_state.specs.Fitting.{has_row}
-use Rattle.slee_state.specs.Orders.{put}
-use Rattle.slee_state.specs.Profiles.{is_row, row_before}
-use Rattle.slee_state.specs.declared.rows.ProfileRow.{ProfileRow}
-use Rattle.sorted_rows.specs.Keys.{Key, is_key, key_before, profile_row_key, Rises}
-use Rattle.sorted_rows.proofs.OrderLemmas.{AllInOrder, all_filter, all_from_all, before_joins, filter_rises, in_order, put_rises}
-use Rattle.sorted_rows.proofs.PartLemmas.{parted_by_key}
-use Rattle.sorted_rows.proofs.RowLemmas.{inserted_is}
-use Rattle.row_index.proofs.FoundLemmas.{all_two}
-use Rattle.row_tally.proofs.CountLemmas.{none_stays, put_over}
-use Rattle.text_index.specs.Numbers.{number_of}
-use Rattle.text_index.proofs.ItemLemmas.{all_put, filter_agree, find_agree, map_find, map_place, order_filter, order_insert, place_agrees}
-use Rattle.text_index.proofs.SortLemmas.{AreApart, IsAhead, sorted_finds, sorted_same}
+use Rattle.router_state.specs.Fitting.{has_row}
+use Rattle.router_state.specs.Orders.{put}
+use Rattle.router_state.specs.Profiles.{is_row, row_before}
+use Rattle.router_state.specs.declared.rows.ProfileRow.{ProfileRow}
+use Rattle.rows_sorted.specs.Keys.{Key, is_key, key_before, profile_row_key, Rises}
+use Rattle.rows_sorted.proofs.OrderLemmas.{AllInOrder, all_filter, all_from_all, before_joins, filter_rises, in_order, put_rises}
+use Rattle.rows_sorted.proofs.PartLemmas.{parted_by_key}
+use Rattle.rows_sorted.proofs.RowLemmas.{inserted_is}
+use Rattle.rows_index.proofs.FoundLemmas.{all_two}
+use Rattle.rows_index.proofs.CountLemmas.{none_stays, put_over}
+use Rattle.rows_index.specs.Numbers.{number_of}
+use Rattle.rows_index.proofs.ItemLemmas.{all_put, filter_agree, find_agree, map_find, map_place, order_filter, order_insert, place_agrees}
+use Rattle.rows_index.proofs.SortLemmas.{AreApart, IsAhead, sorted_finds, sorted_same}
 use Rattle.profile_tables.specs.Keeping.{as_kept, in_byte_order, numbered_key, AreFiled}
 use Rattle.profile_tables.specs.declared.numbered.NumberedRow.{NumberedRow}
 use Rattle.profile_tables.proofs.RowLemmas.{found_any}

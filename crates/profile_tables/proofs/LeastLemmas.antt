@@ -7,17 +7,17 @@ use Rattle.std.proofs.lemmas.Bool.{cases_Bool, and_parts}
 use Rattle.std.proofs.lemmas.Bool.Decides.{nat_tests}
 use Rattle.std.proofs.lemmas.Slice.Eq.{bytes_eq-Decides}
 use Rattle.slee_value.specs.Order.{is_below}
-use Rattle.slee_state.specs.Orders.{sorted}
-use Rattle.slee_state.specs.Profiles.{is_row, row_before}
-use Rattle.slee_state.specs.declared.rows.ProfileRow.{ProfileRow}
-use Rattle.sorted_rows.specs.Keys.{is_pair, key_before, profile_row_key, Rises}
-use Rattle.sorted_rows.proofs.OrderLemmas.{AllInOrder, IsBefore, all_from_all, filter_rises, in_order}
-use Rattle.sorted_rows.proofs.PartLemmas.{parted_by_key}
-use Rattle.row_index.proofs.SumLemmas.{all_passed}
-use Rattle.row_tally.specs.declared.tally.Tally.{Tally}
-use Rattle.text_index.specs.Numbers.{number_of}
-use Rattle.text_index.proofs.ItemLemmas.{filter_agree, find_agree, map_filter}
-use Rattle.text_index.proofs.SortLemmas.{IsAhead, sorted_again, sorted_filter}
+use Rattle.router_state.specs.Orders.{sorted}
+use Rattle.router_state.specs.Profiles.{is_row, row_before}
+use Rattle.router_state.specs.declared.rows.ProfileRow.{ProfileRow}
+use Rattle.rows_sorted.specs.Keys.{is_pair, key_before, profile_row_key, Rises}
+use Rattle.rows_sorted.proofs.OrderLemmas.{AllInOrder, IsBefore, all_from_all, filter_rises, in_order}
+use Rattle.rows_sorted.proofs.PartLemmas.{parted_by_key}
+use Rattle.rows_index.proofs.SumLemmas.{all_passed}
+use Rattle.rows_index.specs.declared.tally.Tally.{Tally}
+use Rattle.rows_index.specs.Numbers.{number_of}
+use Rattle.rows_index.proofs.ItemLemmas.{filter_agree, find_agree, map_filter}
+use Rattle.rows_index.proofs.SortLemmas.{IsAhead, sorted_again, sorted_filter}
 use Rattle.profile_tables.specs.Faults.{alike_in, is_rival}
 use Rattle.profile_tables.specs.Keeping.{as_kept, in_byte_order, numbered_key, AreFiled}
 use Rattle.profile_tables.specs.Unique.{earlier, is_rival_in}

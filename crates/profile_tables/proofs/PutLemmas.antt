@@ -6,18 +6,18 @@ use Rattle.std.specs.List.{filter, find, list_any, sum_by}
 use Rattle.std.proofs.lemmas.Bool.{cases_Bool, and_parts}
 use Rattle.std.proofs.lemmas.Bool.Decides.{nat_tests}
 use Rattle.std.proofs.lemmas.Nat.{mul-le}
-use Rattle.slee_state.specs.Orders.{put}
-use Rattle.sorted_rows.specs.Keys.{Key, key_before, Rises}
-use Rattle.sorted_rows.proofs.OrderLemmas.{IsBefore, in_order}
-use Rattle.row_index.specs.declared.entry.Entry.{Entry}
-use Rattle.row_index.proofs.FoundLemmas.{none_at}
-use Rattle.row_index.proofs.IndexLemmas.{sum_put}
-use Rattle.row_index.proofs.RowLemmas.{all_stay, any_fails}
-use Rattle.row_tally.specs.declared.tally.Tally.{Tally}
-use Rattle.row_tally.specs.Tallies.{tally_key, all_less, all_more, total, AreSome, IsTally}
-use Rattle.row_tally.proofs.CountLemmas.{found_passes, sum_cut}
-use Rattle.row_tally.proofs.KeyLemmas.{all_rise, less_all_rise, less_all_some, share_all, share_all_less}
-use Rattle.row_tally.proofs.LengthLemmas.{put_as_long, put_longer, sum_replaced}
+use Rattle.router_state.specs.Orders.{put}
+use Rattle.rows_sorted.specs.Keys.{Key, key_before, Rises}
+use Rattle.rows_sorted.proofs.OrderLemmas.{IsBefore, in_order}
+use Rattle.rows_index.specs.declared.entry.Entry.{Entry}
+use Rattle.rows_index.proofs.FoundLemmas.{none_at}
+use Rattle.rows_index.proofs.IndexLemmas.{sum_put}
+use Rattle.rows_index.proofs.RowLemmas.{all_stay, any_fails}
+use Rattle.rows_index.specs.declared.tally.Tally.{Tally}
+use Rattle.rows_index.specs.Tallies.{tally_key, all_less, all_more, total, AreSome, IsTally}
+use Rattle.rows_index.proofs.CountLemmas.{found_passes, sum_cut}
+use Rattle.rows_index.proofs.KeyLemmas.{all_rise, less_all_rise, less_all_some, share_all, share_all_less}
+use Rattle.rows_index.proofs.LengthLemmas.{put_as_long, put_longer, sum_replaced}
 use Rattle.profile_tables.specs.Keeping.{numbered_key}
 use Rattle.profile_tables.specs.Unique.{most_of, row_entries, unique_of, value_entry, without_old}
 use Rattle.profile_tables.specs.declared.numbered.NumberedRow.{NumberedRow}

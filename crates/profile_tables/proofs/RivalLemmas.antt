@@ -9,20 +9,20 @@ use Rattle.std.proofs.lemmas.Bool.Decides.{nat_tests}
 use Rattle.std.proofs.lemmas.Int.{ints}
 use Rattle.std.proofs.lemmas.List.Sums.{sum_by-cons}
 use Rattle.std.proofs.lemmas.Slice.Eq.{bytes_eq-Decides}
-use Rattle.handler_meaning.specs.Same.{same_bool, same_int, same_option, same_value}
+use Rattle.script_meaning.specs.Same.{same_bool, same_int, same_option, same_value}
 use Rattle.slee_value.specs.declared.value.Value.{Value}
 use Rattle.slee_value.specs.declared.value.Value.TheVariants as values
-use Rattle.slee_state.specs.Profiles.{row_before, value_of}
-use Rattle.slee_state.specs.declared.rows.ProfileRow.{ProfileRow}
-use Rattle.sorted_rows.proofs.OrderLemmas.{all_from_all}
-use Rattle.row_index.specs.declared.entry.Entry.{Entry}
-use Rattle.row_index.proofs.FoundLemmas.{all_two}
-use Rattle.row_tally.specs.declared.tally.Tally.{Tally}
-use Rattle.row_tally.specs.Tallies.{count_at, is_of, one_of, IsTally}
-use Rattle.row_tally.proofs.CountLemmas.{count_is, one_entry, own_key, tally_there}
-use Rattle.text_index.specs.Numbers.{number_of}
-use Rattle.text_index.proofs.ItemLemmas.{map_all}
-use Rattle.text_index.proofs.SortLemmas.{all_sorted}
+use Rattle.router_state.specs.Profiles.{row_before, value_of}
+use Rattle.router_state.specs.declared.rows.ProfileRow.{ProfileRow}
+use Rattle.rows_sorted.proofs.OrderLemmas.{all_from_all}
+use Rattle.rows_index.specs.declared.entry.Entry.{Entry}
+use Rattle.rows_index.proofs.FoundLemmas.{all_two}
+use Rattle.rows_index.specs.declared.tally.Tally.{Tally}
+use Rattle.rows_index.specs.Tallies.{count_at, is_of, one_of, IsTally}
+use Rattle.rows_index.proofs.CountLemmas.{count_is, one_entry, own_key, tally_there}
+use Rattle.rows_index.specs.Numbers.{number_of}
+use Rattle.rows_index.proofs.ItemLemmas.{map_all}
+use Rattle.rows_index.proofs.SortLemmas.{all_sorted}
 use Rattle.profile_tables.specs.Faults.{alike_in}
 use Rattle.profile_tables.specs.Keeping.{as_kept, in_byte_order, AreFiled}
 use Rattle.profile_tables.specs.Unique.{is_rival_in, number_in, row_entries, unique_of, value_entry, value_key, value_number, AreUnder}

@@ -4,8 +4,8 @@ use Rattle.std.specs.Prelude.{if◌then◌else◌, is_some, option_map, slice_ge
 use Rattle.std.specs.Option.{option_map_or}
 use Rattle.std.specs.List.{find, list_any}
 use Rattle.std.proofs.lemmas.Bool.{cases_Bool}
-use Rattle.slee_state.specs.Fitting.{has_row}
-use Rattle.slee_state.specs.declared.rows.ProfileRow.{ProfileRow}
+use Rattle.router_state.specs.Fitting.{has_row}
+use Rattle.router_state.specs.declared.rows.ProfileRow.{ProfileRow}
 use Rattle.profile_tables.specs.Faults.{fault_of_update, fault_of_values}
 use Rattle.profile_tables.specs.declared.fault.RowFault.{RowFault}
 use Rattle.profile_tables.specs.declared.fault.RowFault.TheVariants as faults

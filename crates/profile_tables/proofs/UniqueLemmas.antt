@@ -2,13 +2,13 @@
 use Rattle.std.proofs.Common.{◌≡◌, ℕ, zero, suc, ◌+◌, ◌*◌, ◌≤◌, Bool, true, false, List, [], ◌∷◌, Some, map, length, refl, arith}
 use Rattle.std.specs.List.{find, sum_by}
 use Rattle.std.proofs.lemmas.List.Sums.{sum_by-cons}
-use Rattle.sorted_rows.specs.Keys.{Key, is_key, Rises}
-use Rattle.sorted_rows.proofs.OrderLemmas.{IsBefore, in_order}
-use Rattle.sorted_rows.proofs.PartLemmas.{parted_by_key}
-use Rattle.row_index.specs.declared.entry.Entry.{Entry}
-use Rattle.row_tally.specs.declared.tally.Tally.{Tally}
-use Rattle.row_tally.specs.Tallies.{one_of, total, AreCounted, IsTally}
-use Rattle.row_tally.proofs.CountLemmas.{count_is, sum_cut}
+use Rattle.rows_sorted.specs.Keys.{Key, is_key, Rises}
+use Rattle.rows_sorted.proofs.OrderLemmas.{IsBefore, in_order}
+use Rattle.rows_sorted.proofs.PartLemmas.{parted_by_key}
+use Rattle.rows_index.specs.declared.entry.Entry.{Entry}
+use Rattle.rows_index.specs.declared.tally.Tally.{Tally}
+use Rattle.rows_index.specs.Tallies.{one_of, total, AreCounted, IsTally}
+use Rattle.rows_index.proofs.CountLemmas.{count_is, sum_cut}
 use Rattle.profile_tables.specs.Keeping.{numbered_key}
 use Rattle.profile_tables.specs.Unique.{most_of, row_entries, unique_of, value_entry}
 use Rattle.profile_tables.specs.declared.numbered.NumberedRow.{NumberedRow}

@@ -4,11 +4,11 @@ use Rattle.std.specs.Option.{option_map_or}
 use Rattle.std.specs.List.{list_any, position_from}
 use Rattle.std.specs.Str.{bytes_eq}
 use Rattle.slee_value.specs.declared.value.Value.{Value}
-use Rattle.handler_meaning.specs.Same.{same_option, same_value}
-use Rattle.slee_state.specs.Fits.{are_declared}
-use Rattle.slee_state.specs.Fitting.{has_row}
-use Rattle.slee_state.specs.Profiles.{is_row, value_of}
-use Rattle.slee_state.specs.declared.rows.ProfileRow.{ProfileRow}
+use Rattle.script_meaning.specs.Same.{same_option, same_value}
+use Rattle.router_state.specs.Fits.{are_declared}
+use Rattle.router_state.specs.Fitting.{has_row}
+use Rattle.router_state.specs.Profiles.{is_row, value_of}
+use Rattle.router_state.specs.declared.rows.ProfileRow.{ProfileRow}
 use Rattle.profile_tables.specs.declared.fault.RowFault.{RowFault}
 use Rattle.profile_tables.specs.declared.fault.RowFault.TheVariants as faults
 use Rattle.profile_tables.specs.declared.table_spec.TableSpec.{TableSpec}

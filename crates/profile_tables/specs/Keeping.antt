@@ -1,11 +1,11 @@
 -- How rows are kept: under the numbers of their names.
 use Rattle.std.specs.Prelude.{◌≡◌, IsTrue, List, map}
 use Rattle.std.specs.List.{AllByRecursion}
-use Rattle.slee_state.specs.Orders.{rises_by, sorted}
-use Rattle.slee_state.specs.Profiles.{row_before}
-use Rattle.slee_state.specs.declared.rows.ProfileRow.{ProfileRow}
-use Rattle.sorted_rows.specs.Keys.{Key}
-use Rattle.text_index.specs.Numbers.{number_of}
+use Rattle.router_state.specs.Orders.{rises_by, sorted}
+use Rattle.router_state.specs.Profiles.{row_before}
+use Rattle.router_state.specs.declared.rows.ProfileRow.{ProfileRow}
+use Rattle.rows_sorted.specs.Keys.{Key}
+use Rattle.rows_index.specs.Numbers.{number_of}
 use Rattle.profile_tables.specs.declared.numbered.NumberedRow.{NumberedRow}
 
 -- by its number, then by its table, then by its name

@@ -1,7 +1,7 @@
 -- How all is kept: the rows, and their numbers under those of their unique values.
 use Rattle.std.specs.Prelude.{◌≡◌, ◌<◌, ◌≤◌, ◌+◌, ◌*◌, ◌^◌, ◌-◌, length, min}
-use Rattle.sorted_rows.specs.Keys.{Rises}
-use Rattle.row_tally.specs.Tallies.{AreSome, IsTally}
+use Rattle.rows_sorted.specs.Keys.{Rises}
+use Rattle.rows_index.specs.Tallies.{AreSome, IsTally}
 use Rattle.profile_tables.specs.Keeping.{as_kept, in_byte_order, numbered_key, AreFiled}
 use Rattle.profile_tables.specs.Unique.{most_of, row_entries}
 use Rattle.profile_tables.specs.Views.{ProfilesView}

@@ -6,12 +6,12 @@ use Rattle.std.specs.Option.{option_map_or}
 use Rattle.std.specs.Str.{bytes_eq}
 use Rattle.slee_value.specs.declared.value.Value.{Value}
 use Rattle.slee_value.specs.declared.value.Value.TheVariants as values
-use Rattle.slee_state.specs.Profiles.{row_before, value_of}
-use Rattle.slee_state.specs.declared.rows.ProfileRow.{ProfileRow}
-use Rattle.row_index.specs.declared.entry.Entry.{Entry}
-use Rattle.row_tally.specs.declared.tally.Tally.{Tally}
-use Rattle.row_tally.specs.Tallies.{all_less}
-use Rattle.text_index.specs.Numbers.{number_of, number_with}
+use Rattle.router_state.specs.Profiles.{row_before, value_of}
+use Rattle.router_state.specs.declared.rows.ProfileRow.{ProfileRow}
+use Rattle.rows_index.specs.declared.entry.Entry.{Entry}
+use Rattle.rows_index.specs.declared.tally.Tally.{Tally}
+use Rattle.rows_index.specs.Tallies.{all_less}
+use Rattle.rows_index.specs.Numbers.{number_of, number_with}
 use Rattle.profile_tables.specs.Faults.{alike_in}
 use Rattle.profile_tables.specs.declared.numbered.NumberedRow.{NumberedRow}
 use Rattle.profile_tables.specs.declared.table_spec.TableSpec.{TableSpec}

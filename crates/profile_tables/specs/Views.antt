@@ -1,6 +1,6 @@
 -- What is seen of profile tables.
 use Rattle.std.specs.Prelude.{ℕ, List}
-use Rattle.slee_state.specs.declared.rows.ProfileRow.{ProfileRow}
+use Rattle.router_state.specs.declared.rows.ProfileRow.{ProfileRow}
 use Rattle.profile_tables.specs.declared.table_spec.TableSpec.{TableSpec}
 
 -- what is declared for each table, the rows by table and then by name, and how many rows can be added without memory

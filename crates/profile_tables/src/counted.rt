@@ -1,7 +1,7 @@
 //! The entries of a row's unique values, counted as it comes and goes.
 ghost use Rattle.std.specs.Prelude.{◌≡◌, ◌+◌, ◌*◌, ◌<◌, ◌≤◌, ◌^◌, OnOk, find, length, map};
-ghost use Rattle.sorted_rows.specs.Keys.{Rises, is_key};
-ghost use Rattle.row_tally.specs.Tallies.{tally_key, all_less, all_more, total, AreCounted, AreSome, IsTally};
+ghost use Rattle.rows_sorted.specs.Keys.{Rises, is_key};
+ghost use Rattle.rows_index.specs.Tallies.{tally_key, all_less, all_more, total, AreCounted, AreSome, IsTally};
 ghost use Rattle.profile_tables.specs.Keeping.{numbered_key};
 ghost use Rattle.profile_tables.specs.Unique.{row_entries, value_entry, without_old};
 
@@ -9,9 +9,8 @@ use crate::TableSpec;
 use crate::numbered::NumberedRow;
 use crate::table_spec::unique_of;
 use crate::values::value_key;
-use leaf_rows::Leaves;
-use row_index::Entry;
-use row_tally::{Tally, count_one, uncount_one};
+use rows_index::{Entry, Tally, count_one, uncount_one};
+use rows_leaves::Leaves;
 use slee_value::{Name, NoMemory, Text, Value};
 
 /// Makes room for the entries of so many rows in all, of which each may have the most unique values.

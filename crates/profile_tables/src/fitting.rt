@@ -1,8 +1,8 @@
 //! Whether attributes are those that are declared.
 ghost use Rattle.std.specs.Prelude.{◌≡◌, ◌&&◌};
 ghost use Rattle.std.specs.Str.{bytes_eq};
-ghost use Rattle.handler_meaning.specs.Same.{same_kind};
-ghost use Rattle.slee_state.specs.Fits.{are_declared, is_of_kind};
+ghost use Rattle.script_meaning.specs.Same.{same_kind};
+ghost use Rattle.router_state.specs.Fits.{are_declared, is_of_kind};
 
 use script_types::FieldCode;
 use slee_value::{Kind, Name, Value};

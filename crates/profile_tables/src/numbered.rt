@@ -1,7 +1,7 @@
 //! A row under the number of its name.
 
-use slee_state::ProfileRow;
-use sorted_rows::Keyed;
+use router_state::ProfileRow;
+use rows_sorted::Keyed;
 
 /// A row under the number of its name.
 #[derive(Debug, Drop)]

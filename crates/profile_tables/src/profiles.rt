@@ -1,8 +1,8 @@
 //! The rows of profile tables; clauses see them as a list in byte order, and as they are kept, with what is declared for each table and the room.
 ghost use Rattle.std.specs.Prelude.{◌≡◌, ◌+◌, ◌<◌, ◌≤◌, ◌||◌, [], Some, nat_lt, length, find, IsTrue, IfOk, OnOk, OnErr, slice_get, option_copied};
-ghost use Rattle.slee_state.specs.Orders.{rises_by};
-ghost use Rattle.slee_state.specs.Fitting.{has_row};
-ghost use Rattle.slee_state.specs.Profiles.{is_row, row_at, row_before, with_row, without_row};
+ghost use Rattle.router_state.specs.Orders.{rises_by};
+ghost use Rattle.router_state.specs.Fitting.{has_row};
+ghost use Rattle.router_state.specs.Profiles.{is_row, row_at, row_before, with_row, without_row};
 ghost use Rattle.std.specs.List.Sorted.{IsPermutation};
 ghost use Rattle.profile_tables.specs.Faults.{fault_of, fault_of_add, fault_of_asking, fault_of_update, fault_of_values, place_of_rival};
 
@@ -12,13 +12,12 @@ use crate::numbered::NumberedRow;
 use crate::rivals::{least_rival, place_of_row};
 use crate::table_spec::{most_of, unique_of};
 use crate::{RowFault, TableSpec};
-use leaf_rows::Leaves;
-use row_tally::Tally;
-use slee_state::ProfileRow;
+use router_state::ProfileRow;
+use rows_index::{Tally, number_of};
+use rows_leaves::Leaves;
 use slee_value::{NoMemory, Payload, Text};
 use std::alloc::Global;
 use std::marker::Model;
-use text_index::number_of;
 
 /// The rows of all profile tables under the numbers of their names, and these numbers under those of their unique values. There
 /// are places for so many rows among the values.

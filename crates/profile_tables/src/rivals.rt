@@ -1,8 +1,8 @@
 //! Rows that have a value that is to be unique. They are found under the numbers of the values.
 ghost use Rattle.std.specs.Prelude.{◌≡◌, ◌==◌, ◌&&◌, find, option_copied};
 ghost use Rattle.std.specs.List.{AllByRecursion, position_from};
-ghost use Rattle.slee_state.specs.Profiles.{is_row, row_before};
-ghost use Rattle.text_index.specs.Numbers.{number_of};
+ghost use Rattle.router_state.specs.Profiles.{is_row, row_before};
+ghost use Rattle.rows_index.specs.Numbers.{number_of};
 ghost use Rattle.profile_tables.specs.Faults.{is_rival};
 ghost use Rattle.profile_tables.specs.Keeping.{as_kept, in_byte_order, AreFiled};
 ghost use Rattle.profile_tables.specs.Unique.{earlier, is_rival_in, AreUnder};
@@ -10,11 +10,10 @@ ghost use Rattle.profile_tables.specs.Unique.{earlier, is_rival_in, AreUnder};
 use crate::numbered::NumberedRow;
 use crate::same::is_alike;
 use crate::values::value_key;
-use leaf_rows::{Leaves, Run};
-use row_tally::Tally;
-use slee_state::ProfileRow;
+use router_state::ProfileRow;
+use rows_index::{Tally, number_of};
+use rows_leaves::{Leaves, Run};
 use slee_value::{Name, Text, Value};
-use text_index::number_of;
 
 /// Whether the other row is another one of the table, and has the value of this attribute.
 fn is_rival_in(

@@ -1,7 +1,7 @@
 //! Values compared, and found by their names.
 ghost use Rattle.std.specs.Prelude.{◌≡◌, option_copied};
-ghost use Rattle.handler_meaning.specs.Same.{same_int, same_value};
-ghost use Rattle.slee_state.specs.Profiles.{value_of};
+ghost use Rattle.script_meaning.specs.Same.{same_int, same_value};
+ghost use Rattle.router_state.specs.Profiles.{value_of};
 ghost use Rattle.profile_tables.specs.Faults.{alike_in};
 
 use slee_value::{Name, Value};

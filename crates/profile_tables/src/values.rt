@@ -3,8 +3,8 @@ ghost use Rattle.std.specs.Prelude.{◌≡◌};
 ghost use Rattle.profile_tables.specs.Unique.{number_in, value_key, value_number};
 
 use crate::same::value_of;
+use rows_index::{number_of, number_with};
 use slee_value::{Name, Value};
-use text_index::{number_of, number_with};
 
 fn value_number(value: &Value) -> u64
     ensures { result ≡ value_number value.now }

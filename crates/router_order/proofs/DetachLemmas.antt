@@ -4,15 +4,15 @@ use Rattle.std.specs.Prelude.{◌&&◌, is_some, not, option_map}
 use Rattle.std.specs.List.{AllByRecursion, filter, find, list_any}
 use Rattle.std.proofs.lemmas.Bool.{cases_Bool}
 use Rattle.std.proofs.lemmas.Bool.Decides.{nat_tests}
-use Rattle.slee_state.specs.declared.rows.Entity.{Entity}
-use Rattle.slee_state.specs.declared.rows.Link.{Link}
-use Rattle.slee_state.specs.Contexts.{is_link, is_linked, without_link}
-use Rattle.sorted_rows.specs.Keys.{Rises, is_key, pair_key}
-use Rattle.sorted_rows.proofs.AgreeLemmas.{pair_agrees}
-use Rattle.sorted_rows.proofs.OrderLemmas.{AllInOrder, IsBefore, all_from_all, in_order}
+use Rattle.router_state.specs.declared.rows.Entity.{Entity}
+use Rattle.router_state.specs.declared.rows.Link.{Link}
+use Rattle.router_state.specs.Contexts.{is_link, is_linked, without_link}
+use Rattle.rows_sorted.specs.Keys.{Rises, is_key, pair_key}
+use Rattle.rows_sorted.proofs.AgreeLemmas.{pair_agrees}
+use Rattle.rows_sorted.proofs.OrderLemmas.{AllInOrder, IsBefore, all_from_all, in_order}
 use Rattle.entity_tree.proofs.ListLemmas.{and_true, or_right}
-use Rattle.row_index.proofs.FoundLemmas.{none_at}
-use Rattle.row_index.proofs.RowLemmas.{all_stay}
+use Rattle.rows_index.proofs.FoundLemmas.{none_at}
+use Rattle.rows_index.proofs.RowLemmas.{all_stay}
 use Rattle.router_order.specs.declared.placed.Placed.{Placed}
 use Rattle.router_order.specs.Listed.{IsListing, listed_before}
 use Rattle.router_order.specs.Placed.{attachment, attachments, placed_key}

@@ -7,12 +7,12 @@ use Rattle.std.specs.List.{AllByRecursion, filter, find, list_any}
 use Rattle.std.proofs.lemmas.Bool.{cases_Bool, and_parts}
 use Rattle.std.proofs.lemmas.Bool.Decides.{nat_tests}
 use Rattle.std.proofs.lemmas.Cmp.{tied_itself}
-use Rattle.slee_state.specs.declared.rows.Entity.{Entity}
-use Rattle.slee_state.specs.declared.rows.Link.{Link}
-use Rattle.slee_state.specs.Trees.{entity_at}
-use Rattle.slee_state.specs.Paths.{earlier, least_path, path_before, path_of}
-use Rattle.sorted_rows.specs.Keys.{Rises, entity_key}
-use Rattle.sorted_rows.proofs.OrderLemmas.{AllInOrder, all_from_all, in_order}
+use Rattle.router_state.specs.declared.rows.Entity.{Entity}
+use Rattle.router_state.specs.declared.rows.Link.{Link}
+use Rattle.router_state.specs.Trees.{entity_at}
+use Rattle.router_state.specs.Paths.{earlier, least_path, path_before, path_of}
+use Rattle.rows_sorted.specs.Keys.{Rises, entity_key}
+use Rattle.rows_sorted.proofs.OrderLemmas.{AllInOrder, all_from_all, in_order}
 use Rattle.entity_tree.specs.Climbing.{path_at}
 use Rattle.entity_tree.proofs.ListLemmas.{all_filtered, filter_none}
 use Rattle.entity_tree.proofs.RowLemmas.{each_found, found_number}

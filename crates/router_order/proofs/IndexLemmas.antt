@@ -3,16 +3,16 @@ use Rattle.std.proofs.Common.{◌≡◌, ℕ, ◌==◌, List, Option, None, sym,
 use Rattle.std.specs.Prelude.{◌&&◌, option_map}
 use Rattle.std.specs.List.{filter, find}
 use Rattle.slee_value.specs.declared.ids.EntityId.{EntityId}
-use Rattle.slee_state.specs.declared.rows.Entity.{Entity}
-use Rattle.slee_state.specs.declared.rows.Event.{Event}
-use Rattle.slee_state.specs.declared.rows.Link.{Link}
-use Rattle.slee_state.specs.declared.rows.Mask.{Mask}
-use Rattle.slee_state.specs.State.{State}
-use Rattle.slee_state.specs.Paths.{least_path}
-use Rattle.slee_state.specs.Contexts.{links_on}
-use Rattle.slee_state.specs.Next.{is_eligible, first}
-use Rattle.sorted_rows.specs.Keys.{Rises, entity_key}
-use Rattle.sorted_rows.proofs.OrderLemmas.{order_filter}
+use Rattle.router_state.specs.declared.rows.Entity.{Entity}
+use Rattle.router_state.specs.declared.rows.Event.{Event}
+use Rattle.router_state.specs.declared.rows.Link.{Link}
+use Rattle.router_state.specs.declared.rows.Mask.{Mask}
+use Rattle.router_state.specs.State.{State}
+use Rattle.router_state.specs.Paths.{least_path}
+use Rattle.router_state.specs.Contexts.{links_on}
+use Rattle.router_state.specs.Next.{is_eligible, first}
+use Rattle.rows_sorted.specs.Keys.{Rises, entity_key}
+use Rattle.rows_sorted.proofs.OrderLemmas.{order_filter}
 use Rattle.router_order.specs.Asked.{IsAbout, is_wanted, passes}
 use Rattle.router_order.specs.Listed.{Agrees}
 use Rattle.router_order.proofs.LinkLemmas.{all_on, has, linked_is}

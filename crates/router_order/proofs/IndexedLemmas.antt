@@ -6,17 +6,17 @@ use Rattle.std.proofs.lemmas.Bool.{cases_Bool, and_parts}
 use Rattle.std.proofs.lemmas.Bool.Decides.{nat_tests}
 use Rattle.std.proofs.lemmas.List.{take_more}
 use Rattle.slee_value.specs.declared.ids.EntityId.{EntityId}
-use Rattle.slee_state.specs.declared.rows.Entity.{Entity}
-use Rattle.slee_state.specs.declared.rows.Link.{Link}
-use Rattle.slee_state.specs.Orders.{put, same_pair}
-use Rattle.slee_state.specs.Contexts.{is_linked, without_link, without_links_on}
-use Rattle.sorted_rows.specs.Keys.{is_key, key_before, pair_key}
-use Rattle.sorted_rows.proofs.AgreeLemmas.{pair_agrees}
-use Rattle.sorted_rows.proofs.OrderLemmas.{all_from_all}
+use Rattle.router_state.specs.declared.rows.Entity.{Entity}
+use Rattle.router_state.specs.declared.rows.Link.{Link}
+use Rattle.router_state.specs.Orders.{put, same_pair}
+use Rattle.router_state.specs.Contexts.{is_linked, without_link, without_links_on}
+use Rattle.rows_sorted.specs.Keys.{is_key, key_before, pair_key}
+use Rattle.rows_sorted.proofs.AgreeLemmas.{pair_agrees}
+use Rattle.rows_sorted.proofs.OrderLemmas.{all_from_all}
 use Rattle.entity_tree.specs.Kept.{AreParents, is_entity, numbers_of}
 use Rattle.entity_tree.proofs.ListLemmas.{and_true, all_joined, all_of_any}
-use Rattle.row_index.specs.declared.entry.Entry.{Entry}
-use Rattle.row_index.specs.Index.{entry_key}
+use Rattle.rows_index.specs.declared.entry.Entry.{Entry}
+use Rattle.rows_index.specs.Index.{entry_key}
 use Rattle.router_order.specs.declared.placed.Placed.{Placed}
 use Rattle.router_order.specs.Listed.{IsListing, listed_before}
 use Rattle.router_order.specs.Placed.{IsIndexed, attachment, attachments}

@@ -7,14 +7,14 @@ use Rattle.std.proofs.lemmas.Bool.{cases_Bool}
 use Rattle.std.proofs.lemmas.Bool.Decides.{nat_tests}
 use Rattle.std.proofs.lemmas.List.{map-append, take_more}
 use Rattle.slee_value.specs.declared.ids.ActivityId.{ActivityId}
-use Rattle.slee_state.specs.declared.rows.Entity.{Entity}
-use Rattle.slee_state.specs.declared.rows.Link.{Link}
-use Rattle.slee_state.specs.Orders.{pair_before, put}
-use Rattle.slee_state.specs.Contexts.{links_on}
-use Rattle.sorted_rows.proofs.AgreeLemmas.{pair_agrees}
-use Rattle.sorted_rows.proofs.OrderLemmas.{all_from_all}
+use Rattle.router_state.specs.declared.rows.Entity.{Entity}
+use Rattle.router_state.specs.declared.rows.Link.{Link}
+use Rattle.router_state.specs.Orders.{pair_before, put}
+use Rattle.router_state.specs.Contexts.{links_on}
+use Rattle.rows_sorted.proofs.AgreeLemmas.{pair_agrees}
+use Rattle.rows_sorted.proofs.OrderLemmas.{all_from_all}
 use Rattle.entity_tree.proofs.ListLemmas.{all_joined, all_two}
-use Rattle.row_index.proofs.SumLemmas.{all_passed}
+use Rattle.rows_index.proofs.SumLemmas.{all_passed}
 use Rattle.router_order.specs.declared.placed.Placed.{Placed}
 use Rattle.router_order.specs.Listed.{IsByActivity, IsListing, listed_before}
 use Rattle.router_order.specs.Placed.{attachment, attachments}

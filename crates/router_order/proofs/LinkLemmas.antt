@@ -4,9 +4,9 @@ use Rattle.std.specs.Prelude.{◌&&◌, ◌||◌, not}
 use Rattle.std.specs.List.{AllByRecursion, filter, list_any}
 use Rattle.std.proofs.lemmas.Bool.{cases_Bool}
 use Rattle.std.proofs.lemmas.Bool.Decides.{nat_tests}
-use Rattle.slee_state.specs.declared.rows.Link.{Link}
-use Rattle.slee_state.specs.Orders.{put, same_pair}
-use Rattle.slee_state.specs.Contexts.{is_link, is_linked, link_before, links_on, with_link, without_link, without_links_on}
+use Rattle.router_state.specs.declared.rows.Link.{Link}
+use Rattle.router_state.specs.Orders.{put, same_pair}
+use Rattle.router_state.specs.Contexts.{is_link, is_linked, link_before, links_on, with_link, without_link, without_links_on}
 use Rattle.entity_tree.proofs.ListLemmas.{all_of_any, and_true}
 
 -- the entity of this number is one of those of the attachments

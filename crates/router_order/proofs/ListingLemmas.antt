@@ -6,13 +6,13 @@ use Rattle.std.specs.Ordering.{is_eq}
 use Rattle.std.proofs.lemmas.Cmp.{tied_itself}
 use Rattle.std.proofs.lemmas.Bool.{cases_Bool, cond_both, and_parts}
 use Rattle.std.proofs.lemmas.Bool.Decides.{nat_tests}
-use Rattle.slee_state.specs.declared.rows.Entity.{Entity}
-use Rattle.slee_state.specs.declared.rows.Link.{Link}
-use Rattle.slee_state.specs.Orders.{put, rises_by, same_pair}
-use Rattle.slee_state.specs.Contexts.{is_link, is_linked, with_link, without_link, without_links_on}
-use Rattle.sorted_rows.proofs.OrderLemmas.{AllInOrder, all_filter, all_from_all, order_filter}
-use Rattle.sorted_rows.proofs.HalvingLemmas.{PlacesBy, absent_from, found, position_at}
-use Rattle.sorted_rows.proofs.RowLemmas.{PartedBy, inserted_is, replaced_is}
+use Rattle.router_state.specs.declared.rows.Entity.{Entity}
+use Rattle.router_state.specs.declared.rows.Link.{Link}
+use Rattle.router_state.specs.Orders.{put, rises_by, same_pair}
+use Rattle.router_state.specs.Contexts.{is_link, is_linked, with_link, without_link, without_links_on}
+use Rattle.rows_sorted.proofs.OrderLemmas.{AllInOrder, all_filter, all_from_all, order_filter}
+use Rattle.rows_sorted.proofs.HalvingLemmas.{PlacesBy, absent_from, found, position_at}
+use Rattle.rows_sorted.proofs.RowLemmas.{PartedBy, inserted_is, replaced_is}
 use Rattle.entity_tree.specs.Kept.{AreParents, is_entity}
 use Rattle.entity_tree.proofs.ListLemmas.{all_joined}
 use Rattle.router_order.specs.Listed.{Agrees, IsByActivity, IsListing, listed_before}

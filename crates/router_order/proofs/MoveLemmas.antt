@@ -5,14 +5,14 @@ use Rattle.std.specs.List.{AllByRecursion}
 use Rattle.std.proofs.lemmas.Bool.{cases_Bool}
 use Rattle.std.proofs.lemmas.Bool.Decides.{nat_tests}
 use Rattle.std.proofs.lemmas.List.{append_assoc, take_more}
-use Rattle.slee_state.specs.declared.rows.Entity.{Entity}
-use Rattle.slee_state.specs.declared.rows.Link.{Link}
-use Rattle.slee_state.specs.Orders.{put, same_pair}
-use Rattle.slee_state.specs.Contexts.{is_link, is_linked, links_on, without_link}
-use Rattle.sorted_rows.proofs.OrderLemmas.{all_filter, all_from_all}
+use Rattle.router_state.specs.declared.rows.Entity.{Entity}
+use Rattle.router_state.specs.declared.rows.Link.{Link}
+use Rattle.router_state.specs.Orders.{put, same_pair}
+use Rattle.router_state.specs.Contexts.{is_link, is_linked, links_on, without_link}
+use Rattle.rows_sorted.proofs.OrderLemmas.{all_filter, all_from_all}
 use Rattle.entity_tree.specs.Kept.{AreParents, is_entity}
 use Rattle.entity_tree.proofs.ListLemmas.{all_joined}
-use Rattle.row_index.specs.declared.entry.Entry.{Entry}
+use Rattle.rows_index.specs.declared.entry.Entry.{Entry}
 use Rattle.router_order.specs.Listed.{IsListing, listed_before}
 use Rattle.router_order.specs.Taken.{IsTaken}
 use Rattle.router_order.proofs.LinkLemmas.{linked_more}

@@ -5,17 +5,17 @@ use Rattle.std.specs.List.{AllByRecursion, filter, cons_option}
 use Rattle.std.proofs.lemmas.Bool.{cases_Bool}
 use Rattle.std.proofs.lemmas.Bool.Decides.{nat_tests}
 use Rattle.slee_value.specs.declared.ids.EntityId.{EntityId}
-use Rattle.slee_state.specs.declared.rows.Entity.{Entity}
-use Rattle.slee_state.specs.declared.rows.Event.{Event}
-use Rattle.slee_state.specs.declared.rows.Link.{Link}
-use Rattle.slee_state.specs.declared.rows.Mask.{Mask}
-use Rattle.slee_state.specs.State.{State}
-use Rattle.slee_state.specs.Trees.{entity_at}
-use Rattle.slee_state.specs.Paths.{earlier, least_path}
-use Rattle.slee_state.specs.Contexts.{is_linked, links_on}
-use Rattle.slee_state.specs.Next.{is_eligible, first}
-use Rattle.sorted_rows.specs.Keys.{Rises, entity_key, link_key}
-use Rattle.sorted_rows.proofs.OrderLemmas.{AllInOrder, IsBefore, in_order, all_from_all, filter_rises}
+use Rattle.router_state.specs.declared.rows.Entity.{Entity}
+use Rattle.router_state.specs.declared.rows.Event.{Event}
+use Rattle.router_state.specs.declared.rows.Link.{Link}
+use Rattle.router_state.specs.declared.rows.Mask.{Mask}
+use Rattle.router_state.specs.State.{State}
+use Rattle.router_state.specs.Trees.{entity_at}
+use Rattle.router_state.specs.Paths.{earlier, least_path}
+use Rattle.router_state.specs.Contexts.{is_linked, links_on}
+use Rattle.router_state.specs.Next.{is_eligible, first}
+use Rattle.rows_sorted.specs.Keys.{Rises, entity_key, link_key}
+use Rattle.rows_sorted.proofs.OrderLemmas.{AllInOrder, IsBefore, in_order, all_from_all, filter_rises}
 use Rattle.entity_tree.proofs.ListLemmas.{filter_agree, filter_none, all_of_any}
 use Rattle.entity_tree.proofs.RowLemmas.{none_there}
 use Rattle.router_order.specs.Asked.{IsAbout, entities_of, is_wanted}

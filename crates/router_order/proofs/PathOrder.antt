@@ -8,11 +8,11 @@ use Rattle.std.specs.declared.cmp.Ordering.{Ordering}
 use Rattle.std.proofs.lemmas.Bool.{cases_Bool}
 use Rattle.std.proofs.lemmas.Bool.Decides.{nat_tests}
 use Rattle.std.proofs.lemmas.Cmp.{nat_cmp_total, int_cmp_total, on_total, back_total, then_total, alike_right, lists_total, same_from_slice_cmp}
-use Rattle.slee_state.specs.declared.rows.Entity.{Entity}
-use Rattle.slee_state.specs.declared.rows.Link.{Link}
-use Rattle.slee_state.specs.Paths.{path_before}
-use Rattle.slee_state.specs.Trees.{parent_of}
-use Rattle.sorted_rows.proofs.RowLemmas.{PartedBy}
+use Rattle.router_state.specs.declared.rows.Entity.{Entity}
+use Rattle.router_state.specs.declared.rows.Link.{Link}
+use Rattle.router_state.specs.Paths.{path_before}
+use Rattle.router_state.specs.Trees.{parent_of}
+use Rattle.rows_sorted.proofs.RowLemmas.{PartedBy}
 use Rattle.entity_tree.specs.Kept.{AreParents, is_entity}
 use Rattle.entity_tree.specs.Climbing.{path_at, step_of}
 use Rattle.entity_tree.proofs.RowLemmas.{found_number}

@@ -4,21 +4,21 @@ use Rattle.std.specs.Prelude.{◌||◌, option_map}
 use Rattle.std.specs.List.{AllByRecursion, list_any}
 use Rattle.std.proofs.lemmas.Bool.{cases_Bool, and_parts}
 use Rattle.std.proofs.lemmas.Bool.Decides.{nat_tests}
-use Rattle.slee_state.specs.declared.rows.Entity.{Entity}
-use Rattle.slee_state.specs.declared.rows.Link.{Link}
-use Rattle.slee_state.specs.Orders.{rises_by}
-use Rattle.slee_state.specs.Contexts.{is_linked}
-use Rattle.slee_state.specs.Trees.{children, entity_at, has_priority, parent_of, tree_of, with_priority}
-use Rattle.slee_state.specs.Paths.{path}
-use Rattle.sorted_rows.specs.Keys.{Rises, entity_key}
-use Rattle.sorted_rows.proofs.OrderLemmas.{all_from_all}
+use Rattle.router_state.specs.declared.rows.Entity.{Entity}
+use Rattle.router_state.specs.declared.rows.Link.{Link}
+use Rattle.router_state.specs.Orders.{rises_by}
+use Rattle.router_state.specs.Contexts.{is_linked}
+use Rattle.router_state.specs.Trees.{children, entity_at, has_priority, parent_of, tree_of, with_priority}
+use Rattle.router_state.specs.Paths.{path}
+use Rattle.rows_sorted.specs.Keys.{Rises, entity_key}
+use Rattle.rows_sorted.proofs.OrderLemmas.{all_from_all}
 use Rattle.entity_tree.specs.declared.branch.Branch.{Branch}
 use Rattle.entity_tree.specs.Kept.{AreParents, branch_of, is_entity}
 use Rattle.entity_tree.specs.Climbing.{path_at, step_of}
 use Rattle.entity_tree.proofs.PathLemmas.{no_path, parent_lower, path_step}
 use Rattle.entity_tree.proofs.RowLemmas.{found_number, same_number}
 use Rattle.entity_tree.proofs.TreeLemmas.{tree_step, trees}
-use Rattle.row_index.proofs.RowLemmas.{any_fails}
+use Rattle.rows_index.proofs.RowLemmas.{any_fails}
 use Rattle.router_order.specs.Listed.{IsListing, listed_before}
 use Rattle.router_order.proofs.LinkLemmas.{any_joined}
 use Rattle.router_order.proofs.ListingLemmas.{true_both}

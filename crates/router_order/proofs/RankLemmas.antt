@@ -5,17 +5,17 @@ use Rattle.std.specs.List.{AllByRecursion, filter, list_any, position_from, pref
 use Rattle.std.proofs.lemmas.Bool.{cases_Bool}
 use Rattle.std.proofs.lemmas.List.{map-append}
 use Rattle.std.proofs.lemmas.Bool.Decides.{nat_tests}
-use Rattle.slee_state.specs.declared.rows.Entity.{Entity}
-use Rattle.slee_state.specs.declared.rows.Link.{Link}
-use Rattle.slee_state.specs.Orders.{pair_before, put}
-use Rattle.slee_state.specs.Contexts.{is_link, is_linked, links_on}
-use Rattle.sorted_rows.specs.Keys.{Rises}
-use Rattle.sorted_rows.proofs.AgreeLemmas.{pair_agrees}
-use Rattle.sorted_rows.proofs.OrderLemmas.{AllInOrder, IsBefore, all_filter, all_from_all, in_order, order_filter}
+use Rattle.router_state.specs.declared.rows.Entity.{Entity}
+use Rattle.router_state.specs.declared.rows.Link.{Link}
+use Rattle.router_state.specs.Orders.{pair_before, put}
+use Rattle.router_state.specs.Contexts.{is_link, is_linked, links_on}
+use Rattle.rows_sorted.specs.Keys.{Rises}
+use Rattle.rows_sorted.proofs.AgreeLemmas.{pair_agrees}
+use Rattle.rows_sorted.proofs.OrderLemmas.{AllInOrder, IsBefore, all_filter, all_from_all, in_order, order_filter}
 use Rattle.entity_tree.specs.Kept.{AreParents, is_entity}
 use Rattle.entity_tree.proofs.ListLemmas.{all_two, filter_agree, filter_of_map}
-use Rattle.row_index.proofs.RowLemmas.{each_fails}
-use Rattle.row_index.proofs.SumLemmas.{all_passed}
+use Rattle.rows_index.proofs.RowLemmas.{each_fails}
+use Rattle.rows_index.proofs.SumLemmas.{all_passed}
 use Rattle.router_order.specs.declared.placed.Placed.{Placed}
 use Rattle.router_order.specs.Listed.{IsListing, listed_before}
 use Rattle.router_order.specs.Placed.{attachment, attachments, placed_key}

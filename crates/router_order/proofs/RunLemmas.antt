@@ -5,15 +5,15 @@ use Rattle.std.specs.List.{AllByRecursion, filter}
 use Rattle.std.proofs.lemmas.Bool.{cases_Bool, and_parts}
 use Rattle.std.proofs.lemmas.Bool.Decides.{nat_tests}
 use Rattle.std.proofs.lemmas.List.{append-nil}
-use Rattle.slee_state.specs.declared.rows.Link.{Link}
-use Rattle.slee_state.specs.Orders.{put, rises_by}
-use Rattle.slee_state.specs.Contexts.{links_on}
-use Rattle.sorted_rows.specs.Keys.{key_before, Rises}
-use Rattle.sorted_rows.proofs.AgreeLemmas.{pair_agrees}
-use Rattle.sorted_rows.proofs.OrderLemmas.{AllInOrder, all_from_all}
+use Rattle.router_state.specs.declared.rows.Link.{Link}
+use Rattle.router_state.specs.Orders.{put, rises_by}
+use Rattle.router_state.specs.Contexts.{links_on}
+use Rattle.rows_sorted.specs.Keys.{key_before, Rises}
+use Rattle.rows_sorted.proofs.AgreeLemmas.{pair_agrees}
+use Rattle.rows_sorted.proofs.OrderLemmas.{AllInOrder, all_from_all}
 use Rattle.entity_tree.proofs.ListLemmas.{all_of_any, filter_all, filter_none, filter_of_map, put_filtered}
-use Rattle.row_index.proofs.RowLemmas.{filter_behind}
-use Rattle.row_index.proofs.SumLemmas.{all_passed}
+use Rattle.rows_index.proofs.RowLemmas.{filter_behind}
+use Rattle.rows_index.proofs.SumLemmas.{all_passed}
 use Rattle.router_order.specs.declared.placed.Placed.{Placed}
 use Rattle.router_order.specs.Listed.{IsByActivity}
 use Rattle.router_order.specs.Placed.{attachment, attachments, placed_key}

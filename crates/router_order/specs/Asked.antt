@@ -3,16 +3,16 @@ use Rattle.std.specs.Prelude.{◌≡◌, ℕ, ◌==◌, Bool, false, ◌&&◌, n
 use Rattle.std.specs.List.{list_any, filter_map}
 use Rattle.std.specs.Option.{option_map_or}
 use Rattle.slee_value.specs.declared.ids.EntityId.{EntityId}
-use Rattle.deployment_parts.specs.Deployed.{handles}
-use Rattle.slee_state.specs.declared.rows.Entity.{Entity}
-use Rattle.slee_state.specs.declared.rows.Event.{Event}
-use Rattle.slee_state.specs.declared.rows.Link.{Link}
-use Rattle.slee_state.specs.declared.rows.Mask.{Mask}
-use Rattle.slee_state.specs.State.{State}
-use Rattle.slee_state.specs.Trees.{entity_at}
-use Rattle.slee_state.specs.Masks.{is_masked}
-use Rattle.slee_state.specs.Queues.{is_delivered}
-use Rattle.slee_state.specs.Next.{is_for_tree}
+use Rattle.deploy_model.specs.Deployed.{handles}
+use Rattle.router_state.specs.declared.rows.Entity.{Entity}
+use Rattle.router_state.specs.declared.rows.Event.{Event}
+use Rattle.router_state.specs.declared.rows.Link.{Link}
+use Rattle.router_state.specs.declared.rows.Mask.{Mask}
+use Rattle.router_state.specs.State.{State}
+use Rattle.router_state.specs.Trees.{entity_at}
+use Rattle.router_state.specs.Masks.{is_masked}
+use Rattle.router_state.specs.Queues.{is_delivered}
+use Rattle.router_state.specs.Next.{is_for_tree}
 
 -- These entities and masks are those of the state, and the rest is what the event asks of an entity that is attached to the activity.
 pub record IsAbout (s : State) (a : ℕ) (v : Event) (es : List Entity) (ms : List Mask) (name : List ℕ) (bs : List ℕ) (service : Option ℕ) (ds : List EntityId) : Type 0 where

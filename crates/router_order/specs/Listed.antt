@@ -1,11 +1,11 @@
 -- The order in which attachments are listed, and how such a list agrees with the attachments.
 use Rattle.std.specs.Prelude.{◌≡◌, ℕ, ◌==◌, nat_lt, nat_le, Bool, ◌&&◌, ◌||◌, true, IsTrue, List}
 use Rattle.std.specs.List.{AllByRecursion}
-use Rattle.slee_state.specs.declared.rows.Entity.{Entity}
-use Rattle.slee_state.specs.declared.rows.Link.{Link}
-use Rattle.slee_state.specs.Orders.{rises_by}
-use Rattle.slee_state.specs.Paths.{path_before}
-use Rattle.slee_state.specs.Contexts.{is_linked}
+use Rattle.router_state.specs.declared.rows.Entity.{Entity}
+use Rattle.router_state.specs.declared.rows.Link.{Link}
+use Rattle.router_state.specs.Orders.{rises_by}
+use Rattle.router_state.specs.Paths.{path_before}
+use Rattle.router_state.specs.Contexts.{is_linked}
 use Rattle.entity_tree.specs.Kept.{is_entity}
 use Rattle.entity_tree.specs.Climbing.{path_at}
 

@@ -1,11 +1,11 @@
 -- How attachments are kept: each with a rank, by which those to one activity rise, and with an index of each entity's activities.
 use Rattle.std.specs.Prelude.{◌≡◌, ℕ, List, map}
 use Rattle.std.specs.List.{list_any}
-use Rattle.slee_state.specs.declared.rows.Link.{Link}
-use Rattle.slee_state.specs.Orders.{same_pair}
-use Rattle.slee_state.specs.Contexts.{is_linked}
-use Rattle.sorted_rows.specs.Keys.{Key, pair_key}
-use Rattle.row_index.specs.declared.entry.Entry.{Entry}
+use Rattle.router_state.specs.declared.rows.Link.{Link}
+use Rattle.router_state.specs.Orders.{same_pair}
+use Rattle.router_state.specs.Contexts.{is_linked}
+use Rattle.rows_sorted.specs.Keys.{Key, pair_key}
+use Rattle.rows_index.specs.declared.entry.Entry.{Entry}
 use Rattle.router_order.specs.declared.placed.Placed.{Placed}
 
 -- the key of an attachment that is kept: its activity and its rank

@@ -1,8 +1,8 @@
 -- Attachments that are taken out of those that are listed, to be put in again.
 use Rattle.std.specs.Prelude.{◌≡◌, ℕ, ◌||◌, false, List}
-use Rattle.slee_state.specs.declared.rows.Entity.{Entity}
-use Rattle.slee_state.specs.declared.rows.Link.{Link}
-use Rattle.slee_state.specs.Contexts.{is_linked}
+use Rattle.router_state.specs.declared.rows.Entity.{Entity}
+use Rattle.router_state.specs.declared.rows.Link.{Link}
+use Rattle.router_state.specs.Contexts.{is_linked}
 use Rattle.router_order.specs.Listed.{IsListing}
 
 -- Those that are left stay listed, and what goes from them comes to the others.

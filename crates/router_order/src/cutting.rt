@@ -1,16 +1,16 @@
 //! Attachments cut from the rows, and their activities from under their entities.
 ghost use Rattle.std.specs.Prelude.{◌≡◌, ◌==◌, ◌+◌, ◌≤◌, List, IsTrue, find, not, filter, length, option_map};
 ghost use Rattle.std.specs.List.{list_any};
-ghost use Rattle.slee_state.specs.declared.rows.Entity.{Entity};
-ghost use Rattle.slee_state.specs.Contexts.{is_linked, without_link, without_links_on};
-ghost use Rattle.sorted_rows.specs.Keys.{is_key, pair_key};
-ghost use Rattle.row_index.specs.Index.{entry_key};
+ghost use Rattle.router_state.specs.declared.rows.Entity.{Entity};
+ghost use Rattle.router_state.specs.Contexts.{is_linked, without_link, without_links_on};
+ghost use Rattle.rows_sorted.specs.Keys.{is_key, pair_key};
+ghost use Rattle.rows_index.specs.Index.{entry_key};
 ghost use Rattle.router_order.specs.Listed.{IsListing};
 ghost use Rattle.router_order.specs.Placed.{attachments};
 
 use crate::placed::Placed;
-use leaf_rows::{Leaves, Run};
-use row_index::Entry;
+use rows_index::Entry;
+use rows_leaves::{Leaves, Run};
 use slee_value::{ActivityId, EntityId};
 
 /// The rank of the first one of these attachments that is the entity's.

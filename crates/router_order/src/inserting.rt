@@ -1,8 +1,8 @@
 //! An attachment put in its place among those to its activity.
 ghost use Rattle.std.specs.Prelude.{◌≡◌, ◌==◌, ◌+◌, ◌-◌, ◌^◌, ◌<◌, ◌≤◌, ℕ, [], Some, IfSome, IsTrue, false, filter, length, option_map, slice_get, true, vec_capacity};
 ghost use Rattle.std.specs.List.{AllByRecursion, prefix_len};
-ghost use Rattle.slee_state.specs.Contexts.{is_linked};
-ghost use Rattle.slee_state.specs.Orders.{put};
+ghost use Rattle.router_state.specs.Contexts.{is_linked};
+ghost use Rattle.router_state.specs.Orders.{put};
 ghost use Rattle.entity_tree.specs.Kept.{is_entity};
 ghost use Rattle.router_order.specs.Listed.{IsListing, listed_before};
 ghost use Rattle.router_order.specs.declared.placed.Placed.{Placed};
@@ -12,8 +12,8 @@ use crate::laying::{RANK_GAP, copy_run, replace};
 use crate::listing::{is_before, put_link};
 use crate::placed::{Placed, attachment};
 use entity_tree::Tree;
-use leaf_rows::{Leaves, Run};
-use slee_state::Link;
+use router_state::Link;
+use rows_leaves::{Leaves, Run};
 
 /// The rank of an attachment that is the first to its activity.
 const FIRST_RANK: u64 = 1 << 63;

@@ -1,13 +1,13 @@
 //! The attachments to one activity, taken out of the rows and laid back with ranks that rise.
 ghost use Rattle.std.specs.Prelude.{◌≡◌, ℕ, ◌==◌, ◌+◌, ◌*◌, ◌^◌, ◌<◌, ◌≤◌, [], false, length, vec_capacity, vec_len};
 ghost use Rattle.std.specs.List.{AllByRecursion};
-ghost use Rattle.slee_state.specs.Contexts.{links_on};
+ghost use Rattle.router_state.specs.Contexts.{links_on};
 ghost use Rattle.router_order.specs.Placed.{attachments};
 
 use crate::listing::push_link;
 use crate::placed::{Placed, attachment};
-use leaf_rows::{Leaves, Run};
-use slee_state::Link;
+use router_state::Link;
+use rows_leaves::{Leaves, Run};
 use slee_value::ActivityId;
 
 /// How far ranks stand apart, where there is place enough.

@@ -1,13 +1,13 @@
 //! Attachments that are listed by activity, then by the path of the entity: one is found by halving, and put in its place.
 ghost use Rattle.std.specs.Prelude.{◌≡◌, ◌≤◌, ◌<◌, ◌+◌, ◌++◌, ◌∷◌, [], length, IsTrue, IfSome, vec_capacity, vec_len};
 ghost use Rattle.std.specs.List.{insert, prefix_len, position_from};
-ghost use Rattle.slee_state.specs.Orders.{put};
-ghost use Rattle.slee_state.specs.Contexts.{is_link};
+ghost use Rattle.router_state.specs.Orders.{put};
+ghost use Rattle.router_state.specs.Contexts.{is_link};
 ghost use Rattle.entity_tree.specs.Kept.{is_entity};
 ghost use Rattle.router_order.specs.Listed.{IsListing, listed_before};
 
 use entity_tree::Tree;
-use slee_state::Link;
+use router_state::Link;
 
 pub fn is_before(tree: &Tree, row: &Link, link: &Link) -> bool
     ensures { result ≡ listed_before tree.now.rows row.now link.now }

@@ -1,9 +1,9 @@
 //! Attachments taken out and put in again, once paths have changed.
 ghost use Rattle.std.specs.Prelude.{◌≡◌, ℕ, ◌==◌, ◌||◌, ◌+◌, ◌<◌, ◌≤◌, List, [], false, length, true, IsTrue, vec_capacity, vec_len};
 ghost use Rattle.std.specs.List.{AllByRecursion, list_any};
-ghost use Rattle.slee_state.specs.declared.rows.Entity.{Entity};
-ghost use Rattle.slee_state.specs.Contexts.{is_linked};
-ghost use Rattle.slee_state.specs.Orders.{put, same_pair};
+ghost use Rattle.router_state.specs.declared.rows.Entity.{Entity};
+ghost use Rattle.router_state.specs.Contexts.{is_linked};
+ghost use Rattle.router_state.specs.Orders.{put, same_pair};
 ghost use Rattle.entity_tree.specs.Kept.{is_entity};
 ghost use Rattle.router_order.specs.Listed.{IsListing, listed_before};
 ghost use Rattle.router_order.specs.Placed.{attachments};
@@ -14,9 +14,9 @@ use crate::inserting::insert_link;
 use crate::listing::push_link;
 use crate::placed::Placed;
 use entity_tree::Tree;
-use leaf_rows::{Leaves, Run};
-use row_index::Entry;
-use slee_state::Link;
+use router_state::Link;
+use rows_index::Entry;
+use rows_leaves::{Leaves, Run};
 use slee_value::{ActivityId, EntityId};
 
 /// The attachment goes behind those that were taken, if it is there.

@@ -1,19 +1,19 @@
 //! The eligible entity of least path, found by going through all attachments of the activity.
 ghost use Rattle.std.specs.Prelude.{◌≡◌, [], None, filter, option_copied, option_map};
 ghost use Rattle.std.specs.List.{cons_option};
-ghost use Rattle.slee_state.specs.declared.rows.Event.{Event};
-ghost use Rattle.slee_state.specs.State.{State};
-ghost use Rattle.slee_state.specs.Trees.{entity_at};
-ghost use Rattle.slee_state.specs.Paths.{earlier, least_path};
-ghost use Rattle.slee_state.specs.Next.{first};
+ghost use Rattle.router_state.specs.declared.rows.Event.{Event};
+ghost use Rattle.router_state.specs.State.{State};
+ghost use Rattle.router_state.specs.Trees.{entity_at};
+ghost use Rattle.router_state.specs.Paths.{earlier, least_path};
+ghost use Rattle.router_state.specs.Next.{first};
 ghost use Rattle.router_order.specs.Asked.{IsAbout, entities_of, is_wanted};
 
 use crate::wants::{Wants, is_wanted};
 use activity_context::Contexts;
 use entity_tree::Tree;
 use event_mask::Masks;
-use leaf_rows::Run;
-use slee_state::{Entity, Link};
+use router_state::{Entity, Link};
+use rows_leaves::Run;
 use slee_value::{ActivityId, EntityId};
 
 /// The entity of earlier path, of perhaps one and another.

@@ -2,9 +2,9 @@
 ghost use Rattle.std.specs.Prelude.{◌≡◌};
 ghost use Rattle.router_order.specs.Placed.{attachment};
 
-use slee_state::Link;
+use router_state::Link;
+use rows_sorted::Keyed;
 use slee_value::{ActivityId, EntityId};
-use sorted_rows::Keyed;
 
 /// An attachment with its rank among those to its activity.
 #[derive(Debug, Clone, Copy)]

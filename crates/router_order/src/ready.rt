@@ -7,7 +7,7 @@ use crate::placed::Placed;
 use crate::wants::{Wants, is_wanted};
 use entity_tree::Tree;
 use event_mask::Masks;
-use leaf_rows::Run;
+use rows_leaves::Run;
 use slee_value::{ActivityId, EntityId};
 
 fn is_ready(

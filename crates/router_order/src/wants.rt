@@ -1,12 +1,12 @@
 //! What is asked of an entity that is to receive an event.
 ghost use Rattle.std.specs.Prelude.{◌≡◌, ◌==◌};
 ghost use Rattle.std.specs.List.{list_any};
-ghost use Rattle.slee_state.specs.Next.{is_for_tree};
+ghost use Rattle.router_state.specs.Next.{is_for_tree};
 ghost use Rattle.router_order.specs.Asked.{is_wanted};
 
 use entity_tree::Tree;
 use event_mask::Masks;
-use slee_state::Entity;
+use router_state::Entity;
 use slee_value::{ActivityId, EntityId, Text};
 
 /// The head event of an activity, as far as it decides who receives it.

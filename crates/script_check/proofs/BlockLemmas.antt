@@ -19,10 +19,10 @@ use Rattle.script_types.specs.TypingExpressions.{Setting, not_on_remove}
 use Rattle.script_types.specs.TypingResult.{Checked, ◌>>=◌}
 use Rattle.script_types.specs.ElaborationOfStatements.{Made, MadeAll, Loop, loop_of, statement_made, statements_made}
 use Rattle.script_types.proofs.ProgramRows.{before_last}
-use Rattle.expression_check.specs.declared.fault.ScriptFault.{ScriptFault}
-use Rattle.expression_check.specs.Answers.{Refuses}
-use Rattle.expression_check.proofs.ChainLemmas.{refuses_then}
-use Rattle.statement_check.proofs.Grown.{AllGrow, statements_grow}
+use Rattle.script_check_terms.specs.declared.fault.ScriptFault.{ScriptFault}
+use Rattle.script_check_terms.specs.Answers.{Refuses}
+use Rattle.script_check_terms.proofs.ChainLemmas.{refuses_then}
+use Rattle.script_check_steps.proofs.Grown.{AllGrow, statements_grow}
 
 -- statements with other steps in front of theirs
 abbrev pub with : (Steps → Steps) → MadeAll → Checked MadeAll

@@ -5,8 +5,8 @@ use Rattle.script_types.specs.ProgramOf.{steps_of}
 use Rattle.script_types.specs.Scopes.{Scope}
 use Rattle.script_types.specs.TypingResult.{Checked}
 use Rattle.script_types.specs.ElaborationOfStatements.{MadeAll}
-use Rattle.expression_check.specs.declared.fault.ScriptFault.{ScriptFault}
-use Rattle.expression_check.specs.Answers.{Refuses}
+use Rattle.script_check_terms.specs.declared.fault.ScriptFault.{ScriptFault}
+use Rattle.script_check_terms.specs.Answers.{Refuses}
 use Rattle.script_check.specs.declared.blocks.MadeSteps.{MadeSteps}
 
 abbrev pub MakesAll : Result MadeSteps ScriptFault → Scope → Checked MadeAll → Type 0

@@ -4,8 +4,8 @@ use Rattle.script_types.specs.declared.step.Range.{Range}
 use Rattle.script_types.specs.Scopes.{Scope}
 use Rattle.script_types.specs.TypingResult.{Checked}
 use Rattle.script_types.specs.ElaborationOfStatements.{Loop}
-use Rattle.expression_check.specs.declared.fault.ScriptFault.{ScriptFault}
-use Rattle.expression_check.specs.Answers.{Refuses}
+use Rattle.script_check_terms.specs.declared.fault.ScriptFault.{ScriptFault}
+use Rattle.script_check_terms.specs.Answers.{Refuses}
 
 abbrev pub Goes : Result Range ScriptFault → Scope → Checked Loop → Type 0
 Goes (Ok range) scope found = found ≡ Ok (record { scope = scope; range = range })

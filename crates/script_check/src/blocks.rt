@@ -5,8 +5,8 @@ ghost use Rattle.script_tree.specs.Tree as tree;
 ghost use Rattle.script_types.specs.ElaborationOfStatements.{statement_made, statements_made};
 ghost use Rattle.script_types.specs.ProgramOf.{steps_of};
 ghost use Rattle.script_types.specs.TokenCounts.{tokens_in_statement, tokens_in_statements};
-ghost use Rattle.expression_check.specs.SettingOf.{setting_of};
-ghost use Rattle.statement_check.specs.Made.{Makes};
+ghost use Rattle.script_check_terms.specs.SettingOf.{setting_of};
+ghost use Rattle.script_check_steps.specs.Made.{Makes};
 ghost use Rattle.script_check.specs.Blocks.{MakesAll, MakesSteps};
 
 use crate::loops::add_loop_variable;
@@ -14,11 +14,11 @@ use crate::plain::{
     check_asking_rollback, check_assigning, check_counting, check_do, check_on_activities,
     check_on_entities, check_setting_timer,
 };
-use expression_check::{Locals, ScriptFault, Setting, check_new, check_not_on_remove};
+use script_check_steps::{MadeStep, check_part};
+use script_check_terms::{Locals, ScriptFault, Setting, check_new, check_not_on_remove};
 use script_tree::{Expr, Identifier, Over, Stmt};
 use script_types::Step;
 use slee_value::Kind;
-use statement_check::{MadeStep, check_part};
 
 /// Steps one behind another.
 #[derive(Drop)]

@@ -2,14 +2,14 @@
 ghost use Rattle.std.specs.Prelude.{◌≡◌, ◌++◌, ◌∷◌, [], OnOk};
 ghost use Rattle.script_types.specs.ElaborationOfStatements.{loop_of};
 ghost use Rattle.script_types.specs.Scopes.{Variable};
-ghost use Rattle.expression_check.specs.SettingOf.{setting_of};
+ghost use Rattle.script_check_terms.specs.SettingOf.{setting_of};
 ghost use Rattle.script_check.specs.Loops.{Goes};
 
-use expression_check::{Locals, ScriptFault, Setting, relation_named, symbol_of};
+use script_check_steps::{add_child, add_value};
+use script_check_terms::{Locals, ScriptFault, Setting, relation_named, symbol_of};
 use script_tree::{Identifier, Over};
 use script_types::{CheckBad, Misuse, Range};
 use slee_value::Kind;
-use statement_check::{add_child, add_value};
 
 /// A variable for an activity, or for a child of the relation; `at` tokens stand before what the loop goes over.
 pub fn add_loop_variable<'a>(

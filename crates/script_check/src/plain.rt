@@ -5,17 +5,17 @@ ghost use Rattle.script_tree.specs.Tree as tree;
 ghost use Rattle.script_tree.specs.Spelling.{spell_on_activities, spell_on_entities};
 ghost use Rattle.script_types.specs.ElaborationOfStatements.{statement_made, on_entities_of as entities_made, on_activities_of as activities_made};
 ghost use Rattle.script_types.specs.TokenCounts.{tokens_in_statement};
-ghost use Rattle.expression_check.specs.SettingOf.{setting_of};
-ghost use Rattle.statement_check.specs.Made.{Makes};
+ghost use Rattle.script_check_terms.specs.SettingOf.{setting_of};
+ghost use Rattle.script_check_steps.specs.Made.{Makes};
 
-use call_check::{check_call, check_fire};
-use expression_check::{Locals, ScriptFault, Setting};
-use script_tree::{ActivityStmt, Assignment, EntityStmt, Expr, Identifier, TimerStmt, Verb};
-use statement_check::{
+use script_check_calls::{check_call, check_fire};
+use script_check_steps::{
     MadeStep, check_assignment, check_attach, check_bind, check_create, check_detach, check_mask,
     check_null, check_priority, check_remove, check_rollback, check_timer, check_unmask,
     check_usage, check_verb,
 };
+use script_check_terms::{Locals, ScriptFault, Setting};
+use script_tree::{ActivityStmt, Assignment, EntityStmt, Expr, Identifier, TimerStmt, Verb};
 
 /// The same step with a token more.
 fn ended(made: MadeStep) -> MadeStep

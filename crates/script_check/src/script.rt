@@ -2,11 +2,11 @@
 ghost use Rattle.script_tree.specs.Script.{tree_of_script};
 ghost use Rattle.script_types.specs.ElaborationOfStatements.{statements_made};
 ghost use Rattle.script_types.specs.ProgramOf.{steps_of};
-ghost use Rattle.expression_check.specs.SettingOf.{setting_of};
+ghost use Rattle.script_check_terms.specs.SettingOf.{setting_of};
 ghost use Rattle.script_check.specs.Blocks.{MakesSteps};
 
 use crate::blocks::check_statements;
-use expression_check::{Locals, ScriptFault, Setting};
+use script_check_terms::{Locals, ScriptFault, Setting};
 use script_tree::Script;
 use script_types::{CodeList, Step};
 

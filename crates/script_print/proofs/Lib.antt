@@ -8,3 +8,15 @@ pub mod Scripts
 pub mod Texts
 pub mod Refused
 pub mod Indents
+pub mod Steps
+pub mod Operands
+pub mod Climbs
+pub mod Sentences
+pub mod Optional
+pub mod Clauses
+pub mod GrammarScripts
+pub mod Ends
+pub mod Growth
+pub mod Viable
+pub mod Tokens
+pub mod Misfits

@@ -8,7 +8,7 @@ use Rattle.router_model.specs.Activities.{lesser, least_waiting}
 use Rattle.router_model.specs.declared.rows.Queued.{Queued}
 use Rattle.router_rules.specs.Selection.{next}
 use Rattle.router_rules.specs.declared.kindred.Kindred.{Kindred}
-use Rattle.router_journal.specs.declared.fault.Stop.{Stop}
+use Rattle.router_durable.specs.declared.fault.Stop.{Stop}
 use Rattle.slee_container.specs.declared.fault.Work.{Work}
 use Rattle.slee_container.specs.declared.fault.Work.TheVariants as works
 use Rattle.slee_container.specs.declared.ticket.Ticket.{Ticket}

@@ -3,13 +3,13 @@ use Rattle.std.proofs.Common.{◌≡◌, ◌+◌, ◌<◌, ℕ, Bool, true, fals
 use Rattle.std.specs.List.{list_any, position_from}
 use Rattle.std.proofs.lemmas.Bool.{ne_eqb}
 use Rattle.std.proofs.lemmas.Slice.Eq.{bytes_eq-Decides}
-use Rattle.deployment_parts.proofs.Noting.{turned}
-use Rattle.deployment_parts.specs.declared.parts.Block.{Block}
-use Rattle.deployment_parts.specs.declared.parts.BlockEvent.{BlockEvent}
-use Rattle.deployment_parts.specs.Deployed.{Handling, handlers_from}
-use Rattle.deployment_parts.specs.Resolving.{handling_of, block_of}
-use Rattle.deployment_parts.specs.Rules.{Numbering, is_number}
-use Rattle.deployment_parts.specs.Tables.{key_number}
+use Rattle.deploy_model.proofs.Noting.{turned}
+use Rattle.deploy_model.specs.declared.parts.Block.{Block}
+use Rattle.deploy_model.specs.declared.parts.BlockEvent.{BlockEvent}
+use Rattle.deploy_model.specs.Deployed.{Handling, handlers_from}
+use Rattle.deploy_model.specs.Resolving.{handling_of, block_of}
+use Rattle.deploy_model.specs.Rules.{Numbering, is_number}
+use Rattle.deploy_model.specs.Tables.{key_number}
 use Rattle.slee_descriptor.specs.Handling.{handled_by, handled_at, handled_from}
 
 -- an event whose own place is passed is not at this one

@@ -4,8 +4,8 @@ use Rattle.std.specs.Prelude.{IfSome}
 use Rattle.std.proofs.lemmas.Bool.Decides.{nat_tests}
 use Rattle.std.specs.List.{position_from, position_or_len}
 use Rattle.std.proofs.lemmas.Iterator.Adapters.{position_from-zero}
-use Rattle.deployment_parts.proofs.Noting.{turned}
-use Rattle.deployment_parts.specs.Tables.{key_number}
+use Rattle.deploy_model.proofs.Noting.{turned}
+use Rattle.deploy_model.specs.Tables.{key_number}
 
 numbered : {A B : Type 0} → (f : A → B) (name : B → List ℕ) (q : List ℕ) (xs : List A) (n : ℕ) → position_from (λ b. bytes_eq (name b) q) n (map f xs) ≡ position_from (λ x. bytes_eq q (name (f x))) n xs
 numbered f name q [] n = refl

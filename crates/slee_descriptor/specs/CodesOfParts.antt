@@ -10,15 +10,15 @@ use Rattle.script_types.specs.declared.codes.MethodCode.{MethodCode}
 use Rattle.script_types.specs.declared.codes.BlockCode.{BlockCode}
 use Rattle.script_types.specs.declared.codes.Codes.{Codes}
 use Rattle.script_types.specs.declared.checked_script.BlockSteps.{BlockSteps}
-use Rattle.deployment_parts.specs.declared.parts.ProfileSpec.{ProfileSpec}
-use Rattle.deployment_parts.specs.declared.parts.Table.{Table}
-use Rattle.deployment_parts.specs.declared.parts.BlockEvent.{BlockEvent}
-use Rattle.deployment_parts.specs.declared.parts.Method.{Method}
-use Rattle.deployment_parts.specs.declared.parts.Block.{Block}
-use Rattle.deployment_parts.specs.declared.parts.Parts.{Parts}
-use Rattle.deployment_parts.specs.Resolving.{number_of, field_of, event_of, attribute_of, relation_of}
-use Rattle.deployment_parts.specs.Rules.{Numbering}
-use Rattle.deployment_parts.specs.Tables.{key_number}
+use Rattle.deploy_model.specs.declared.parts.ProfileSpec.{ProfileSpec}
+use Rattle.deploy_model.specs.declared.parts.Table.{Table}
+use Rattle.deploy_model.specs.declared.parts.BlockEvent.{BlockEvent}
+use Rattle.deploy_model.specs.declared.parts.Method.{Method}
+use Rattle.deploy_model.specs.declared.parts.Block.{Block}
+use Rattle.deploy_model.specs.declared.parts.Parts.{Parts}
+use Rattle.deploy_model.specs.Resolving.{number_of, field_of, event_of, attribute_of, relation_of}
+use Rattle.deploy_model.specs.Rules.{Numbering}
+use Rattle.deploy_model.specs.Tables.{key_number}
 
 -- A table, with its profile's attributes.
 abbrev pub table_code : Numbering → List ProfileSpec → Table → TableCode

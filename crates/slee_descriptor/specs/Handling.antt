@@ -2,9 +2,9 @@
 use Rattle.std.specs.Prelude.{ℕ, ◌+◌, ◌&&◌, List, [], ◌∷◌, ◌++◌, bytes_eq, if◌then◌else◌}
 use Rattle.std.specs.List.{list_any}
 use Rattle.script_tree.specs.Tree.{Bytes}
-use Rattle.deployment_parts.specs.declared.parts.Block.{Block}
-use Rattle.deployment_parts.specs.declared.parts.BlockEvent.{BlockEvent}
-use Rattle.deployment_parts.specs.Rules.{Numbering, is_number}
+use Rattle.deploy_model.specs.declared.parts.Block.{Block}
+use Rattle.deploy_model.specs.declared.parts.BlockEvent.{BlockEvent}
+use Rattle.deploy_model.specs.Rules.{Numbering, is_number}
 
 -- The number of a block, where the event is one of its events.
 abbrev pub handled_by : ℕ → List BlockEvent → Bytes → List ℕ

@@ -1,8 +1,8 @@
 -- The indexes of a deployment: which number each key of a profile and a block has, and which blocks handle each event.
 use Rattle.std.specs.Prelude.{◌≡◌, ◌<◌, ◌^◌, length}
 use Rattle.script_tree.specs.Tree.{Bytes}
-use Rattle.deployment_parts.specs.declared.parts.Parts.{Parts}
-use Rattle.deployment_parts.specs.Deployed.{Deployed, profile_named, block_named, handlers_of}
+use Rattle.deploy_model.specs.declared.parts.Parts.{Parts}
+use Rattle.deploy_model.specs.Deployed.{Deployed, profile_named, block_named, handlers_of}
 use Rattle.slee_descriptor.specs.Keys.{number_in}
 use Rattle.slee_descriptor.specs.Handlers.{blocks_for}
 use Rattle.slee_descriptor.specs.declared.indexes.Indexes.{Indexes}

@@ -1,6 +1,6 @@
 -- Which item of a list has each key, as an index has it.
 use Rattle.std.specs.HashMap.{get_by_text}
-use Rattle.deployment_parts.specs.Rules.{Numbering}
+use Rattle.deploy_model.specs.Rules.{Numbering}
 use Rattle.slee_descriptor.specs.declared.keys.Keys.{Keys}
 
 -- What the index has for a key.

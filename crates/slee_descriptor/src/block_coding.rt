@@ -4,14 +4,14 @@ ghost use Rattle.std.specs.Option.{option_map_or};
 ghost use Rattle.script_tree.specs.Tree.{Bytes};
 ghost use Rattle.slee_descriptor.specs.CodesOfParts.{handler_code, method_code, block_code};
 ghost use Rattle.slee_descriptor.specs.Keys.{number_in};
-ghost use Rattle.deployment_parts.specs.Firsts.{answer_of};
-ghost use Rattle.deployment_parts.specs.Resolving.{attribute_of, attribute_key as key_so, relation_of};
-ghost use Rattle.deployment_parts.specs.Tables.{key_number};
+ghost use Rattle.deploy_model.specs.Firsts.{answer_of};
+ghost use Rattle.deploy_model.specs.Resolving.{attribute_of, attribute_key as key_so, relation_of};
+ghost use Rattle.deploy_model.specs.Tables.{key_number};
 
 use crate::coding::{Coding, codes_by, named_by};
 use crate::keys::Keys;
 use crate::part_coding::{FieldCoding, field_codes, number_of};
-use deployment_parts::{Block, BlockEvent, Method, Numbers, Relation, numbers_of};
+use deploy_model::{Block, BlockEvent, Method, Numbers, Relation, numbers_of};
 use script_tree::Script;
 use script_types::{AttributeCode, BlockCode, HandlerCode, MethodCode, NamedList, RelationCode};
 use slee_value::{Kind, Name, NoMemory, Text};

@@ -2,10 +2,10 @@
 ghost use Rattle.std.specs.Prelude.{◌≡◌, [], IfOk, OnOk, IsTrue};
 ghost use Rattle.slee_descriptor.specs.CodesOfParts.{codes_in};
 ghost use Rattle.slee_descriptor.specs.Indexes.{AreIndexes, AreNumbered};
-ghost use Rattle.deployment_parts.specs.Deployed.{event_named as event_so, profile_named as profile_so, table_named as table_so, block_named as block_so, service_named as service_so, handlers_of};
-ghost use Rattle.deployment_parts.specs.Faults.{Says};
-ghost use Rattle.deployment_parts.specs.Resolving.{deployed_of};
-ghost use Rattle.deployment_parts.specs.Tables.{parts_fault, is_deployment};
+ghost use Rattle.deploy_model.specs.Deployed.{event_named as event_so, profile_named as profile_so, table_named as table_so, block_named as block_so, service_named as service_so, handlers_of};
+ghost use Rattle.deploy_model.specs.Faults.{Says};
+ghost use Rattle.deploy_model.specs.Resolving.{deployed_of};
+ghost use Rattle.deploy_model.specs.Tables.{parts_fault, is_deployment};
 
 use crate::block_coding::BlockCoding;
 use crate::coding::{codes_by, named_by};
@@ -13,7 +13,7 @@ use crate::indexes::{Indexes, indexes_of};
 use crate::keys::{item_number, number_at};
 use crate::naming::names_of;
 use crate::part_coding::{EventCoding, ServiceCoding, TableCoding};
-use deployment_parts::{
+use deploy_model::{
     Block, DeployFault, EventType, Parts, ProfileSpec, Service, Table, check_parts,
 };
 use script_types::{BlockSteps, CodeList, Codes};

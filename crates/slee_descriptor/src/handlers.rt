@@ -3,11 +3,11 @@ ghost use Rattle.std.specs.Prelude.{◌≡◌, ◌++◌, ◌∷◌, [], ◌&&◌
 ghost use Rattle.script_tree.specs.Tree.{Bytes};
 ghost use Rattle.slee_descriptor.specs.Handlers.{blocks_for};
 ghost use Rattle.slee_descriptor.specs.Handling.{handled_by, handled_at, handled_from};
-ghost use Rattle.deployment_parts.specs.Firsts.{answer_of};
-ghost use Rattle.deployment_parts.specs.Rules.{is_number};
+ghost use Rattle.deploy_model.specs.Firsts.{answer_of};
+ghost use Rattle.deploy_model.specs.Rules.{is_number};
 
 use crate::keys::item_number;
-use deployment_parts::{Block, BlockEvent, Numbers, numbers_of};
+use deploy_model::{Block, BlockEvent, Numbers, numbers_of};
 use indexmap::IndexMap;
 use slee_value::NoMemory;
 use std::alloc::Global;

@@ -1,11 +1,11 @@
 //! What is looked up in a deployment by a key that no script names.
 ghost use Rattle.std.specs.Prelude.{IfOk};
 ghost use Rattle.slee_descriptor.specs.Indexes.{AreIndexes};
-ghost use Rattle.deployment_parts.specs.Resolving.{deployed_of};
+ghost use Rattle.deploy_model.specs.Resolving.{deployed_of};
 
 use crate::handlers::{Handlers, handlers_of};
 use crate::keys::{Keys, keys_of};
-use deployment_parts::Parts;
+use deploy_model::Parts;
 use slee_value::NoMemory;
 use std::alloc::Global;
 

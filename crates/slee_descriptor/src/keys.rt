@@ -2,9 +2,9 @@
 ghost use Rattle.std.specs.Prelude.{◌≡◌, ◌<◌, ◌^◌, Option, IfOk, OnOk, IfSome};
 ghost use Rattle.script_tree.specs.Tree.{Bytes};
 ghost use Rattle.slee_descriptor.specs.Keys.{number_in};
-ghost use Rattle.deployment_parts.specs.Firsts.{only_at};
-ghost use Rattle.deployment_parts.specs.Rules.{or_later};
-ghost use Rattle.deployment_parts.specs.Tables.{key_number};
+ghost use Rattle.deploy_model.specs.Firsts.{only_at};
+ghost use Rattle.deploy_model.specs.Rules.{or_later};
+ghost use Rattle.deploy_model.specs.Tables.{key_number};
 
 use indexmap::IndexMap;
 use script_types::Named;

@@ -10,8 +10,8 @@ mod keys;
 mod naming;
 mod part_coding;
 
-pub use deployment::Deployment;
-pub use deployment_parts::{
+pub use deploy_model::{
     Block, BlockEvent, CustomRule, DeployBad, DeployFault, EventType, LABEL_LIMIT, Method, Parts,
     ProfileSpec, Relation, SelectRule, Service, Table, Variable, rule_of, variable_of,
 };
+pub use deployment::Deployment;

@@ -3,11 +3,11 @@ ghost use Rattle.std.specs.Prelude.{◌≡◌, [], IfOk, map, slice_get};
 ghost use Rattle.std.specs.Option.{option_map_or};
 ghost use Rattle.slee_descriptor.specs.CodesOfParts.{table_code};
 ghost use Rattle.slee_descriptor.specs.Keys.{number_in};
-ghost use Rattle.deployment_parts.specs.Resolving.{number_of as number_so, field_of, event_of};
+ghost use Rattle.deploy_model.specs.Resolving.{number_of as number_so, field_of, event_of};
 
 use crate::coding::{Coding, named_by};
 use crate::keys::Keys;
-use deployment_parts::{EventType, ProfileSpec, Service, Table};
+use deploy_model::{EventType, ProfileSpec, Service, Table};
 use script_types::{EventCode, FieldCode, NamedList, TableCode};
 use slee_value::{Kind, Name, NoMemory};
 use std::alloc::Global;

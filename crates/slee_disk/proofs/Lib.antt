@@ -1,3 +1,4 @@
+pub mod WordLemmas
 pub mod Images
 pub mod Moments
 pub mod Nothing

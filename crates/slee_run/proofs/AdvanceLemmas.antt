@@ -16,8 +16,8 @@ use Rattle.router_rules.specs.History.{due, due_next, line_choice, least_choice,
 use Rattle.router_rules.specs.declared.kindred.Kindred.{Kindred}
 use Rattle.router_rules.specs.declared.kindred.Kindred.TheVariants as kindreds
 use Rattle.slee_value.specs.declared.ids.ActivityId.{ActivityId}
-use Rattle.router_journal.specs.declared.fault.StepFault.{StepFault}
-use Rattle.router_journal.specs.declared.fault.StepFault.TheVariants as faults
+use Rattle.router_durable.specs.declared.fault.StepFault.{StepFault}
+use Rattle.router_durable.specs.declared.fault.StepFault.TheVariants as faults
 use Rattle.slee_container.specs.declared.fault.Work.{Work}
 use Rattle.slee_container.specs.declared.fault.Work.TheVariants as works
 use Rattle.slee_container.specs.declared.ticket.Ticket.{Ticket}

@@ -2,11 +2,11 @@
 use Rattle.std.proofs.Common.{◌≡◌, ◌≢◌, ℕ, ◌<◌, ◌≤◌, List, length, refl, Option, Some, None, IfSome}
 use Rattle.slee_disk.specs.declared.reading.ReadFault.{ReadFault}
 use Rattle.slee_disk.specs.declared.reading.ReadFault.TheVariants as read_faults
-use Rattle.deploy_reading.specs.Reading.{Tells}
-use Rattle.deploy_reading.specs.declared.fault.ReadFault.{ReadFault as DeployFault}
-use Rattle.deploy_reading.specs.declared.fault.ReadFault.TheVariants as faults
-use Rattle.deploy_text.specs.declared.counts.Counts.{Counts}
-use Rattle.deploy_check.specs.Counting.{counts_in}
+use Rattle.deploy_json.specs.Reading.{Tells}
+use Rattle.deploy_json.specs.declared.fault.ReadFault.{ReadFault as DeployFault}
+use Rattle.deploy_json.specs.declared.fault.ReadFault.TheVariants as faults
+use Rattle.deploy_report.specs.declared.counts.Counts.{Counts}
+use Rattle.deploy_report.specs.Counting.{counts_in}
 use Rattle.slee_run.specs.Status.{status_line}
 use Rattle.slee_run.specs.Text.{checked_text}
 use Rattle.slee_run.specs.Checking.{deploy_limit, IsCounted, IsBarred, IsTextFor, IsCheckedAt}

@@ -17,12 +17,12 @@ use Rattle.router_rules.specs.Step.{after}
 use Rattle.router_rules.specs.History.{replay}
 use Rattle.router_rules.specs.Payload.{payload, payloads}
 use Rattle.router_rules.proofs.HistoryLemmas.{choices_of-append, payloads-append, replay-choices}
-use Rattle.router_journal.specs.Recovery.{records}
+use Rattle.router_durable.specs.Recovery.{records}
 use Rattle.slee_run.specs.Words.{command_of}
 use Rattle.slee_run.specs.Status.{status_line}
 use Rattle.slee_run.specs.Text.{output_text, shown_text, checked_text}
-use Rattle.deploy_reading.specs.declared.fault.ReadFault.{ReadFault}
-use Rattle.deploy_text.specs.declared.counts.Counts.{Counts}
+use Rattle.deploy_json.specs.declared.fault.ReadFault.{ReadFault}
+use Rattle.deploy_report.specs.declared.counts.Counts.{Counts}
 use Rattle.slee_run.specs.Checking.{deploy_limit, IsCounted, IsFaulty, IsTextFor, IsCheckedAt}
 use Rattle.slee_run.specs.Headline.{Checks, HasUntakenLine, signals_limit, lines_given, AsksLater, MayFollow, IsDoneOn, IsSpentOn, EndsOn, IsRefused, IsShownAt, AddsFirst, IsByOne, IsByFault}
 use Rattle.slee_run.specs.Opening.{kept_deployment, journal_limit, found, IsAnswerTo}

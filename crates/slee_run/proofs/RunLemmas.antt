@@ -5,8 +5,8 @@ use Rattle.slee_disk.specs.Disk.{DiskState}
 use Rattle.commit_journal.specs.Reading.{Wrong, Bad, Other}
 use Rattle.router_model.specs.State.{Parts}
 use Rattle.trace_history.specs.declared.entry.Entry.{Entry}
-use Rattle.deploy_reading.specs.declared.fault.ReadFault.{ReadFault}
-use Rattle.deploy_text.specs.declared.counts.Counts.{Counts}
+use Rattle.deploy_json.specs.declared.fault.ReadFault.{ReadFault}
+use Rattle.deploy_report.specs.declared.counts.Counts.{Counts}
 use Rattle.slee_run.specs.Words.{command_of}
 use Rattle.slee_run.specs.Status.{status_line}
 use Rattle.slee_run.specs.Text.{output_text, shown_text}

@@ -1,10 +1,10 @@
 -- What a check of a deployment comes to.
 use Rattle.std.specs.Prelude.{◌≡◌, ◌≢◌, ◌⊎◌, ℕ, ◌<◌, ◌≤◌, List, [], length, Option, IfSome, Ok, Err}
 use Rattle.trace_history.specs.declared.entry.Entry.{Entry}
-use Rattle.deploy_reading.specs.declared.fault.ReadFault.{ReadFault}
-use Rattle.deploy_reading.specs.declared.fault.ReadFault.TheVariants as faults
-use Rattle.deploy_text.specs.declared.counts.Counts.{Counts}
-use Rattle.deploy_check.specs.Counting.{counts_in}
+use Rattle.deploy_json.specs.declared.fault.ReadFault.{ReadFault}
+use Rattle.deploy_json.specs.declared.fault.ReadFault.TheVariants as faults
+use Rattle.deploy_report.specs.declared.counts.Counts.{Counts}
+use Rattle.deploy_report.specs.Counting.{counts_in}
 use Rattle.slee_run.specs.Status.{row_of, status_line, Holds}
 use Rattle.slee_run.specs.Text.{checked_text}
 use Rattle.slee_run.specs.declared.status.Given.TheVariants as givens

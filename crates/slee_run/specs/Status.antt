@@ -6,7 +6,7 @@ use Rattle.commit_journal.specs.declared.fault.JournalBad.{JournalBad}
 use Rattle.commit_journal.specs.Words.{kind_word}
 use Rattle.commit_journal.specs.Reading.{Wrong, Bad, Other}
 use Rattle.signal_script.specs.Words.{bad_word}
-use Rattle.deploy_text.specs.Texts.{fault_text}
+use Rattle.deploy_report.specs.Texts.{fault_text}
 use Rattle.slee_run.specs.declared.status.Given.{Given}
 use Rattle.slee_run.specs.declared.status.Given.TheVariants as givens
 use Rattle.slee_run.specs.declared.status.Status.{Status}

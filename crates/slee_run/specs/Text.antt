@@ -4,8 +4,8 @@ use Rattle.trace_history.specs.Trace.{trace_text}
 use Rattle.trace_history.specs.declared.entry.Entry.{Entry}
 use Rattle.router_model.specs.State.{Parts}
 use Rattle.router_rules.specs.Show.{show_text}
-use Rattle.deploy_text.specs.Texts.{counts_text}
-use Rattle.deploy_text.specs.declared.counts.Counts.{Counts}
+use Rattle.deploy_report.specs.Texts.{counts_text}
+use Rattle.deploy_report.specs.declared.counts.Counts.{Counts}
 use Rattle.slee_run.specs.Status.{status_line}
 use Rattle.slee_run.specs.declared.status.Status.{Status}
 use Rattle.slee_run.specs.declared.status.Status.TheVariants as statuses

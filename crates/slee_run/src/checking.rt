@@ -12,9 +12,8 @@ use crate::finishing::{refuse, status_written};
 use crate::printing::write_checked;
 use crate::reading::status_of_reading;
 use crate::{Given, Status};
-use deploy_check::count_deployment;
-use deploy_reading::ReadFault;
-use deploy_text::Counts;
+use deploy_json::ReadFault;
+use deploy_report::{Counts, count_deployment};
 use slee_disk::{Sink, Source, read_whole};
 use std::alloc::Global;
 

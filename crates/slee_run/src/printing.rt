@@ -6,16 +6,15 @@ ghost use Rattle.slee_disk.specs.Sides.{side_word};
 ghost use Rattle.commit_journal.specs.Words.{kind_word};
 ghost use Rattle.signal_script.specs.Words.{bad_word};
 ghost use Rattle.slee_run.specs.Status.{status_line, given_word, pair_text, place_text};
-ghost use Rattle.deploy_text.specs.Texts.{counts_text};
+ghost use Rattle.deploy_report.specs.Texts.{counts_text};
 ghost use Rattle.slee_run.specs.Text.{output_text};
 
 use crate::{Given, Status};
 use commit_journal::JournalBad;
-use deploy_reading::ReadFault;
-use deploy_text::{Counts, write_counts, write_fault};
+use deploy_json::ReadFault;
+use deploy_report::{Counts, write_counts, write_fault};
 use signal_script::SignalBad;
-use sink_text::write_number;
-use slee_disk::{Failed, Side, Sink, write_whole};
+use slee_disk::{Failed, Side, Sink, write_number, write_whole};
 use trace_history::History;
 
 /// Writes so many entries, numbered from 1, and the status line.

@@ -16,7 +16,7 @@ use crate::reading::read_lines;
 use crate::{Given, Status};
 use commit_journal::SIDE_LIMIT;
 use router_core::Inputs;
-use router_journal::OpenFault;
+use router_durable::OpenFault;
 use slee_container::{Container, Limits, Mode};
 use slee_disk::{Disk, Sink, Source};
 use std::alloc::Global;

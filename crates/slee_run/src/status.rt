@@ -1,6 +1,6 @@
 //! What a run came to, and the number that the process ends with.
 use commit_journal::JournalBad;
-use deploy_reading::ReadFault;
+use deploy_json::ReadFault;
 use signal_script::SignalBad;
 use slee_disk::Side;
 

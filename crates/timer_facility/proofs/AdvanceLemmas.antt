@@ -6,22 +6,22 @@ use Rattle.std.proofs.Math.Nat.{lt-div-mul-add, suc-mul}
 use Rattle.std.proofs.lemmas.Bool.{cases_Bool}
 use Rattle.std.proofs.lemmas.Bool.Decides.{nat_tests}
 use Rattle.std.proofs.lemmas.List.Sums.{sum_by-cons}
-use Rattle.slee_state.specs.Orders.{put}
-use Rattle.slee_state.specs.Timers.{behind, due_count, goes_on, left_behind, repeated, timer_at, without_timer}
-use Rattle.slee_state.specs.declared.rows.Timer.{Timer}
-use Rattle.sorted_rows.specs.Keys.{is_key, key_before, number_key, pair_key, timer_key, Rises}
-use Rattle.sorted_rows.proofs.ChangeLemmas.{changed_is, number_is}
-use Rattle.sorted_rows.proofs.HalvingLemmas.{absent_from, find_at_place, not_found}
-use Rattle.sorted_rows.proofs.PartLemmas.{parted_by_key}
-use Rattle.sorted_rows.proofs.RowLemmas.{replaced_is}
-use Rattle.sorted_rows.proofs.OrderLemmas.{AllInOrder, IsBefore, all_from_all, in_order}
-use Rattle.row_index.specs.declared.entry.Entry.{Entry}
-use Rattle.row_index.specs.Index.{entry_key, IsIndex}
-use Rattle.row_index.proofs.IndexLemmas.{index_put, rows_fail}
-use Rattle.row_index.proofs.SumLemmas.{sum_agree, sum_mapped, all_passed}
+use Rattle.router_state.specs.Orders.{put}
+use Rattle.router_state.specs.Timers.{behind, due_count, goes_on, left_behind, repeated, timer_at, without_timer}
+use Rattle.router_state.specs.declared.rows.Timer.{Timer}
+use Rattle.rows_sorted.specs.Keys.{is_key, key_before, number_key, pair_key, timer_key, Rises}
+use Rattle.rows_sorted.proofs.ChangeLemmas.{changed_is, number_is}
+use Rattle.rows_sorted.proofs.HalvingLemmas.{absent_from, find_at_place, not_found}
+use Rattle.rows_sorted.proofs.PartLemmas.{parted_by_key}
+use Rattle.rows_sorted.proofs.RowLemmas.{replaced_is}
+use Rattle.rows_sorted.proofs.OrderLemmas.{AllInOrder, IsBefore, all_from_all, in_order}
+use Rattle.rows_index.specs.declared.entry.Entry.{Entry}
+use Rattle.rows_index.specs.Index.{entry_key, IsIndex}
+use Rattle.rows_index.proofs.IndexLemmas.{index_put, rows_fail}
+use Rattle.rows_index.proofs.SumLemmas.{sum_agree, sum_mapped, all_passed}
 use Rattle.slee_value.specs.declared.ids.TimerId.{TimerId}
 use Rattle.timer_facility.specs.Indexed.{activity_entry, moment_entry, moved_on}
-use Rattle.row_index.proofs.RowLemmas.{all_stay, each_fails, found_number, indexed_cut, other_key, same_key}
+use Rattle.rows_index.proofs.RowLemmas.{all_stay, each_fails, found_number, indexed_cut, other_key, same_key}
 
 abbrev pub goes : ℕ → Timer → Bool
 goes to t = goes_on t (due_count t to)

@@ -8,18 +8,18 @@ use Rattle.std.specs.Cmp.{IsStrictWeakOrder}
 use Rattle.std.proofs.lemmas.Bool.{cases_Bool}
 use Rattle.std.proofs.lemmas.Bool.Decides.{nat_tests}
 use Rattle.std.proofs.lemmas.List.Sums.{sum-map}
-use Rattle.slee_state.specs.Orders.{sorted}
-use Rattle.slee_state.specs.Timers.{timer_at, due_count}
-use Rattle.slee_state.specs.declared.rows.Timer.{Timer}
-use Rattle.slee_steps.specs.Timing.{Occurrence, occurrence_before, occurrence_of, fired, fired_count, fired_in_all, fired_of}
-use Rattle.sorted_rows.specs.Keys.{timer_key, Rises}
-use Rattle.sorted_rows.proofs.OrderLemmas.{all_from_all}
-use Rattle.row_index.specs.declared.entry.Entry.{Entry}
-use Rattle.row_index.specs.Index.{IsIndex}
-use Rattle.row_index.proofs.SumLemmas.{alike_same, if_passes, one_if, sum_agree, sum_filter, sum_flat}
+use Rattle.router_state.specs.Orders.{sorted}
+use Rattle.router_state.specs.Timers.{timer_at, due_count}
+use Rattle.router_state.specs.declared.rows.Timer.{Timer}
+use Rattle.router_steps.specs.Timing.{Occurrence, occurrence_before, occurrence_of, fired, fired_count, fired_in_all, fired_of}
+use Rattle.rows_sorted.specs.Keys.{timer_key, Rises}
+use Rattle.rows_sorted.proofs.OrderLemmas.{all_from_all}
+use Rattle.rows_index.specs.declared.entry.Entry.{Entry}
+use Rattle.rows_index.specs.Index.{IsIndex}
+use Rattle.rows_index.proofs.SumLemmas.{alike_same, if_passes, one_if, sum_agree, sum_filter, sum_flat}
 use Rattle.timer_facility.specs.Indexed.{fired_at, fired_count_at, moment_entry}
 use Rattle.timer_facility.proofs.DueLemmas.{kept_within}
-use Rattle.row_index.proofs.RowLemmas.{found_number}
+use Rattle.rows_index.proofs.RowLemmas.{found_number}
 use Rattle.timer_facility.proofs.RowLemmas.{each_timer}
 use Rattle.timer_facility.proofs.SortLemmas.{sorted_same}
 

@@ -4,12 +4,12 @@ use Rattle.std.specs.Prelude.{not, nat_lt, IsTrue}
 use Rattle.std.specs.List.{AllByRecursion, filter, list_all}
 use Rattle.std.proofs.lemmas.Bool.{cases_Bool, and_parts}
 use Rattle.std.proofs.lemmas.Bool.Decides.{nat_tests}
-use Rattle.slee_state.specs.Ordered.{are_below}
-use Rattle.slee_state.specs.Orders.{put}
-use Rattle.slee_state.specs.Timers.{timer_at, without_timer}
-use Rattle.slee_state.specs.declared.rows.Timer.{Timer}
+use Rattle.router_state.specs.Ordered.{are_below}
+use Rattle.router_state.specs.Orders.{put}
+use Rattle.router_state.specs.Timers.{timer_at, without_timer}
+use Rattle.router_state.specs.declared.rows.Timer.{Timer}
 use Rattle.timer_facility.specs.Views.{timer_before}
-use Rattle.row_index.proofs.RowLemmas.{filter_behind}
+use Rattle.rows_index.proofs.RowLemmas.{filter_behind}
 
 all_below : (n : ℕ) (rows : List Timer) → IsTrue (are_below (λ row. row.number.0) n rows) → AllByRecursion (λ row. nat_lt row.number.0 n ≡ true) rows
 all_below n [] all = tt

@@ -4,12 +4,12 @@ use Rattle.std.specs.Prelude.{not}
 use Rattle.std.specs.List.{AllByRecursion}
 use Rattle.std.specs.Option.{option_map_or}
 use Rattle.std.proofs.lemmas.Bool.{cases_Bool}
-use Rattle.slee_state.specs.Timers.{timer_at, without_timer, without_timers_on}
-use Rattle.slee_state.specs.declared.rows.Timer.{Timer}
-use Rattle.sorted_rows.specs.Keys.{timer_key, Rises}
-use Rattle.sorted_rows.proofs.OrderLemmas.{all_from_all}
-use Rattle.row_index.proofs.FoundLemmas.{each_found, only_found}
-use Rattle.row_index.proofs.RowLemmas.{filter_behind}
+use Rattle.router_state.specs.Timers.{timer_at, without_timer, without_timers_on}
+use Rattle.router_state.specs.declared.rows.Timer.{Timer}
+use Rattle.rows_sorted.specs.Keys.{timer_key, Rises}
+use Rattle.rows_sorted.proofs.OrderLemmas.{all_from_all}
+use Rattle.rows_index.proofs.FoundLemmas.{each_found, only_found}
+use Rattle.rows_index.proofs.RowLemmas.{filter_behind}
 
 -- each timer is found by its number
 pub each_timer : (rows : List Timer) → Rises timer_key rows → AllByRecursion (λ row. timer_at rows row.number.0 ≡ Some row) rows

@@ -5,16 +5,16 @@ use Rattle.std.specs.List.{AllByRecursion, filter, find, count_by, list_any, sum
 use Rattle.std.specs.Option.{option_map_or}
 use Rattle.std.proofs.lemmas.Bool.{cases_Bool}
 use Rattle.std.proofs.lemmas.Bool.Decides.{nat_tests}
-use Rattle.slee_state.specs.Timers.{advanced, behind, due_count, timer_at, without_timer}
-use Rattle.slee_state.specs.declared.rows.Timer.{Timer}
-use Rattle.sorted_rows.specs.Keys.{timer_key, Rises}
-use Rattle.sorted_rows.proofs.OrderLemmas.{AllInOrder, IsBefore, all_filter, all_from_all, in_order}
-use Rattle.row_index.specs.declared.entry.Entry.{Entry}
-use Rattle.row_index.specs.Index.{entry_before, entry_key, IsIndex}
-use Rattle.row_index.proofs.FoundLemmas.{all_two, none_at}
-use Rattle.row_index.proofs.IndexLemmas.{rows_fail}
-use Rattle.row_index.proofs.RowLemmas.{any_fails, each_fails, found_number, some_first}
-use Rattle.row_index.proofs.SumLemmas.{all_passed, if_passes, one_if, sum_agree, sum_filter, sum_mapped}
+use Rattle.router_state.specs.Timers.{advanced, behind, due_count, timer_at, without_timer}
+use Rattle.router_state.specs.declared.rows.Timer.{Timer}
+use Rattle.rows_sorted.specs.Keys.{timer_key, Rises}
+use Rattle.rows_sorted.proofs.OrderLemmas.{AllInOrder, IsBefore, all_filter, all_from_all, in_order}
+use Rattle.rows_index.specs.declared.entry.Entry.{Entry}
+use Rattle.rows_index.specs.Index.{entry_before, entry_key, IsIndex}
+use Rattle.rows_index.proofs.FoundLemmas.{all_two, none_at}
+use Rattle.rows_index.proofs.IndexLemmas.{rows_fail}
+use Rattle.rows_index.proofs.RowLemmas.{any_fails, each_fails, found_number, some_first}
+use Rattle.rows_index.proofs.SumLemmas.{all_passed, if_passes, one_if, sum_agree, sum_filter, sum_mapped}
 use Rattle.timer_facility.specs.Indexed.{is_behind, is_due, is_left, moment_entry, moved_on, stays_on, used_up, IsNext}
 use Rattle.timer_facility.proofs.AdvanceLemmas.{goes, move, moved_later, still_goes, still_same, sum_found}
 use Rattle.timer_facility.proofs.RowLemmas.{found_there, only_timer}

@@ -2,12 +2,12 @@
 use Rattle.std.specs.Prelude.{ℕ, ◌≡◌, ◌==◌, ◌&&◌, ◌||◌, IsTrue, min, List, [], Option, Some, None, Bool, true, false, if◌then◌else◌, filter, map, nat_le, not}
 use Rattle.std.specs.List.{list_any}
 use Rattle.std.specs.Option.{option_map_or}
-use Rattle.slee_state.specs.Timers.{timer_at, behind, due_count, goes_on}
-use Rattle.slee_state.specs.declared.rows.Timer.{Timer}
-use Rattle.slee_steps.specs.Timing.{Occurrence, fired_count, fired_of}
-use Rattle.sorted_rows.specs.Keys.{timer_key, Rises}
-use Rattle.row_index.specs.Index.{entry_before, IsIndex}
-use Rattle.row_index.specs.declared.entry.Entry.{Entry}
+use Rattle.router_state.specs.Timers.{timer_at, behind, due_count, goes_on}
+use Rattle.router_state.specs.declared.rows.Timer.{Timer}
+use Rattle.router_steps.specs.Timing.{Occurrence, fired_count, fired_of}
+use Rattle.rows_sorted.specs.Keys.{timer_key, Rises}
+use Rattle.rows_index.specs.Index.{entry_before, IsIndex}
+use Rattle.rows_index.specs.declared.entry.Entry.{Entry}
 use Rattle.timer_facility.specs.Views.{TimerRowsView}
 use Rattle.timer_facility.specs.declared.timer_rows.TimerRows.TheInside.{Inside}
 

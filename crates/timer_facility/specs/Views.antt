@@ -1,6 +1,6 @@
 -- What is seen of the timer facility.
 use Rattle.std.specs.Prelude.{ℕ, Bool, nat_lt, List}
-use Rattle.slee_state.specs.declared.rows.Timer.{Timer}
+use Rattle.router_state.specs.declared.rows.Timer.{Timer}
 
 -- the timers, the number that the next one has, and for how many there is room
 pub record TimersView : Type 0 where

@@ -1,9 +1,9 @@
 //! What of one timer is due at a moment, what is fired of it, and what is left.
 ghost use Rattle.std.specs.Prelude.{◌≡◌, ℕ, ◌+◌, ◌-◌, ◌*◌, ◌<◌, ◌≤◌, ◌^◌, IsTrue};
-ghost use Rattle.slee_state.specs.Timers.{due_count, goes_on, left_behind, behind};
-ghost use Rattle.slee_steps.specs.Timing.{fired_count, is_last_at};
+ghost use Rattle.router_state.specs.Timers.{due_count, goes_on, left_behind, behind};
+ghost use Rattle.router_steps.specs.Timing.{fired_count, is_last_at};
 
-use slee_state::Timer;
+use router_state::Timer;
 use slee_value::Keep;
 
 /// The last moment there is.

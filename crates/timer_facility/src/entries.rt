@@ -2,9 +2,9 @@
 ghost use Rattle.std.specs.Prelude.{◌≡◌, find, option_copied};
 ghost use Rattle.timer_facility.specs.Indexed.{moment_entry, activity_entry, is_behind};
 
-use leaf_rows::Leaves;
-use row_index::Entry;
-use slee_state::Timer;
+use router_state::Timer;
+use rows_index::Entry;
+use rows_leaves::Leaves;
 
 /// The timer under its next moment.
 pub fn moment_entry(timer: &Timer) -> Entry

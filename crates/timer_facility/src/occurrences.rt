@@ -2,15 +2,15 @@
 ghost use Rattle.std.specs.Prelude.{◌≡◌, ◌++◌, ◌<◌, ◌≤◌, ◌^◌, length, map, sum, OnOk, IfOk};
 ghost use Rattle.std.specs.Ordering.{is_lt};
 ghost use Rattle.std.specs.List.{flat_map};
-ghost use Rattle.slee_state.specs.Orders.{sorted};
-ghost use Rattle.slee_steps.specs.Timing.{fired_of, occurrence_before};
+ghost use Rattle.router_state.specs.Orders.{sorted};
+ghost use Rattle.router_steps.specs.Timing.{fired_of, occurrence_before};
 ghost use Rattle.timer_facility.specs.Indexed.{fired_at, fired_count_at};
 ghost use Rattle.timer_facility.specs.Occurrences.{occurrence, due_before};
 
 use crate::due;
-use leaf_rows::{Leaves, Run};
-use row_index::Entry;
-use slee_state::Timer;
+use router_state::Timer;
+use rows_index::Entry;
+use rows_leaves::{Leaves, Run};
 use slee_value::{ActivityId, NoMemory, TimerId};
 use std::alloc::Global;
 use std::cmp::Ordering;

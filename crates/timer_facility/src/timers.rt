@@ -1,16 +1,16 @@
 //! The timers, rising by number; clauses see them as a list, with the next number and the room.
 ghost use Rattle.std.specs.Prelude.{◌≡◌, ◌+◌, ◌-◌, ◌<◌, ◌≤◌, ◌^◌, ◌++◌, ◌∷◌, [], map, length, filter, nat_lt, Some, IsTrue, OnOk, IfErr, IfOk, slice_get, option_copied};
-ghost use Rattle.slee_state.specs.Ordered.{rises_in, are_below};
-ghost use Rattle.slee_state.specs.Orders.{put};
-ghost use Rattle.slee_state.specs.Timers.{timer_at, with_timer, without_timer, without_timers_on, advanced, behind, due_count, goes_on};
-ghost use Rattle.slee_steps.specs.Timing.{fired, fired_in_all, occurrence_limit};
+ghost use Rattle.router_state.specs.Ordered.{rises_in, are_below};
+ghost use Rattle.router_state.specs.Orders.{put};
+ghost use Rattle.router_state.specs.Timers.{timer_at, with_timer, without_timer, without_timers_on, advanced, behind, due_count, goes_on};
+ghost use Rattle.router_steps.specs.Timing.{fired, fired_in_all, occurrence_limit};
 ghost use Rattle.timer_facility.specs.Occurrences.{occurrence};
 ghost use Rattle.timer_facility.specs.Faults.{IsFaultOf};
 ghost use Rattle.timer_facility.specs.Views.{timer_before};
 
 use crate::occurrences::{DueFault, DueList, OCCURRENCE_LIMIT};
 use crate::timer_rows::TimerRows;
-use slee_state::{Timer, TimerSpec};
+use router_state::{Timer, TimerSpec};
 use slee_value::{ActivityId, NoMemory, TimerId};
 use std::alloc::Global;
 use std::marker::Model;

@@ -1,8 +1,8 @@
 -- none of the activities of the entries before this one has the name
 use Rattle.std.proofs.Common.{◌≡◌}
-use Rattle.slee_state.specs.Contexts.{activity_at, has_name}
-use Rattle.slee_state.specs.declared.rows.Activity.{Activity}
-use Rattle.text_index.specs.Found.{first_found}
+use Rattle.router_state.specs.Contexts.{activity_at, has_name}
+use Rattle.router_state.specs.declared.rows.Activity.{Activity}
+use Rattle.rows_index.specs.Found.{first_found}
 use Rattle.activity_context.proofs.externals.external_among.Given as goal
 
 abbrev pub invariant-loop-entry : goal.invariant-loop-entry

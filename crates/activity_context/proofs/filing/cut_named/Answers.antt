@@ -2,9 +2,9 @@
 use Rattle.std.proofs.Common.{sym, ap, ◌∙◌}
 use Rattle.std.specs.Prelude.{not}
 use Rattle.std.specs.Str.{bytes_eq}
-use Rattle.slee_state.specs.declared.rows.Named.{Named}
-use Rattle.row_index.proofs.FoundLemmas.{none_at}
-use Rattle.row_index.proofs.RowLemmas.{all_stay}
+use Rattle.router_state.specs.declared.rows.Named.{Named}
+use Rattle.rows_index.proofs.FoundLemmas.{none_at}
+use Rattle.rows_index.proofs.RowLemmas.{all_stay}
 use Rattle.activity_context.specs.declared.numbered.NumberedName.{NumberedName}
 use Rattle.activity_context.specs.Naming.{in_byte_order}
 use Rattle.activity_context.proofs.FilingLemmas.{cut_is_free, filed_filter, one_goes, order_filter}

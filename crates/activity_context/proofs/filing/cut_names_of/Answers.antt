@@ -2,8 +2,8 @@
 use Rattle.std.proofs.Common.{ap, ◌∙◌, ◌==◌}
 use Rattle.std.specs.Prelude.{not}
 use Rattle.std.specs.List.{filter}
-use Rattle.slee_state.specs.declared.rows.Named.{Named}
-use Rattle.row_index.specs.declared.entry.Entry.{Entry}
+use Rattle.router_state.specs.declared.rows.Named.{Named}
+use Rattle.rows_index.specs.declared.entry.Entry.{Entry}
 use Rattle.activity_context.specs.Naming.{in_byte_order}
 use Rattle.activity_context.proofs.FilingLemmas.{filed_filter, order_filter, others_found, others_needed, under_activity}
 use Rattle.activity_context.proofs.filing.cut_names_of.Goals as goal

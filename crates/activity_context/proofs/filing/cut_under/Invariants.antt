@@ -2,8 +2,8 @@
 use Rattle.std.proofs.Common.{◌≡◌}
 use Rattle.std.specs.Prelude.{◌≤◌, not}
 use Rattle.std.specs.List.{filter, list_any}
-use Rattle.sorted_rows.specs.Keys.{is_pair}
-use Rattle.row_index.specs.declared.entry.Entry.{Entry}
+use Rattle.rows_sorted.specs.Keys.{is_pair}
+use Rattle.rows_index.specs.declared.entry.Entry.{Entry}
 use Rattle.activity_context.specs.declared.numbered.NumberedName.{NumberedName}
 use Rattle.activity_context.specs.Naming.{numbered_key}
 use Rattle.activity_context.proofs.filing.cut_under.Given as goal

@@ -1,7 +1,7 @@
 -- the name comes with its entry
 use Rattle.std.proofs.Common.{ap, ◌∙◌}
 use Rattle.activity_context.specs.declared.numbered.NumberedName.{NumberedName}
-use Rattle.text_index.specs.Numbers.{number_of}
+use Rattle.rows_index.specs.Numbers.{number_of}
 use Rattle.activity_context.specs.Naming.{in_byte_order}
 use Rattle.activity_context.proofs.FilingLemmas.{filed_put, order_put}
 use Rattle.activity_context.proofs.filing.file.Goals as goal

@@ -1,7 +1,7 @@
 use Rattle.std.proofs.Common.{◌∙◌}
 use Rattle.std.specs.Prelude.{not}
 use Rattle.std.specs.List.{filter}
-use Rattle.slee_state.specs.declared.rows.Link.{Link}
+use Rattle.router_state.specs.declared.rows.Link.{Link}
 use Rattle.activity_context.proofs.LinkLemmas.{link_is}
 use Rattle.activity_context.proofs.links.cut_link.Goals as goal
 

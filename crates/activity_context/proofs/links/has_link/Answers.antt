@@ -1,6 +1,6 @@
 use Rattle.std.proofs.Common.{◌∙◌}
 use Rattle.std.specs.List.{list_any}
-use Rattle.slee_state.specs.declared.rows.Link.{Link}
+use Rattle.router_state.specs.declared.rows.Link.{Link}
 use Rattle.activity_context.proofs.LinkLemmas.{link_is}
 use Rattle.activity_context.proofs.links.has_link.Goals as goal
 

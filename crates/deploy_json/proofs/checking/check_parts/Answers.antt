@@ -1,8 +1,8 @@
 use Rattle.std.proofs.Common.{◌≡◌, Ok, subst, MatchResult}
-use Rattle.deployment_parts.specs.declared.parts.Parts.{Parts}
-use Rattle.deploy_parts.specs.Rows.{parts_row}
-use Rattle.deploy_reading.specs.Reading.{Tells}
-use Rattle.deploy_json.specs.Reading.{checked_parts, read_as}
+use Rattle.deploy_model.specs.declared.parts.Parts.{Parts}
+use Rattle.deploy_json.specs.Rows.{parts_row}
+use Rattle.deploy_json.specs.Reading.{Tells}
+use Rattle.deploy_json.specs.Checking.{checked_parts, read_as}
 use Rattle.deploy_json.proofs.checking.check_parts.Goals as goal
 
 pub returns-in-Ok : goal.returns-in-Ok

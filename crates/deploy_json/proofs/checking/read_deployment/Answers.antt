@@ -1,8 +1,8 @@
 use Rattle.std.proofs.Common.{◌≡◌, Result, Ok, sym, subst, MatchResult}
-use Rattle.deploy_parts.specs.Rows.{PartsRow}
-use Rattle.deploy_reading.specs.declared.fault.ReadFault.{ReadFault}
-use Rattle.deploy_reading.specs.Reading.{Tells}
-use Rattle.deploy_json.specs.Reading.{checked_parts, read_as}
+use Rattle.deploy_json.specs.Rows.{PartsRow}
+use Rattle.deploy_json.specs.declared.fault.ReadFault.{ReadFault}
+use Rattle.deploy_json.specs.Reading.{Tells}
+use Rattle.deploy_json.specs.Checking.{checked_parts, read_as}
 use Rattle.deploy_json.proofs.Places.{told_of_bytes}
 use Rattle.deploy_json.proofs.checking.read_deployment.Goals as goal
 

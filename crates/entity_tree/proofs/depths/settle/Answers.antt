@@ -1,6 +1,6 @@
 -- the depths of the entities gone through are right
 use Rattle.std.proofs.Common.{◌≡◌, ◌+◌, sym, subst, ◌∙◌, arith}
-use Rattle.slee_state.specs.Trees.{parent_of}
+use Rattle.router_state.specs.Trees.{parent_of}
 use Rattle.entity_tree.specs.Depths.{depth_at, with_steps}
 use Rattle.entity_tree.proofs.PathLemmas.{path_low}
 use Rattle.entity_tree.proofs.SettleLemmas.{IsSettled, begun, goes_on, parent_right}

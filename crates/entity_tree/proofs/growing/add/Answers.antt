@@ -1,9 +1,9 @@
 -- the index and the depths follow the entity that was put in
 use Rattle.std.proofs.Common.{◌+◌, ◌==◌, List, map, sym, ap, subst, ◌∙◌, arith}
 use Rattle.std.specs.List.{filter}
-use Rattle.slee_state.specs.Orders.{put}
-use Rattle.slee_state.specs.Trees.{children}
-use Rattle.slee_state.specs.declared.rows.Entity.{Entity}
+use Rattle.router_state.specs.Orders.{put}
+use Rattle.router_state.specs.Trees.{children}
+use Rattle.router_state.specs.declared.rows.Entity.{Entity}
 use Rattle.entity_tree.specs.declared.branch.Branch.{Branch}
 use Rattle.entity_tree.specs.Kept.{branch_of, entity_before}
 use Rattle.entity_tree.specs.Depths.{AreDepths, HasDepths, depth_at}

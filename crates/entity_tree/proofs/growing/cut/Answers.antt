@@ -1,8 +1,8 @@
 -- the index and the depths follow the entity that went
 use Rattle.std.proofs.Common.{◌==◌, List, map, sym, ap, subst, ◌∙◌}
 use Rattle.std.specs.List.{filter}
-use Rattle.slee_state.specs.Trees.{children, without_entity}
-use Rattle.slee_state.specs.declared.rows.Entity.{Entity}
+use Rattle.router_state.specs.Trees.{children, without_entity}
+use Rattle.router_state.specs.declared.rows.Entity.{Entity}
 use Rattle.entity_tree.specs.declared.branch.Branch.{Branch}
 use Rattle.entity_tree.specs.Kept.{branch_of}
 use Rattle.entity_tree.specs.Depths.{AreDepths}

@@ -1,6 +1,6 @@
 -- where the entity has no children, its own depth is the only new one
 use Rattle.std.proofs.Common.{◌<◌, sym, subst, ◌∙◌}
-use Rattle.slee_state.specs.Trees.{parent_of}
+use Rattle.router_state.specs.Trees.{parent_of}
 use Rattle.entity_tree.specs.Kept.{AreParents}
 use Rattle.entity_tree.proofs.KeptLemmas.{childless}
 use Rattle.entity_tree.proofs.RowLemmas.{all_put}

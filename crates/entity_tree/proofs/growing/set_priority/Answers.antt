@@ -1,6 +1,6 @@
 -- the row of the number has the priority
 use Rattle.std.proofs.Common.{rules, ◌∙◌}
-use Rattle.slee_state.specs.declared.rows.Entity.{Entity}
+use Rattle.router_state.specs.declared.rows.Entity.{Entity}
 use Rattle.entity_tree.proofs.SetLemmas.{set_by_number}
 use Rattle.entity_tree.proofs.growing.set_priority.Goals as goal
 

@@ -2,7 +2,7 @@
 use Rattle.std.proofs.Common.{◌≡◌, ◌<◌, Some, length, sym, ap, subst, arith}
 use Rattle.std.specs.Prelude.{IsTrue}
 use Rattle.std.proofs.lemmas.Bool.Decides.{nat_tests}
-use Rattle.slee_state.specs.Trees.{entity_at, parent_of}
+use Rattle.router_state.specs.Trees.{entity_at, parent_of}
 use Rattle.entity_tree.specs.Kept.{is_entity}
 use Rattle.entity_tree.specs.Climbing.{BeginsWith, path_at}
 use Rattle.entity_tree.proofs.RowLemmas.{found_number}

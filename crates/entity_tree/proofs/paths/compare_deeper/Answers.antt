@@ -2,7 +2,7 @@
 use Rattle.std.proofs.Common.{◌≡◌, ◌<◌, ◌-◌, length, refl, sym, ap, subst, ◌∙◌, arith}
 use Rattle.std.specs.Ordering.{is_lt, is_gt}
 use Rattle.std.proofs.lemmas.Bool.Decides.{nat_tests}
-use Rattle.slee_state.specs.Paths.{path_before}
+use Rattle.router_state.specs.Paths.{path_before}
 use Rattle.entity_tree.specs.Climbing.{BeginsWith, path_at}
 use Rattle.entity_tree.proofs.OrderLemmas.{upper_first, upper_not_after}
 use Rattle.entity_tree.proofs.ClimbLemmas.{goes_on, not_before_itself}

@@ -1,5 +1,5 @@
 use Rattle.std.proofs.Common.{◌≡◌, ◌==◌, Some, length, false}
-use Rattle.slee_state.specs.Trees.{entity_at}
+use Rattle.router_state.specs.Trees.{entity_at}
 use Rattle.entity_tree.specs.Climbing.{BeginsWith, path_at}
 use Rattle.entity_tree.proofs.paths.compare_level.Given as goal
 

@@ -1,5 +1,5 @@
 use Rattle.std.proofs.Common.{◌≡◌, ◌-◌, length}
-use Rattle.slee_state.specs.Trees.{service_above}
+use Rattle.router_state.specs.Trees.{service_above}
 use Rattle.entity_tree.proofs.reading.service_of.Given as goal
 
 abbrev pub invariant-rows : goal.invariant-rows

@@ -1,7 +1,7 @@
 use Rattle.std.proofs.Common.{◌≡◌, ◌++◌, reverse, length, true}
 use Rattle.std.specs.Prelude.{◌≤◌, is_some, vec_capacity}
 use Rattle.std.specs.List.{AllByRecursion}
-use Rattle.slee_state.specs.Trees.{entity_at, tree_of}
+use Rattle.router_state.specs.Trees.{entity_at, tree_of}
 use Rattle.entity_tree.specs.Kept.{numbers_of}
 use Rattle.entity_tree.proofs.TreeLemmas.{trees}
 use Rattle.entity_tree.proofs.removal.list.Given as goal

@@ -1,7 +1,7 @@
 -- the masks of the events that are left come to those that are there
 use Rattle.std.proofs.Common.{◌≡◌, ◌+◌, ◌≤◌, length}
 use Rattle.std.specs.Vec.Iter.{into_iter_items}
-use Rattle.slee_state.specs.Masks.{with_masks}
+use Rattle.router_state.specs.Masks.{with_masks}
 use Rattle.event_mask.proofs.masks.mask_each.Given as goal
 
 abbrev pub invariant-each : goal.invariant-each

@@ -2,8 +2,8 @@
 use Rattle.std.proofs.Common.{◌≡◌, ◌<◌, ap, arith, length}
 use Rattle.std.specs.Prelude.{nat_lt}
 use Rattle.std.proofs.lemmas.Bool.Decides.{nat_tests}
-use Rattle.row_tally.specs.Tallies.{count_at, one_more, total}
-use Rattle.row_tally.proofs.KeyLemmas.{count_within_total, length_within, some_more, total_more}
+use Rattle.rows_index.specs.Tallies.{count_at, one_more, total}
+use Rattle.rows_index.proofs.KeyLemmas.{count_within_total, length_within, some_more, total_more}
 use Rattle.profile_tables.proofs.CountedLemmas.{any_or, next_name}
 use Rattle.profile_tables.proofs.counted.count_row.Goals as goal
 

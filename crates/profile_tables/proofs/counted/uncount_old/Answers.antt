@@ -1,6 +1,6 @@
 -- the row that is found has its entries counted
 use Rattle.std.proofs.Common.{sym}
-use Rattle.sorted_rows.specs.Keys.{Key}
+use Rattle.rows_sorted.specs.Keys.{Key}
 use Rattle.profile_tables.proofs.UniqueLemmas.{found_counted}
 use Rattle.profile_tables.proofs.counted.uncount_old.Goals as goal
 

@@ -1,6 +1,6 @@
 -- one value after the other
 use Rattle.std.proofs.Common.{◌+◌, arith, drop, map}
-use Rattle.row_tally.proofs.KeyLemmas.{first_counted, rest_counted}
+use Rattle.rows_index.proofs.KeyLemmas.{first_counted, rest_counted}
 use Rattle.profile_tables.specs.Unique.{value_entry}
 use Rattle.profile_tables.proofs.CountedLemmas.{next_name}
 use Rattle.profile_tables.proofs.counted.uncount_row.Goals as goal

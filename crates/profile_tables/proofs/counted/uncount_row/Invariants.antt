@@ -1,7 +1,7 @@
 -- the values that are left are still counted
 use Rattle.std.proofs.Common.{◌≡◌, ◌+◌, ◌≤◌, drop, length, map}
-use Rattle.sorted_rows.specs.Keys.{Rises}
-use Rattle.row_tally.specs.Tallies.{tally_key, all_less, AreCounted}
+use Rattle.rows_sorted.specs.Keys.{Rises}
+use Rattle.rows_index.specs.Tallies.{tally_key, all_less, AreCounted}
 use Rattle.profile_tables.specs.Unique.{value_entry}
 use Rattle.profile_tables.proofs.counted.uncount_row.Given as goal
 

@@ -1,6 +1,6 @@
 -- the fields before this one are the declared ones
 use Rattle.std.proofs.Common.{◌≡◌, drop}
-use Rattle.slee_state.specs.Fits.{are_declared}
+use Rattle.router_state.specs.Fits.{are_declared}
 use Rattle.profile_tables.proofs.fitting.are_declared.Given as goal
 
 abbrev pub invariant-loop-place : goal.invariant-loop-place

@@ -3,7 +3,7 @@ use Rattle.std.proofs.Common.{◌+◌, drop, sym, ap, ◌∙◌, arith}
 use Rattle.std.proofs.lemmas.List.{drop_all}
 use Rattle.std.specs.Prelude.{option_copied}
 use Rattle.std.specs.List.{find}
-use Rattle.slee_state.specs.declared.rows.ProfileRow.{ProfileRow}
+use Rattle.router_state.specs.declared.rows.ProfileRow.{ProfileRow}
 use Rattle.profile_tables.specs.Faults.{is_rival}
 use Rattle.profile_tables.specs.Keeping.{in_byte_order}
 use Rattle.profile_tables.specs.Unique.{earlier, is_rival_in}

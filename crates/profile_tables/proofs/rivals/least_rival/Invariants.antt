@@ -2,7 +2,7 @@
 use Rattle.std.proofs.Common.{◌≡◌, drop}
 use Rattle.std.specs.Prelude.{option_copied}
 use Rattle.std.specs.List.{AllByRecursion, find}
-use Rattle.slee_state.specs.declared.rows.ProfileRow.{ProfileRow}
+use Rattle.router_state.specs.declared.rows.ProfileRow.{ProfileRow}
 use Rattle.profile_tables.specs.Faults.{is_rival}
 use Rattle.profile_tables.specs.Keeping.{in_byte_order}
 use Rattle.profile_tables.specs.Unique.{earlier, AreUnder}

@@ -2,9 +2,9 @@
 use Rattle.std.proofs.Common.{◌≡◌, ◌==◌, sym, ap, ◌∙◌}
 use Rattle.std.specs.Prelude.{◌&&◌, List, option_copied}
 use Rattle.std.specs.List.{filter, find}
-use Rattle.slee_state.specs.declared.rows.ProfileRow.{ProfileRow}
-use Rattle.row_tally.specs.declared.tally.Tally.{Tally}
-use Rattle.text_index.specs.Numbers.{number_of}
+use Rattle.router_state.specs.declared.rows.ProfileRow.{ProfileRow}
+use Rattle.rows_index.specs.declared.tally.Tally.{Tally}
+use Rattle.rows_index.specs.Numbers.{number_of}
 use Rattle.profile_tables.specs.Keeping.{in_byte_order}
 use Rattle.profile_tables.specs.Unique.{earlier, is_rival_in, value_key}
 use Rattle.profile_tables.proofs.FilingLemmas.{row_order}

@@ -2,8 +2,8 @@
 use Rattle.std.proofs.Common.{◌≡◌, ◌==◌}
 use Rattle.std.specs.Prelude.{◌&&◌, option_copied}
 use Rattle.std.specs.List.{filter, find}
-use Rattle.slee_state.specs.declared.rows.ProfileRow.{ProfileRow}
-use Rattle.row_tally.specs.declared.tally.Tally.{Tally}
+use Rattle.router_state.specs.declared.rows.ProfileRow.{ProfileRow}
+use Rattle.rows_index.specs.declared.tally.Tally.{Tally}
 use Rattle.profile_tables.specs.Keeping.{in_byte_order}
 use Rattle.profile_tables.specs.Unique.{earlier, is_rival_in, value_key}
 use Rattle.profile_tables.proofs.LeastLemmas.{is_among}

@@ -1,7 +1,7 @@
 -- the rows of one number and table are kept in byte order
 use Rattle.std.proofs.Common.{ap, ◌∙◌}
 use Rattle.std.specs.List.{find}
-use Rattle.slee_state.specs.declared.rows.ProfileRow.{ProfileRow}
+use Rattle.router_state.specs.declared.rows.ProfileRow.{ProfileRow}
 use Rattle.profile_tables.specs.Keeping.{as_kept}
 use Rattle.profile_tables.specs.Unique.{is_rival_in}
 use Rattle.profile_tables.proofs.LeastLemmas.{numbered_rival}

@@ -1,6 +1,6 @@
 -- none of the fields before this one has the name
 use Rattle.std.proofs.Common.{◌≡◌, drop}
-use Rattle.slee_state.specs.Profiles.{value_of}
+use Rattle.router_state.specs.Profiles.{value_of}
 use Rattle.profile_tables.proofs.same.value_of.Given as goal
 
 abbrev pub invariant-loop-other : goal.invariant-loop-other

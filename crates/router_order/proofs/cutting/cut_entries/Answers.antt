@@ -2,9 +2,9 @@
 use Rattle.std.proofs.Common.{sym, ◌∙◌, arith}
 use Rattle.std.specs.Prelude.{not}
 use Rattle.std.specs.List.{filter, list_any}
-use Rattle.sorted_rows.specs.Keys.{is_key, pair_key}
-use Rattle.row_index.specs.declared.entry.Entry.{Entry}
-use Rattle.row_index.specs.Index.{entry_key}
+use Rattle.rows_sorted.specs.Keys.{is_key, pair_key}
+use Rattle.rows_index.specs.declared.entry.Entry.{Entry}
+use Rattle.rows_index.specs.Index.{entry_key}
 use Rattle.router_order.specs.declared.placed.Placed.{Placed}
 use Rattle.router_order.proofs.IndexedLemmas.{next_gone, none_gone}
 use Rattle.router_order.proofs.cutting.cut_entries.Goals as goal

@@ -1,7 +1,7 @@
 -- the rows of the activity are its attachments
 use Rattle.std.proofs.Common.{◌==◌, sym, ap, ◌∙◌}
 use Rattle.std.specs.Prelude.{not}
-use Rattle.slee_state.specs.declared.rows.Link.{Link}
+use Rattle.router_state.specs.declared.rows.Link.{Link}
 use Rattle.entity_tree.proofs.ListLemmas.{filter_of_map}
 use Rattle.router_order.specs.Placed.{attachment, attachments}
 use Rattle.router_order.proofs.cutting.cut_links_on.Goals as goal

@@ -1,7 +1,7 @@
 -- the attachment is put among those to its activity, and so among all
 use Rattle.std.proofs.Common.{◌∙◌, ap, arith, length}
-use Rattle.slee_state.specs.Orders.{put}
-use Rattle.slee_state.specs.Contexts.{links_on}
+use Rattle.router_state.specs.Orders.{put}
+use Rattle.router_state.specs.Contexts.{links_on}
 use Rattle.router_order.specs.Listed.{listed_before}
 use Rattle.router_order.specs.Placed.{attachments}
 use Rattle.router_order.proofs.LayLemmas.{inserted}

@@ -2,7 +2,7 @@
 use Rattle.std.proofs.Common.{◌≡◌, ◌<◌, ◌∙◌, List, true, false, arith, ap, subst}
 use Rattle.std.specs.Prelude.{option_map}
 use Rattle.std.specs.List.{AllByRecursion}
-use Rattle.slee_state.specs.declared.rows.Link.{Link}
+use Rattle.router_state.specs.declared.rows.Link.{Link}
 use Rattle.router_order.specs.declared.placed.Placed.{Placed}
 use Rattle.router_order.specs.Listed.{IsListing}
 use Rattle.router_order.specs.Placed.{attachments}

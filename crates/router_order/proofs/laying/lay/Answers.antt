@@ -1,7 +1,7 @@
 -- one attachment more is laid behind the others
 use Rattle.std.proofs.Common.{◌≡◌, ◌==◌, false, refl, ◌∙◌, arith}
 use Rattle.std.proofs.lemmas.Bool.Decides.{nat_tests}
-use Rattle.slee_state.specs.declared.rows.Link.{Link}
+use Rattle.router_state.specs.declared.rows.Link.{Link}
 use Rattle.router_order.proofs.LayLemmas.{all_at}
 use Rattle.router_order.proofs.LayLemmas.{laid_below, laid_links, next_rank, none_below, same_attachment}
 use Rattle.router_order.proofs.RunLemmas.{put_other}

@@ -1,7 +1,7 @@
 -- so many were laid, with ranks below the next one
 use Rattle.std.proofs.Common.{◌≡◌, ℕ, ◌+◌, ◌*◌, ◌==◌, false, take, length}
 use Rattle.std.specs.Prelude.{◌≤◌}
-use Rattle.slee_state.specs.Contexts.{links_on}
+use Rattle.router_state.specs.Contexts.{links_on}
 use Rattle.router_order.specs.Placed.{attachments}
 use Rattle.router_order.proofs.LayLemmas.{AreBelow}
 use Rattle.router_order.proofs.RunLemmas.{run}

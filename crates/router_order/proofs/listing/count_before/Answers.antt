@@ -1,8 +1,8 @@
 -- the rows that are listed before the attachment stand at the front
 use Rattle.std.proofs.Common.{rules, ◌≡◌, true}
 use Rattle.std.proofs.lemmas.List.Sorted.{IsPartitionPoint-from_clause}
-use Rattle.slee_state.specs.declared.rows.Link.{Link}
-use Rattle.sorted_rows.proofs.HalvingLemmas.{parted, point_is_prefix}
+use Rattle.router_state.specs.declared.rows.Link.{Link}
+use Rattle.rows_sorted.proofs.HalvingLemmas.{parted, point_is_prefix}
 use Rattle.router_order.specs.Listed.{listed_before}
 use Rattle.router_order.proofs.ListingLemmas.{listing_order, steps}
 use Rattle.router_order.proofs.listing.count_before.Goals as goal

@@ -1,7 +1,7 @@
 -- halving finds the place of the attachment
 use Rattle.std.proofs.Common.{◌≡◌, sym, refl, ◌∙◌, true, false}
 use Rattle.std.proofs.lemmas.Option.{slice_get_read, slice_get_past}
-use Rattle.slee_state.specs.Contexts.{is_link}
+use Rattle.router_state.specs.Contexts.{is_link}
 use Rattle.router_order.proofs.ListingLemmas.{link_place, listing_order}
 use Rattle.router_order.proofs.listing.place_of.Goals as goal
 

@@ -1,6 +1,6 @@
 -- one more stands in its place
 use Rattle.std.proofs.Common.{◌≡◌, true, arith}
-use Rattle.slee_state.specs.declared.rows.Link.{Link}
+use Rattle.router_state.specs.declared.rows.Link.{Link}
 use Rattle.entity_tree.specs.Kept.{is_entity}
 use Rattle.router_order.specs.Placed.{attachments}
 use Rattle.router_order.proofs.LayLemmas.{all_at}

@@ -1,7 +1,7 @@
 -- so many stand in their places
 use Rattle.std.proofs.Common.{◌≡◌, ℕ, ◌+◌, [], length, take}
 use Rattle.std.specs.Prelude.{◌≤◌, ◌||◌, vec_capacity}
-use Rattle.slee_state.specs.Contexts.{is_linked}
+use Rattle.router_state.specs.Contexts.{is_linked}
 use Rattle.router_order.specs.Listed.{IsListing}
 use Rattle.router_order.specs.Placed.{attachments}
 use Rattle.router_order.proofs.moving.put_each.Given as goal

@@ -1,6 +1,6 @@
 use Rattle.std.proofs.Common.{◌≡◌, None, filter}
 use Rattle.std.specs.Prelude.{option_copied}
-use Rattle.slee_state.specs.Paths.{least_path}
+use Rattle.router_state.specs.Paths.{least_path}
 use Rattle.router_order.specs.Asked.{entities_of, is_wanted}
 use Rattle.router_order.proofs.next.least.Given as goal
 

@@ -5,8 +5,8 @@ use Rattle.script_types.specs.ProgramOf.{step_of, steps_of}
 use Rattle.script_types.specs.ElaborationOfStatements.{statement_made}
 use Rattle.script_types.specs.TokenCounts.{tokens_in_statement, tokens_in_statements}
 use Rattle.script_types.proofs.ProgramRows.{for_step}
-use Rattle.expression_check.specs.SettingOf.{setting_of}
-use Rattle.statement_check.specs.Made.{Makes}
+use Rattle.script_check_terms.specs.SettingOf.{setting_of}
+use Rattle.script_check_steps.specs.Made.{Makes}
 use Rattle.script_check.proofs.BlockLemmas.{if_is, if_else_is, while_is, for_is, for_made, gives, cut_one, rest_step}
 use Rattle.script_check.proofs.Tokens.{falls, rest_falls, rest_counts, tokens_from}
 use Rattle.script_check.proofs.blocks.+blocks.Goals as goal

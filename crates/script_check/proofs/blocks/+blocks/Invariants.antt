@@ -4,7 +4,7 @@ use Rattle.script_tree.specs.Tree.{tree_of, statement_of, statements_of}
 use Rattle.script_types.specs.ElaborationOfStatements.{statements_made}
 use Rattle.script_types.specs.TokenCounts.{tokens_in_statement, tokens_in_statements}
 use Rattle.script_types.specs.TypingResult.{◌>>=◌}
-use Rattle.expression_check.specs.SettingOf.{setting_of}
+use Rattle.script_check_terms.specs.SettingOf.{setting_of}
 use Rattle.script_check.proofs.BlockLemmas.{done}
 use Rattle.script_check.proofs.blocks.+blocks.Given as goal
 

@@ -1,10 +1,10 @@
 use Rattle.std.proofs.Common.{◌≡◌, ◌∙◌, map, ℕ, List}
-use Rattle.deployment_parts.specs.declared.parts.ProfileSpec.{ProfileSpec}
-use Rattle.deployment_parts.specs.declared.parts.Block.{Block}
-use Rattle.deployment_parts.specs.declared.parts.Service.{Service}
-use Rattle.deployment_parts.specs.Deployed.{DeployedProfile, DeployedBlock}
-use Rattle.deployment_parts.specs.Resolving.{event_of, profile_of, block_of}
-use Rattle.deployment_parts.specs.Tables.{key_number}
+use Rattle.deploy_model.specs.declared.parts.ProfileSpec.{ProfileSpec}
+use Rattle.deploy_model.specs.declared.parts.Block.{Block}
+use Rattle.deploy_model.specs.declared.parts.Service.{Service}
+use Rattle.deploy_model.specs.Deployed.{DeployedProfile, DeployedBlock}
+use Rattle.deploy_model.specs.Resolving.{event_of, profile_of, block_of}
+use Rattle.deploy_model.specs.Tables.{key_number}
 use Rattle.slee_descriptor.specs.CodesOfParts.{table_code, block_code, names_in}
 use Rattle.slee_descriptor.specs.Keys.{number_in}
 use Rattle.slee_descriptor.proofs.Numbering.{placed}

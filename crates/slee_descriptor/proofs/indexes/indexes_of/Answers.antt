@@ -1,13 +1,13 @@
 use Rattle.std.proofs.Common.{◌∙◌, sym}
 use Rattle.script_types.specs.declared.codes.EventCode.{EventCode}
-use Rattle.deployment_parts.specs.declared.parts.EventType.{EventType}
-use Rattle.deployment_parts.specs.declared.parts.ProfileSpec.{ProfileSpec}
-use Rattle.deployment_parts.specs.declared.parts.Table.{Table}
-use Rattle.deployment_parts.specs.declared.parts.Block.{Block}
-use Rattle.deployment_parts.specs.declared.parts.Service.{Service}
-use Rattle.deployment_parts.specs.Deployed.{DeployedProfile, DeployedTable, DeployedBlock, DeployedService}
-use Rattle.deployment_parts.specs.Resolving.{event_of, profile_of, table_of, block_of, service_of}
-use Rattle.deployment_parts.specs.Tables.{key_number}
+use Rattle.deploy_model.specs.declared.parts.EventType.{EventType}
+use Rattle.deploy_model.specs.declared.parts.ProfileSpec.{ProfileSpec}
+use Rattle.deploy_model.specs.declared.parts.Table.{Table}
+use Rattle.deploy_model.specs.declared.parts.Block.{Block}
+use Rattle.deploy_model.specs.declared.parts.Service.{Service}
+use Rattle.deploy_model.specs.Deployed.{DeployedProfile, DeployedTable, DeployedBlock, DeployedService}
+use Rattle.deploy_model.specs.Resolving.{event_of, profile_of, table_of, block_of, service_of}
+use Rattle.deploy_model.specs.Tables.{key_number}
 use Rattle.slee_descriptor.specs.Handling.{handled_from}
 use Rattle.slee_descriptor.proofs.HandledBlocks.{handled}
 use Rattle.slee_descriptor.proofs.Numbering.{placed}

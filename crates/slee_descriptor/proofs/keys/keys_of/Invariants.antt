@@ -1,7 +1,7 @@
 use Rattle.std.proofs.Common.{◌≡◌, ℕ, List, drop}
 use Rattle.std.specs.List.{position_from}
 use Rattle.std.specs.Str.{bytes_eq}
-use Rattle.deployment_parts.specs.Rules.{or_later}
+use Rattle.deploy_model.specs.Rules.{or_later}
 use Rattle.slee_descriptor.specs.Keys.{number_in}
 use Rattle.slee_descriptor.proofs.keys.keys_of.Given as goal
 

@@ -1,6 +1,6 @@
 -- a timer that goes on has another moment
 use Rattle.std.proofs.Common.{arith}
-use Rattle.slee_state.specs.Timers.{due_count}
+use Rattle.router_state.specs.Timers.{due_count}
 use Rattle.timer_facility.proofs.DueLemmas.{moment_fits}
 use Rattle.timer_facility.proofs.due.next_moment.Goals as goal
 

@@ -1,10 +1,10 @@
 -- the activity goes with its entry, or there is none
 use Rattle.std.proofs.Common.{sym, ◌==◌, refl}
-use Rattle.slee_state.specs.declared.rows.Activity.{Activity}
-use Rattle.sorted_rows.specs.Keys.{activity_key}
-use Rattle.sorted_rows.proofs.NumberLemmas.{below_filter}
-use Rattle.row_index.proofs.FoundLemmas.{none_at}
-use Rattle.row_index.proofs.RowLemmas.{all_stay, indexed_cut}
+use Rattle.router_state.specs.declared.rows.Activity.{Activity}
+use Rattle.rows_sorted.specs.Keys.{activity_key}
+use Rattle.rows_sorted.proofs.NumberLemmas.{below_filter}
+use Rattle.rows_index.proofs.FoundLemmas.{none_at}
+use Rattle.rows_index.proofs.RowLemmas.{all_stay, indexed_cut}
 use Rattle.activity_context.specs.Indexed.{name_number}
 use Rattle.activity_context.proofs.activities.Activities.cut.Goals as goal
 

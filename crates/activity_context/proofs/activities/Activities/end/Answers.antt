@@ -1,8 +1,8 @@
 -- the activity ends; all keep their numbers and their entries
 use Rattle.std.proofs.Common.{◌∙◌, rules, true}
-use Rattle.slee_state.specs.Contexts.{ends}
-use Rattle.slee_state.specs.declared.rows.Activity.{Activity}
-use Rattle.sorted_rows.proofs.NumberLemmas.{below_map}
+use Rattle.router_state.specs.Contexts.{ends}
+use Rattle.router_state.specs.declared.rows.Activity.{Activity}
+use Rattle.rows_sorted.proofs.NumberLemmas.{below_map}
 use Rattle.activity_context.proofs.EndLemmas.{end_stays_indexed, number_stays, one_ends}
 use Rattle.activity_context.proofs.activities.Activities.end.Goals as goal
 

@@ -1,12 +1,12 @@
 -- only activities under the number of the name have it
 use Rattle.std.proofs.Common.{List, refl, ap, ◌∙◌}
-use Rattle.slee_state.specs.Contexts.{activity_at, has_name}
-use Rattle.slee_state.specs.declared.rows.Activity.{Activity}
-use Rattle.sorted_rows.specs.Keys.{activity_key}
-use Rattle.row_index.specs.declared.entry.Entry.{Entry}
-use Rattle.text_index.specs.Found.{first_found}
-use Rattle.text_index.specs.Numbers.{number_of}
-use Rattle.text_index.proofs.RunLemmas.{run_finds}
+use Rattle.router_state.specs.Contexts.{activity_at, has_name}
+use Rattle.router_state.specs.declared.rows.Activity.{Activity}
+use Rattle.rows_sorted.specs.Keys.{activity_key}
+use Rattle.rows_index.specs.declared.entry.Entry.{Entry}
+use Rattle.rows_index.specs.Found.{first_found}
+use Rattle.rows_index.specs.Numbers.{number_of}
+use Rattle.rows_index.proofs.RunLemmas.{run_finds}
 use Rattle.activity_context.specs.Indexed.{name_number}
 use Rattle.activity_context.proofs.NameLemmas.{named_there}
 use Rattle.activity_context.proofs.activities.Activities.external.Goals as goal

@@ -1,13 +1,13 @@
 -- the new activity has the greatest number, and comes with its entry
 use Rattle.std.proofs.Common.{◌≡◌, ◌==◌, ◌∙◌, false, refl}
-use Rattle.slee_state.specs.declared.rows.Activity.{Activity}
-use Rattle.sorted_rows.specs.Keys.{is_key}
-use Rattle.sorted_rows.proofs.NumberLemmas.{below_pushed}
-use Rattle.sorted_rows.proofs.OrderLemmas.{all_from_all}
-use Rattle.row_index.specs.Index.{entry_key}
-use Rattle.row_index.proofs.IndexLemmas.{index_put}
-use Rattle.row_index.proofs.RowLemmas.{other_key}
-use Rattle.text_index.proofs.KeptLemmas.{others_below, sum_pushed}
+use Rattle.router_state.specs.declared.rows.Activity.{Activity}
+use Rattle.rows_sorted.specs.Keys.{is_key}
+use Rattle.rows_sorted.proofs.NumberLemmas.{below_pushed}
+use Rattle.rows_sorted.proofs.OrderLemmas.{all_from_all}
+use Rattle.rows_index.specs.Index.{entry_key}
+use Rattle.rows_index.proofs.IndexLemmas.{index_put}
+use Rattle.rows_index.proofs.RowLemmas.{other_key}
+use Rattle.rows_index.proofs.KeptLemmas.{others_below, sum_pushed}
 use Rattle.activity_context.specs.Indexed.{name_entry, name_number}
 use Rattle.activity_context.proofs.PushLemmas.{put_last}
 use Rattle.activity_context.proofs.activities.Activities.push.Goals as goal

@@ -1,7 +1,7 @@
 -- the activity stands in its place, and the other one of its number gives way
-use Rattle.slee_state.specs.declared.rows.Activity.{Activity}
-use Rattle.sorted_rows.proofs.NumberLemmas.{below_put}
-use Rattle.text_index.proofs.KeptLemmas.{cut_is_free, put_over}
+use Rattle.router_state.specs.declared.rows.Activity.{Activity}
+use Rattle.rows_sorted.proofs.NumberLemmas.{below_put}
+use Rattle.rows_index.proofs.KeptLemmas.{cut_is_free, put_over}
 use Rattle.activity_context.specs.Views.{activity_before}
 use Rattle.activity_context.proofs.activities.Activities.put.Goals as goal
 

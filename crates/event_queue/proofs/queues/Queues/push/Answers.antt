@@ -1,6 +1,6 @@
 -- the event is put in its place
 use Rattle.std.proofs.Common.{refl, ◌∙◌}
-use Rattle.sorted_rows.proofs.AgreeLemmas.{queued_put}
+use Rattle.rows_sorted.proofs.AgreeLemmas.{queued_put}
 use Rattle.event_queue.proofs.queues.Queues.push.Goals as goal
 
 pub returns-clause-rows : goal.returns-clause-rows

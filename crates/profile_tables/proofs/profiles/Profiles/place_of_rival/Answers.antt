@@ -3,7 +3,7 @@ use Rattle.std.proofs.Common.{[], ap, subst}
 use Rattle.std.specs.Prelude.{Option}
 use Rattle.std.specs.List.{AllByRecursion}
 use Rattle.std.specs.Option.{option_map_or}
-use Rattle.slee_state.specs.declared.rows.ProfileRow.{ProfileRow}
+use Rattle.router_state.specs.declared.rows.ProfileRow.{ProfileRow}
 use Rattle.profile_tables.specs.Keeping.{in_byte_order}
 use Rattle.profile_tables.specs.Unique.{AreUnder}
 use Rattle.profile_tables.specs.declared.table_spec.TableSpec.{TableSpec}

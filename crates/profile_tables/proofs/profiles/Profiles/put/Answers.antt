@@ -1,10 +1,10 @@
 -- a row that is there makes room for the other one of its name, among the rows and among the entries
 use Rattle.std.proofs.Common.{◌+◌, ◌*◌, ◌≤◌, ◌≡◌, ap, ◌∙◌, arith, length}
 use Rattle.std.specs.Prelude.{◌-◌, find}
-use Rattle.row_tally.specs.Tallies.{total}
-use Rattle.row_tally.proofs.KeyLemmas.{all_some}
-use Rattle.row_tally.proofs.LengthLemmas.{put_as_long}
-use Rattle.text_index.specs.Numbers.{number_of}
+use Rattle.rows_index.specs.Tallies.{total}
+use Rattle.rows_index.proofs.KeyLemmas.{all_some}
+use Rattle.rows_index.proofs.LengthLemmas.{put_as_long}
+use Rattle.rows_index.specs.Numbers.{number_of}
 use Rattle.profile_tables.specs.Keeping.{in_byte_order, numbered_key}
 use Rattle.profile_tables.specs.Unique.{most_of, row_entries, without_old}
 use Rattle.profile_tables.specs.declared.numbered.NumberedRow.{NumberedRow}

@@ -1,6 +1,6 @@
 -- the attachment stands in its place, and its activity under its entity
 use Rattle.std.proofs.Common.{◌≡◌, true, refl, sym, ◌∙◌, arith}
-use Rattle.slee_state.specs.Contexts.{is_linked}
+use Rattle.router_state.specs.Contexts.{is_linked}
 use Rattle.router_order.specs.Placed.{attachments}
 use Rattle.router_order.proofs.IndexedLemmas.{attach_indexed, linked_by_key}
 use Rattle.router_order.proofs.ListingLemmas.{attached, put_keeps}

@@ -1,7 +1,7 @@
 -- the first one of the list that is wanted is the first of all
 use Rattle.std.proofs.Common.{◌∙◌, List, ap, sym}
 use Rattle.std.specs.Prelude.{find, option_map}
-use Rattle.slee_state.specs.declared.rows.Link.{Link}
+use Rattle.router_state.specs.declared.rows.Link.{Link}
 use Rattle.router_order.specs.Asked.{is_wanted, passes}
 use Rattle.router_order.specs.Placed.{attachments}
 use Rattle.router_order.proofs.IndexLemmas.{first_listed}

@@ -1,6 +1,6 @@
 -- attachments of the entity's tree are put in again, and paths of other entities stay
 use Rattle.std.proofs.Common.{◌∙◌, List, ap, arith, length, subst, sym}
-use Rattle.slee_state.specs.declared.rows.Entity.{Entity}
+use Rattle.router_state.specs.declared.rows.Entity.{Entity}
 use Rattle.router_order.specs.Listed.{Agrees, IsListing}
 use Rattle.router_order.specs.Placed.{attachments}
 use Rattle.router_order.proofs.IndexedLemmas.{gone_among}

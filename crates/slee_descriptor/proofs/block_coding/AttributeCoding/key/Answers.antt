@@ -1,8 +1,8 @@
 use Rattle.std.proofs.Common.{◌≡◌, ◌∙◌, ◌++◌, ap, subst, ℕ, List, Option, option_and_then, slice_get, find, bytes_eq}
 use Rattle.std.specs.Prelude.{IfOk, codes}
 use Rattle.std.specs.Option.{option_map_or}
-use Rattle.deployment_parts.specs.Firsts.{answer_of}
-use Rattle.deployment_parts.specs.Tables.{key_number}
+use Rattle.deploy_model.specs.Firsts.{answer_of}
+use Rattle.deploy_model.specs.Tables.{key_number}
 use Rattle.slee_descriptor.proofs.Aliases.{found_at}
 use Rattle.slee_descriptor.proofs.block_coding.AttributeCoding.key.Goals as goal
 

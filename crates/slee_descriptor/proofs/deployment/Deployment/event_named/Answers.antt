@@ -3,7 +3,7 @@ use Rattle.std.specs.Prelude.{IfSome}
 use Rattle.std.proofs.lemmas.List.{length-map}
 use Rattle.script_types.specs.declared.codes.Codes.{Codes}
 use Rattle.script_types.specs.declared.codes.EventCode.{EventCode}
-use Rattle.deployment_parts.specs.Resolving.{event_of}
+use Rattle.deploy_model.specs.Resolving.{event_of}
 use Rattle.slee_descriptor.proofs.Numbering.{within}
 use Rattle.slee_descriptor.proofs.deployment.Deployment.event_named.Goals as goal
 

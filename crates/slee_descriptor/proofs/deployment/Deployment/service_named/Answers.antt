@@ -2,11 +2,11 @@ use Rattle.std.proofs.Common.{◌≡◌, ◌<◌, ◌^◌, ◌∙◌, List, ℕ,
 use Rattle.std.specs.Prelude.{IfSome}
 use Rattle.std.proofs.lemmas.List.{length-map}
 use Rattle.script_types.specs.declared.codes.Codes.{Codes}
-use Rattle.deployment_parts.specs.declared.parts.Block.{Block}
-use Rattle.deployment_parts.specs.declared.parts.Service.{Service}
-use Rattle.deployment_parts.specs.Deployed.{DeployedService}
-use Rattle.deployment_parts.specs.Resolving.{service_of}
-use Rattle.deployment_parts.specs.Tables.{key_number}
+use Rattle.deploy_model.specs.declared.parts.Block.{Block}
+use Rattle.deploy_model.specs.declared.parts.Service.{Service}
+use Rattle.deploy_model.specs.Deployed.{DeployedService}
+use Rattle.deploy_model.specs.Resolving.{service_of}
+use Rattle.deploy_model.specs.Tables.{key_number}
 use Rattle.slee_descriptor.proofs.Numbering.{same_place, within}
 use Rattle.slee_descriptor.proofs.deployment.Deployment.service_named.Goals as goal
 

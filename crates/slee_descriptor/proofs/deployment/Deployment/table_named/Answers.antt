@@ -3,10 +3,10 @@ use Rattle.std.specs.Prelude.{IfSome}
 use Rattle.std.proofs.lemmas.List.{length-map}
 use Rattle.script_types.specs.declared.codes.Codes.{Codes}
 use Rattle.script_types.specs.declared.codes.TableCode.{TableCode}
-use Rattle.deployment_parts.specs.declared.parts.ProfileSpec.{ProfileSpec}
-use Rattle.deployment_parts.specs.Deployed.{DeployedTable}
-use Rattle.deployment_parts.specs.Resolving.{table_of}
-use Rattle.deployment_parts.specs.Tables.{key_number}
+use Rattle.deploy_model.specs.declared.parts.ProfileSpec.{ProfileSpec}
+use Rattle.deploy_model.specs.Deployed.{DeployedTable}
+use Rattle.deploy_model.specs.Resolving.{table_of}
+use Rattle.deploy_model.specs.Tables.{key_number}
 use Rattle.slee_descriptor.specs.CodesOfParts.{table_code}
 use Rattle.slee_descriptor.proofs.Numbering.{same_place, within}
 use Rattle.slee_descriptor.proofs.deployment.Deployment.table_named.Goals as goal

@@ -1,5 +1,5 @@
 use Rattle.std.proofs.Common.{◌∙◌, ◌++◌, ap, List, ℕ}
-use Rattle.deployment_parts.specs.Firsts.{answer_of}
+use Rattle.deploy_model.specs.Firsts.{answer_of}
 use Rattle.slee_descriptor.specs.Handlers.{blocks_for}
 use Rattle.slee_descriptor.proofs.HandledBlocks.{handled_once}
 use Rattle.slee_descriptor.proofs.handlers.Handlers.note_block.Goals as goal

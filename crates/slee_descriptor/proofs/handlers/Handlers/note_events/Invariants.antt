@@ -1,5 +1,5 @@
 use Rattle.std.proofs.Common.{◌≡◌, ◌++◌, ℕ, List, drop}
-use Rattle.deployment_parts.specs.Firsts.{answer_of}
+use Rattle.deploy_model.specs.Firsts.{answer_of}
 use Rattle.slee_descriptor.specs.Handlers.{blocks_for}
 use Rattle.slee_descriptor.specs.Handling.{handled_at}
 use Rattle.slee_descriptor.proofs.handlers.Handlers.note_events.Given as goal

@@ -1,7 +1,7 @@
 -- what is behind the last entry is left to be done
 use Rattle.std.proofs.Common.{◌≡◌, ◌≤◌}
 use Rattle.std.specs.List.{count_by}
-use Rattle.slee_state.specs.Timers.{advanced}
+use Rattle.router_state.specs.Timers.{advanced}
 use Rattle.timer_facility.specs.Indexed.{is_left}
 use Rattle.timer_facility.proofs.WalkLemmas.{done_behind}
 use Rattle.timer_facility.proofs.timer_rows.TimerRows.advance.Given as goal

@@ -2,7 +2,7 @@
 use Rattle.std.proofs.Common.{List, length, map, sum, refl, ap, ◌∙◌, arith}
 use Rattle.std.specs.Prelude.{nat_le, not}
 use Rattle.std.proofs.lemmas.List.Filters.{length-filter_both}
-use Rattle.row_index.specs.declared.entry.Entry.{Entry}
+use Rattle.rows_index.specs.declared.entry.Entry.{Entry}
 use Rattle.timer_facility.specs.Indexed.{fired_count_at}
 use Rattle.timer_facility.proofs.FiredLemmas.{count_is}
 use Rattle.timer_facility.proofs.timer_rows.TimerRows.count_of_fired.Goals as goal

@@ -1,9 +1,9 @@
 -- one timer goes after the other, until none is on the activity
 use Rattle.std.proofs.Common.{List, ◌==◌, sym, ap, ◌∙◌, arith}
-use Rattle.slee_state.specs.Timers.{without_timers_on}
-use Rattle.slee_state.specs.declared.rows.Timer.{Timer}
-use Rattle.sorted_rows.proofs.AgreeLemmas.{timer_order}
-use Rattle.row_index.proofs.RowLemmas.{all_stay, cut_fewer, each_fails}
+use Rattle.router_state.specs.Timers.{without_timers_on}
+use Rattle.router_state.specs.declared.rows.Timer.{Timer}
+use Rattle.rows_sorted.proofs.AgreeLemmas.{timer_order}
+use Rattle.rows_index.proofs.RowLemmas.{all_stay, cut_fewer, each_fails}
 use Rattle.timer_facility.proofs.RowLemmas.{cut_on_later, found_there}
 use Rattle.timer_facility.proofs.timer_rows.TimerRows.cut_on.Goals as goal
 

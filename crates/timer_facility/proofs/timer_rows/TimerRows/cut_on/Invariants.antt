@@ -1,6 +1,6 @@
 -- the timers on the activity that are still there are yet to be cut
 use Rattle.std.proofs.Common.{◌≡◌, ◌≤◌, length}
-use Rattle.slee_state.specs.Timers.{without_timers_on}
+use Rattle.router_state.specs.Timers.{without_timers_on}
 use Rattle.timer_facility.proofs.timer_rows.TimerRows.cut_on.Given as goal
 
 abbrev pub invariant-timers : goal.invariant-timers

@@ -1,10 +1,10 @@
 -- the first entry of the activity is that of a timer on it
 use Rattle.std.proofs.Common.{◌==◌, false, sym, ap, ◌∙◌, refl}
 use Rattle.std.specs.Option.{option_map_or}
-use Rattle.slee_state.specs.declared.rows.Timer.{Timer}
-use Rattle.row_index.specs.declared.entry.Entry.{Entry}
-use Rattle.sorted_rows.specs.Keys.{timer_key}
-use Rattle.row_index.proofs.RowLemmas.{any_fails, none_first, some_first}
+use Rattle.router_state.specs.declared.rows.Timer.{Timer}
+use Rattle.rows_index.specs.declared.entry.Entry.{Entry}
+use Rattle.rows_sorted.specs.Keys.{timer_key}
+use Rattle.rows_index.proofs.RowLemmas.{any_fails, none_first, some_first}
 use Rattle.timer_facility.proofs.timer_rows.TimerRows.first_on.Goals as goal
 
 pub returns-in-None-clause-first : goal.returns-in-None-clause-first

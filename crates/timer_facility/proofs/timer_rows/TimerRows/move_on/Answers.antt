@@ -1,11 +1,11 @@
 -- the timer is behind its due occurrences, and so is its entry
 use Rattle.std.proofs.Common.{ap, ◌∙◌, arith}
 use Rattle.std.proofs.lemmas.Bool.{or_left}
-use Rattle.slee_state.specs.Orders.{put}
-use Rattle.slee_state.specs.declared.rows.Timer.{Timer}
-use Rattle.sorted_rows.specs.Keys.{key_before, timer_key}
-use Rattle.sorted_rows.proofs.NumberLemmas.{rises_map}
-use Rattle.row_index.proofs.IndexLemmas.{index_map}
+use Rattle.router_state.specs.Orders.{put}
+use Rattle.router_state.specs.declared.rows.Timer.{Timer}
+use Rattle.rows_sorted.specs.Keys.{key_before, timer_key}
+use Rattle.rows_sorted.proofs.NumberLemmas.{rises_map}
+use Rattle.rows_index.proofs.IndexLemmas.{index_map}
 use Rattle.timer_facility.specs.Indexed.{activity_entry, moved_on}
 use Rattle.timer_facility.proofs.AdvanceLemmas.{activities_keep, each_keeps, entry_there, indexed_moved, moved_put, timer_there}
 use Rattle.timer_facility.proofs.timer_rows.TimerRows.move_on.Goals as goal

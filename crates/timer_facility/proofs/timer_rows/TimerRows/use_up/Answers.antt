@@ -1,8 +1,8 @@
 -- the timer that is found goes on, or is gone
 use Rattle.std.proofs.Common.{sym, ap, ◌∙◌}
-use Rattle.slee_state.specs.Timers.{timer_at}
-use Rattle.slee_state.specs.declared.rows.Timer.{Timer}
-use Rattle.row_index.proofs.RowLemmas.{found_number}
+use Rattle.router_state.specs.Timers.{timer_at}
+use Rattle.router_state.specs.declared.rows.Timer.{Timer}
+use Rattle.rows_index.proofs.RowLemmas.{found_number}
 use Rattle.timer_facility.proofs.WalkLemmas.{used_absent, used_goes, used_moves}
 use Rattle.timer_facility.proofs.timer_rows.TimerRows.use_up.Goals as goal
 

@@ -1,9 +1,9 @@
 -- those that go on keep their numbers
 use Rattle.std.proofs.Common.{refl}
 use Rattle.std.specs.List.{filter}
-use Rattle.slee_state.specs.Timers.{behind, due_count, goes_on}
-use Rattle.slee_state.specs.declared.rows.Timer.{Timer}
-use Rattle.sorted_rows.proofs.NumberLemmas.{below_filter, below_map}
+use Rattle.router_state.specs.Timers.{behind, due_count, goes_on}
+use Rattle.router_state.specs.declared.rows.Timer.{Timer}
+use Rattle.rows_sorted.proofs.NumberLemmas.{below_filter, below_map}
 use Rattle.timer_facility.proofs.timers.Timers.advance.Goals as goal
 
 pub invariant_of-self : goal.invariant_of-self

@@ -1,6 +1,6 @@
 -- those that are left stay below the next number
-use Rattle.slee_state.specs.declared.rows.Timer.{Timer}
-use Rattle.sorted_rows.proofs.NumberLemmas.{below_filter}
+use Rattle.router_state.specs.declared.rows.Timer.{Timer}
+use Rattle.rows_sorted.proofs.NumberLemmas.{below_filter}
 use Rattle.timer_facility.proofs.timers.Timers.cancel.Goals as goal
 
 pub invariant_of-self : goal.invariant_of-self

@@ -1,6 +1,6 @@
 -- the timer stands in its place, and the other one of its number gives way
-use Rattle.slee_state.specs.declared.rows.Timer.{Timer}
-use Rattle.sorted_rows.proofs.NumberLemmas.{below_put}
+use Rattle.router_state.specs.declared.rows.Timer.{Timer}
+use Rattle.rows_sorted.proofs.NumberLemmas.{below_put}
 use Rattle.timer_facility.specs.Views.{timer_before}
 use Rattle.timer_facility.proofs.KeptLemmas.{cut_is_free, put_over}
 use Rattle.timer_facility.proofs.timers.Timers.restore.Goals as goal

@@ -1,7 +1,7 @@
 -- the new timer has the greatest number
 use Rattle.std.proofs.Common.{refl, ◌∙◌}
-use Rattle.slee_state.specs.declared.rows.Timer.{Timer}
-use Rattle.sorted_rows.proofs.NumberLemmas.{below_pushed}
+use Rattle.router_state.specs.declared.rows.Timer.{Timer}
+use Rattle.rows_sorted.proofs.NumberLemmas.{below_pushed}
 use Rattle.timer_facility.proofs.KeptLemmas.{next_is_free, next_stands_last}
 use Rattle.timer_facility.proofs.timers.Timers.set.Goals as goal
 

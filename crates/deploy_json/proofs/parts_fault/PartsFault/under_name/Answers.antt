@@ -1,0 +1,10 @@
+use Rattle.std.proofs.Common.{◌≡◌, ◌∙◌, subst, List, ℕ}
+use Rattle.deploy_schema.specs.Pointers.{escaped}
+use Rattle.deploy_json.specs.Sources.{Tells, under}
+use Rattle.deploy_json.proofs.parts_fault.PartsFault.under_name.Goals as goal
+
+pub returns-in-Ok : goal.returns-in-Ok
+returns-in-Ok c = λ m t.
+    let e : c.as_str.result.now ≡ escaped c.args.name.now = c.as_str.ensures.value ∙ c.in-Ok.ensures in
+    let P : List ℕ → Type 0 = λ s. Tells (under s m) c.under.result in
+    subst P e (c.under.ensures m t)

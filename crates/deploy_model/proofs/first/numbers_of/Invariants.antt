@@ -1,0 +1,11 @@
+use Rattle.std.proofs.Common.{◌≡◌, ℕ, List, drop}
+use Rattle.std.specs.List.{position_from}
+use Rattle.std.specs.Str.{bytes_eq}
+use Rattle.deploy_model.specs.Firsts.{answer_of}
+use Rattle.deploy_model.specs.Rules.{or_later}
+use Rattle.deploy_model.proofs.first.numbers_of.Given as goal
+
+abbrev pub invariant-loop-i : goal.invariant-loop-i
+invariant-loop-i g l = (q : List ℕ) →
+    or_later (answer_of l.numbers q) (position_from (λ x. bytes_eq q (g.T.Named.name_of x)) l.i (drop l.i l.items))
+    ≡ position_from (λ x. bytes_eq q (g.T.Named.name_of x)) 0 l.items

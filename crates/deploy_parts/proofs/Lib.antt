@@ -1,4 +1,0 @@
-pub mod Faultless
-pub mod Shaped
-pub mod Each
-pub mod Misreading

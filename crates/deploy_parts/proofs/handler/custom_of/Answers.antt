@@ -1,6 +1,0 @@
-use Rattle.std.proofs.Common.{sym, subst}
-use Rattle.deploy_parts.specs.Shapes.{WhereThere, IsCustomRule}
-use Rattle.deploy_parts.proofs.handler.custom_of.Goals as goal
-
-pub custom_rule-requires : goal.custom_rule-requires
-custom_rule-requires c = subst (WhereThere IsCustomRule) (sym c.in-Some.ensures) c.requires

@@ -1,5 +1,0 @@
-pub mod Values
-pub mod Sources
-pub mod Rows
-pub mod Documents
-pub mod Shapes

@@ -1,4 +1,0 @@
-pub mod Walks
-pub mod LookUps
-pub mod NoFault
-pub mod Answering

@@ -1,5 +1,0 @@
-use Rattle.deploy_reading.proofs.Answering.{of_bytes}
-use Rattle.deploy_reading.proofs.reading.read_parts.Goals as goal
-
-pub returns-in-Ok : goal.returns-in-Ok
-returns-in-Ok c = record { sound = c.read_document.ensures.sound; read = of_bytes c.args.bytes.now _ c.read_document.result c.in-Ok.ensures c.read_document.ensures.read }

@@ -1,0 +1,5 @@
+pub mod Escapes
+pub mod Steps
+pub mod Noting
+pub mod NotingIds
+pub mod Items

@@ -1,0 +1,9 @@
+pub mod Pointers
+pub mod Forms
+pub mod Texts
+pub mod Numbers
+pub mod Scripts
+pub mod Ids
+pub mod Names
+pub mod Tables
+pub mod Lookups

@@ -1,4 +1,0 @@
-use Rattle.deploy_shape.proofs.map.check_one.Goals as goal
-
-pub returns-in-Err : goal.returns-in-Err
-returns-in-Err g c = c.under_name.ensures _ c.in-Err.ensures

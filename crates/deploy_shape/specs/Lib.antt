@@ -1,5 +1,0 @@
-pub mod Pointers
-pub mod Forms
-pub mod Texts
-pub mod Numbers
-pub mod Scripts

@@ -1,2 +1,0 @@
-pub mod NotingIds
-pub mod Items

@@ -1,4 +1,0 @@
-pub mod Ids
-pub mod Names
-pub mod Tables
-pub mod Lookups

@@ -1,6 +1,0 @@
-use Rattle.std.proofs.Common.{sym}
-use Rattle.expression_check.proofs.LocalLemmas.{place_found}
-use Rattle.expression_check.proofs.locals.Locals.place_of.Goals as goal
-
-pub returns : goal.returns
-returns c = rw (c.place_kept.ensures, c.kept_for.ensures, c.deref.ensures.value, ← c.self.view_is) (sym (place_found c.self.inside.places c.self.inside.locals.items c.args.name.now c.self.invariant))

@@ -1,5 +1,0 @@
-use Rattle.expression_parser.proofs.Followed.{before_took}
-use Rattle.expression_parser.proofs.levels.before.Goals as goal
-
-pub returns : goal.returns
-returns c = before_took _ _ _ _ _ _ _ c.in_ok-e.ensures c.in_ok-rest.ensures.read

@@ -1,2 +1,0 @@
-pub mod Proper
-pub mod Beginnings

@@ -1,6 +1,0 @@
--- no row stands before those up to a number
-use Rattle.leaf_rows.proofs.ShareLemmas.{none_ahead}
-use Rattle.leaf_rows.proofs.share.places_of.Goals as goal
-
-pub returns-in-UpTo-clause-start : goal.returns-in-UpTo-clause-start
-returns-in-UpTo-clause-start g c = none_ahead g.R.Keyed.key c.args.share c.in-UpTo.first c.in-UpTo.is c.args.rows.now

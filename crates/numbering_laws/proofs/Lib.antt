@@ -1,4 +1,0 @@
-pub mod Results
-pub mod Expressions
-pub mod Statements
-pub mod Programs

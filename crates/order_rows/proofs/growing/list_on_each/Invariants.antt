@@ -1,5 +1,0 @@
-use Rattle.router_order.specs.Listed.{IsListing}
-use Rattle.order_rows.proofs.growing.list_on_each.Given as goal
-
-abbrev pub invariant-activities : goal.invariant-activities
-invariant-activities l = IsListing l.tree.rows l.order.rows

@@ -1,5 +1,0 @@
-use Rattle.router_order.specs.Listed.{IsListing}
-use Rattle.order_rows.proofs.growing.list_up_to.Given as goal
-
-abbrev pub invariant-entities : goal.invariant-entities
-invariant-entities l = IsListing l.tree.rows l.order.rows

@@ -1,6 +1,0 @@
--- each call has a level less
-use Rattle.std.proofs.Common.{length}
-use Rattle.prefix_counts.proofs.levels.+replace.Given as goal
-
-abbrev pub decreases-replace : goal.decreases-replace
-decreases-replace l = length l.above.now

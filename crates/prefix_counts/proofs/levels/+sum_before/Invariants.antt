@@ -1,6 +1,0 @@
--- each call has a level less
-use Rattle.std.proofs.Common.{length}
-use Rattle.prefix_counts.proofs.levels.+sum_before.Given as goal
-
-abbrev pub decreases-sum_before : goal.decreases-sum_before
-decreases-sum_before l = length l.above.now

@@ -1,9 +1,0 @@
-use Rattle.std.proofs.Common.{◌≡◌, drop, map}
-use Rattle.script_types.specs.Programs.{◌>>=◌}
-use Rattle.program_check.specs.Building.{each}
-use Rattle.program_check.proofs.Lists.{behind}
-use Rattle.program_check.proofs.making.make_each.Given as goal
-
--- what the items so far are made into stands in front of what the rest is made into
-abbrev pub invariant-items : goal.invariant-items
-invariant-items g l = (each (g.M.Making.built l.making) l.number (drop l.number l.items) >>= behind (map g.M.Making.value_of l.made)) ≡ each (g.M.Making.built l.making) 0 l.items

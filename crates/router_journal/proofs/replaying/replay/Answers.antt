@@ -1,9 +1,0 @@
-use Rattle.std.proofs.Common.{sym, ◌∙◌}
-use Rattle.router_journal.proofs.Opens.{replay_cause}
-use Rattle.router_journal.proofs.replaying.replay.Goals as goal
-
-pub returns-in-Err-clause-bad : goal.returns-in-Err-clause-bad
-returns-in-Err-clause-bad g c =
-    let kept = c.args.journal.now.kept in
-    replay_cause kept.side c.side-side.result c.in-Err.fault c.refusal_of.result kept.head.snapshot c.snapshot.result.now c.args.journal.now.records c.records.result.now c.args.state.now.parts
-    c.side-side.ensures.side c.refusal_of.ensures c.snapshot.ensures (sym c.is_empty.ensures ∙ c.if-not-is_empty.false) c.records.ensures c.requires c.in-Err.ensures.bad

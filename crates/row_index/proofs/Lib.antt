@@ -1,4 +1,0 @@
-pub mod SumLemmas
-pub mod IndexLemmas
-pub mod FoundLemmas
-pub mod RowLemmas

@@ -1,0 +1,11 @@
+pub mod SumLemmas
+pub mod IndexLemmas
+pub mod FoundLemmas
+pub mod RowLemmas
+pub mod CountLemmas
+pub mod KeyLemmas
+pub mod LengthLemmas
+pub mod RunLemmas
+pub mod KeptLemmas
+pub mod SortLemmas
+pub mod ItemLemmas

@@ -1,0 +1,4 @@
+pub mod Index
+pub mod Tallies
+pub mod Numbers
+pub mod Found

@@ -1,0 +1,5 @@
+pub mod Dependence
+pub mod References
+pub mod Told
+pub mod Fitting
+pub mod Forgetting

@@ -1,8 +1,0 @@
-use Rattle.std.proofs.Common.{◌≡◌, drop}
-use Rattle.handler_meaning.specs.Overlay.{activities_after}
-use Rattle.script_reading.specs.Done.{done}
-use Rattle.script_reading.proofs.lists.do_to_activities.Given as goal
-
--- the effects so far are done
-abbrev pub invariant-loop-effect : goal.invariant-loop-effect
-invariant-loop-effect l = done (activities_after l.entity 0) (drop l.effect-index l.effects) l.refs.items ≡ done (activities_after l.entity 0) l.effects l.initial.refs.items

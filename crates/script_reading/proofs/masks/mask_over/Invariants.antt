@@ -1,8 +1,0 @@
-use Rattle.std.proofs.Common.{◌≡◌, drop}
-use Rattle.script_reading.specs.Done.{done}
-use Rattle.script_reading.specs.Masked.{mask_after}
-use Rattle.script_reading.proofs.masks.mask_over.Given as goal
-
--- the effects so far are done
-abbrev pub invariant-effects : goal.invariant-effects
-invariant-effects l = done (mask_after l.event.name l.attached l.scene.me l.activity) (drop l.place l.effects) l.current ≡ done (mask_after l.event.name l.attached l.scene.me l.activity) l.effects l.fn.first

@@ -1,7 +1,0 @@
-use Rattle.std.proofs.Common.{◌≡◌, drop}
-use Rattle.handler_meaning.specs.Answers.{value_under}
-use Rattle.script_reading.proofs.rows.value_under.Given as goal
-
--- those so far have other names
-abbrev pub invariant-fields : goal.invariant-fields
-invariant-fields l = value_under l.name.name (drop l.place l.fields) ≡ value_under l.name.name l.fields

@@ -1,8 +1,0 @@
-use Rattle.std.proofs.Common.{◌≡◌, drop}
-use Rattle.handler_meaning.specs.Overlay.{attached_after}
-use Rattle.script_reading.specs.Done.{done}
-use Rattle.script_reading.proofs.standing.attached_over.Given as goal
-
--- the effects so far are done
-abbrev pub invariant-loop-effect : goal.invariant-loop-effect
-invariant-loop-effect l = done (attached_after l.entity l.activity 0) (drop l.effect-index l.effects) l.current ≡ done (attached_after l.entity l.activity 0) l.effects l.first

@@ -1,8 +1,0 @@
-use Rattle.std.proofs.Common.{◌≡◌, drop}
-use Rattle.handler_meaning.specs.Overlay.{named_after}
-use Rattle.script_reading.specs.Done.{done}
-use Rattle.script_reading.proofs.standing.named_over.Given as goal
-
--- the effects so far are done
-abbrev pub invariant-loop-effect : goal.invariant-loop-effect
-invariant-loop-effect l = done (named_after l.name 0) (drop l.effect-index l.effects) l.current ≡ done (named_after l.name 0) l.effects l.fn.first

@@ -1,8 +1,0 @@
-use Rattle.std.proofs.Common.{◌≡◌, ◌+◌, ◌≤◌, drop}
-use Rattle.handler_meaning.specs.Overlay.{count_of}
-use Rattle.script_reading.specs.Things.{made_by}
-use Rattle.script_reading.proofs.things.count_made.Given as goal
-
--- what the effects so far made is counted
-abbrev pub invariant-loop-effect : goal.invariant-loop-effect
-invariant-loop-effect l = (l.count + count_of (made_by l.thing) (drop l.effect-index l.effects) ≡ count_of (made_by l.thing) l.effects) × (l.count ≤ l.effect-index)

@@ -1,6 +1,0 @@
-use Rattle.script_references.proofs.CheckedScripts.{script_refers}
-use Rattle.script_references.specs.References.{Among}
-use Rattle.script_references.proofs.laws.scripts_refer_to_what_is_known.Goals as goal
-
-pub returns : goal.returns
-returns c = λ known all program answers number block which steps e arguments before report made there is given earlier done answered. script_refers (Among known) all program answers number block which steps e arguments before report made there is given earlier done answered

@@ -1,2 +1,0 @@
-pub mod TidyScripts
-pub mod RunLemmas

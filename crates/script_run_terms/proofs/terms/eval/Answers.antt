@@ -1,0 +1,18 @@
+use Rattle.std.proofs.Common.{sym, subst}
+use Rattle.slee_effect.specs.declared.value.Val.{Val}
+use Rattle.script_meaning.specs.Running.{Ending}
+use Rattle.script_run_machine.specs.Settings.{setting_of}
+use Rattle.script_run_machine.specs.Agreeing.{Ends}
+use Rattle.script_run_machine.specs.Machines.{state_of}
+use Rattle.script_run_terms.proofs.ChainLemmas.{chain_eval, chain_numbered}
+use Rattle.script_run_terms.proofs.terms.eval.Goals as goal
+
+pub returns-in-Chain-clause-agrees : goal.returns-in-Chain-clause-agrees
+returns-in-Chain-clause-agrees c =
+    subst (λ (x : Ending Val). Ends x c.eval_chain.new.machine c.eval_chain.result) (sym (chain_eval (setting_of c.args.scene.now) c.args.term.now c.in-Chain.first c.in-Chain.more (state_of c.args.machine.now) c.in-Chain.is)) (rw (c.deref.ensures, c.deref-in-Chain.ensures.value) at c.eval_chain.ensures.agrees)
+
+pub eval_chain-requires-clause-first : goal.eval_chain-requires-clause-first
+eval_chain-requires-clause-first c = rw c.deref.ensures (chain_numbered c.args.scene.now.names.now c.args.term.now c.in-Chain.first c.in-Chain.more c.in-Chain.is c.requires.term).0
+
+pub eval_chain-requires-clause-more : goal.eval_chain-requires-clause-more
+eval_chain-requires-clause-more c = rw c.deref-in-Chain.ensures.value (chain_numbered c.args.scene.now.names.now c.args.term.now c.in-Chain.first c.in-Chain.more c.in-Chain.is c.requires.term).1

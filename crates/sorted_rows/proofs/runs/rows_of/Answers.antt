@@ -1,7 +1,0 @@
--- the rows between the two places are those of the number
-use Rattle.std.proofs.Common.{◌∙◌}
-use Rattle.sorted_rows.proofs.ShareLemmas.{run_shared}
-use Rattle.sorted_rows.proofs.runs.rows_of.Goals as goal
-
-pub returns : goal.returns
-returns g c = c.part.ensures ∙ (rw (c.run_of-run.ensures.start, c.run_of-run.ensures.end) (run_shared g.R.Keyed.key c.args.first c.args.rows.now c.requires))

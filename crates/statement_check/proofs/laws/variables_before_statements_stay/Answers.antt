@@ -1,6 +1,0 @@
-use Rattle.std.proofs.Common.{subst}
-use Rattle.statement_check.proofs.Grown.{AllGrow, statements_grow}
-use Rattle.statement_check.proofs.laws.variables_before_statements_stay.Goals as goal
-
-pub returns : goal.returns
-returns c = λ s scope at ys made h. subst (AllGrow scope) h (statements_grow s scope at ys)

@@ -1,0 +1,5 @@
+use Rattle.router_order.specs.Listed.{IsListing}
+use Rattle.test_order.proofs.growing.list_up_to.Given as goal
+
+abbrev pub invariant-entities : goal.invariant-entities
+invariant-entities l = IsListing l.tree.rows l.order.rows

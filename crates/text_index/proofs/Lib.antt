@@ -1,4 +1,0 @@
-pub mod RunLemmas
-pub mod KeptLemmas
-pub mod SortLemmas
-pub mod ItemLemmas
