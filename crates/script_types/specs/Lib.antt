@@ -15,3 +15,4 @@ pub mod ElaborationOfStatements
 pub mod Programs
 pub mod ProgramOf
 pub mod Numbers
+pub mod ProgramCode

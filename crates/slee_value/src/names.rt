@@ -59,6 +59,14 @@ impl Names {
         &self.names
     }
 
+    /// Gives the names out, without memory.
+    pub fn into_vec(self) -> Vec<Text>
+        ensures names { result.items ≡ self }
+        ensures rising { IsTrue (rises self) }
+    {
+        self.names
+    }
+
     /// How many names there are.
     pub fn len(&self) -> usize
         ensures length { result ≡ length self.now }
