@@ -4,7 +4,7 @@ ghost use Rattle.std.specs.Str.{bytes_eq};
 ghost use Rattle.commit_journal.specs.Views.{payload_of};
 ghost use Rattle.router_model.specs.State.{initial};
 ghost use Rattle.router_rules.specs.Payload.{choice_in};
-ghost use Rattle.router_core.specs.Plans.{HasRoomFor, IsPlanOf};
+ghost use Rattle.built_in_core.specs.Plans.{HasRoomFor, IsPlanOf};
 ghost use Rattle.router_rules.specs.Step.{after, is_choice, is_enabled};
 ghost use Rattle.router_rules.specs.History.{after_all};
 ghost use Rattle.router_durable.specs.Recovery.{wrong_at, wrong_by, after_if, misfit, choices_in};
@@ -12,8 +12,8 @@ ghost use Rattle.router_durable.specs.Replaying.{IsWrong, IsMisfit, misfit_at, r
 ghost use Rattle.router_durable.specs.Opening.{first_fault, IsReplayCause};
 
 use crate::OpenFault;
+use built_in_core::{INPUT_FRAME, Plan, State, choice_in};
 use commit_journal::{Journal, JournalBad, Record};
-use router_core::{INPUT_FRAME, Plan, State, choice_in};
 use signal_script::LINE_LIMIT;
 use slee_disk::{Disk, Side};
 use std::alloc::Global;

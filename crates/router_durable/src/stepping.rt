@@ -1,16 +1,16 @@
 //! Steps of the router that are kept in a journal, and what they leave on the disk.
 ghost use Rattle.router_durable.specs.Opening.{fault_of, begin_fault_of};
 ghost use Rattle.commit_journal.specs.declared.limits.TheConstants.{PAYLOAD_LIMIT, SIDE_FRAME, SIDE_LIMIT};
-ghost use Rattle.router_core.specs.Lent.{choice_of};
-ghost use Rattle.router_core.specs.Plans.{HasRoomFor, IsPlanOf};
+ghost use Rattle.built_in_core.specs.Lent.{choice_of};
+ghost use Rattle.built_in_core.specs.Plans.{HasRoomFor, IsPlanOf};
 ghost use Rattle.trace_history.specs.Views.{HasRoomForLines};
 ghost use Rattle.router_rules.specs.Step.{is_enabled, is_choice};
 ghost use Rattle.std.specs.Prelude.{◌≡◌, ◌≤◌, ◌<◌, ◌+◌, [], true, false, length, IsTrue, Some, None, Ok, Err, IfOk, IfErr, OnOk, OnErr, IsErrOf, IsOk};
 
 use crate::replaying::replay;
 use crate::{OpenFault, StepFault, Stop};
+use built_in_core::{ChoiceRef, Plan, State};
 use commit_journal::{AppendFault, BeginFault, Journal, JournalFault, SideFull};
-use router_core::{ChoiceRef, Plan, State};
 use slee_disk::{Disk, Failed};
 use slee_value::NoMemory;
 use std::alloc::Global;

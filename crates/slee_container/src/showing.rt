@@ -4,7 +4,7 @@ ghost use Rattle.slee_disk.specs.Writes.{Writes};
 ghost use Rattle.router_rules.specs.Show.{show_text};
 
 use crate::OutFault;
-use router_core::State;
+use built_in_core::State;
 use slee_disk::{Sink, write_whole};
 use std::alloc::Global;
 

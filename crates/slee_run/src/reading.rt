@@ -11,7 +11,7 @@ ghost use Rattle.std.specs.List.{list_all};
 ghost use Rattle.router_rules.specs.Taking.{is_input};
 
 use crate::{Given, Status};
-use router_core::Inputs;
+use built_in_core::Inputs;
 use signal_script::{SignalFault, Signals, read_signals};
 use slee_disk::{ReadFault, Source, read_whole};
 use std::alloc::Global;

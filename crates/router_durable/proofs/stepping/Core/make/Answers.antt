@@ -1,7 +1,7 @@
 use Rattle.std.proofs.Common.{◌≡◌, ap, sym, refl, subst, ◌∙◌, true}
 use Rattle.router_model.specs.State.{Parts}
 use Rattle.router_rules.specs.Step.{is_enabled}
-use Rattle.router_core.specs.Lent.{choice_of}
+use Rattle.built_in_core.specs.Lent.{choice_of}
 use Rattle.router_durable.proofs.Steps.{full_is, full_sound, room_for, still_refused}
 use Rattle.router_durable.proofs.stepping.Core.make.Goals as goal
 

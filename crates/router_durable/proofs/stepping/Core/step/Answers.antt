@@ -1,7 +1,7 @@
 use Rattle.std.proofs.Common.{ap, sym, refl, ◌∙◌, subst, length, ◌≤◌, ℕ, List, [], ◌∷◌, ◌++◌}
 use Rattle.router_model.specs.State.{Parts}
 use Rattle.router_rules.specs.Step.{after, step_entry}
-use Rattle.router_core.specs.Plans.{IsPlanOf}
+use Rattle.built_in_core.specs.Plans.{IsPlanOf}
 use Rattle.trace_history.specs.declared.entry.Entry.{Entry}
 use Rattle.router_durable.specs.Core.{is_down}
 use Rattle.router_durable.proofs.Steps.{still_refused, Flushed, Acknowledges, whole_leaves, whole_ok, whole_failed, same_held, full_is, full_sound, room_for, taken_back, back_sound}
