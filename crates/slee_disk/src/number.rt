@@ -2,8 +2,8 @@
 ghost use Rattle.std.specs.Prelude.{decimal};
 ghost use Rattle.slee_disk.specs.Writes.{Writes};
 
+use crate::{Failed, Sink, write_whole};
 use itoa::Buffer;
-use slee_disk::{Failed, Sink, write_whole};
 
 /// Writes a number in decimal digits.
 pub fn write_number<K: Sink>(out: &mut K, number: u64) -> Result<(), Failed>

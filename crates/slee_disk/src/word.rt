@@ -4,7 +4,7 @@ ghost use Rattle.std.specs.List.{position};
 ghost use Rattle.slee_disk.specs.Writes.{Writes};
 ghost use Rattle.slee_value.specs.Escape.{escaped, escape_of, is_escaped};
 
-use slee_disk::{Failed, Sink, write_whole};
+use crate::{Failed, Sink, write_whole};
 use slee_value::{hex_digit, needs_escape};
 
 /// Writes the bytes as a word: each that has to be escaped as `%` and two upper-case hexadecimal digits.
