@@ -10,25 +10,13 @@ ghost use Rattle.deploy_json.specs.Rows.{parts_row};
 ghost use Rattle.deploy_json.specs.Reading.{Tells};
 ghost use Rattle.deploy_json.specs.Checking.{checked_parts, reading_of, read_as};
 
-use crate::{ReadFault, read_parts};
-use deploy_model::{DeployFault, Parts};
+use crate::fault::ReadFault;
+use crate::reading::read_parts;
+use deploy_model::Parts;
 use handler_check::{CheckFault, Checked, check};
 use slee_descriptor::Deployment;
 use slee_value::NoMemory;
 use std::alloc::Global;
-
-/// The deployment that parts without fault are, its scripts not checked.
-fn deployment_of(alloc: Global, parts: Parts) -> Result<Deployment, NoMemory>
-    requires { parts_fault parts ≡ Option.None }
-    ensures same { IfOk result (λ d. d.parts ≡ parts) }
-    ensures codes { IfOk result (λ d. d.codes ≡ codes_in d.parts []) }
-{
-    match Deployment::build(alloc, parts) {
-        Ok(deployment) => Ok(deployment),
-        Err(DeployFault::NoMemory) => Err(NoMemory),
-        Err(DeployFault::At { path: _, kind: _ }) => unreachable!(),
-    }
-}
 
 /// The fault of a script.
 fn check_fault(fault: CheckFault) -> ReadFault
@@ -68,7 +56,7 @@ fn check_parts(alloc: Global, parts: Parts) -> Result<Checked, ReadFault>
     ensures typed { IfOk result (λ c. IsChecked c.codes) }
     ensures read { MatchResult result (λ c. checked_parts (Ok (parts_row parts)) ≡ Ok (read_as c)) (Tells (checked_parts (Ok (parts_row parts)))) }
 {
-    match deployment_of(alloc, parts) {
+    match Deployment::from_parts(alloc, parts) {
         Ok(deployment) => check_scripts(alloc, deployment),
         Err(NoMemory) => Err(ReadFault::NoMemory),
     }

@@ -52,7 +52,7 @@ fn parts_of(alloc: Global, document: &Value) -> Result<Parts, PartsFault>
 }
 
 /// The parts that a document without shape fault is, or its first script that can't be read.
-pub fn build_parts(alloc: Global, document: &Value) -> Result<Parts, PartsFault>
+pub(crate) fn build_parts(alloc: Global, document: &Value) -> Result<Parts, PartsFault>
     requires shape { shape_fault (view document.now) ≡ Option.None }
     ensures built { IfOk result (λ p. parts_row p ≡ parts_in (view document.now)) }
     ensures fault { Says (first_misread (view document.now)) result }

@@ -14,8 +14,6 @@ mod script;
 mod value;
 
 pub use checking::read_deployment;
-pub use document::build_parts;
 pub use fault::ReadFault;
 pub use handler_check::Checked;
-pub use parts_fault::PartsFault;
 pub use reading::read_parts;

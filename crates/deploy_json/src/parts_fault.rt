@@ -10,7 +10,7 @@ use std::alloc::{AllocError, AllocFailed, Global};
 
 /// Why no parts are built: the first script that can't be read, with its place as a JSON pointer.
 #[derive(Debug, Drop)]
-pub enum PartsFault {
+pub(crate) enum PartsFault {
     Misread { path: Text, fault: SyntaxFault },
     NoMemory,
 }

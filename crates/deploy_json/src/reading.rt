@@ -9,8 +9,9 @@ ghost use Rattle.deploy_json.specs.Sources.{first_misread, Tells as ScriptTells}
 ghost use Rattle.deploy_json.specs.Rows.{parts_row};
 ghost use Rattle.deploy_json.specs.Reading.{Tells, document_parts, parts_of, value_in};
 
+use crate::document::build_parts;
 use crate::fault::ReadFault;
-use crate::{PartsFault, build_parts};
+use crate::parts_fault::PartsFault;
 use deploy_model::{DeployFault, Parts};
 use deploy_schema::check_document;
 use handler_lang::SyntaxFault;

@@ -1,5 +1,5 @@
 //! Deployments. Clauses see one by its parts; what it says in words of the router is `deployed_of parts`.
-ghost use Rattle.std.specs.Prelude.{◌≡◌, [], IfOk, OnOk, IsTrue};
+ghost use Rattle.std.specs.Prelude.{◌≡◌, [], Option, IfOk, OnOk, IsTrue};
 ghost use Rattle.slee_descriptor.specs.CodesOfParts.{codes_in};
 ghost use Rattle.slee_descriptor.specs.Indexes.{AreIndexes, AreNumbered};
 ghost use Rattle.deploy_model.specs.Deployed.{event_named as event_so, profile_named as profile_so, table_named as table_so, block_named as block_so, service_named as service_so, handlers_of};
@@ -76,23 +76,23 @@ fn check_numbers(parts: &Parts) -> Result<(), NoMemory>
     Ok(())
 }
 
-/// The deployment that parts without fault are.
-fn deployment_of(alloc: Global, parts: Parts) -> Result<Deployment, NoMemory>
-    requires { IsTrue (is_deployment parts) }
-    ensures same { IfOk result (λ d. d.parts ≡ parts) }
-    ensures unchecked { IfOk result (λ d. d.codes.programs ≡ []) }
-{
-    check_numbers(&parts)?;
-    let indexes = indexes_of(alloc, &parts)?;
-    let codes = codes_of(alloc, &parts, &indexes)?;
-    Ok(Deployment {
-        parts,
-        codes,
-        indexes,
-    })
-}
-
 impl Deployment {
+    /// The deployment that parts without fault are.
+    pub fn from_parts(alloc: Global, parts: Parts) -> Result<Self, NoMemory>
+        requires { parts_fault parts ≡ Option.None }
+        ensures same { IfOk result (λ d. d.parts ≡ parts) }
+        ensures unchecked { IfOk result (λ d. d.codes.programs ≡ []) }
+    {
+        check_numbers(&parts)?;
+        let indexes = indexes_of(alloc, &parts)?;
+        let codes = codes_of(alloc, &parts, &indexes)?;
+        Ok(Deployment {
+            parts,
+            codes,
+            indexes,
+        })
+    }
+
     /// The deployment that the parts are, or the first fault that they have. The types of scripts are no matter of it.
     pub fn build(alloc: Global, parts: Parts) -> Result<Self, DeployFault>
         ensures same { IfOk result (λ d. d.parts ≡ parts) }
@@ -100,7 +100,7 @@ impl Deployment {
         ensures fault { Says (parts_fault parts) result }
     {
         check_parts(alloc, &parts)?;
-        Ok(deployment_of(alloc, parts)?)
+        Ok(Deployment::from_parts(alloc, parts)?)
     }
 
     /// The same deployment with these checked scripts. All else that scripts may name stays, and so do the scripts.
