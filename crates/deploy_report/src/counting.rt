@@ -4,7 +4,7 @@ ghost use Rattle.deploy_json.specs.Rows.{parts_row};
 ghost use Rattle.deploy_json.specs.Reading.{Tells};
 ghost use Rattle.deploy_report.specs.Counting.{counts_in, counts_of};
 
-use crate::Counts;
+use crate::counts::Counts;
 use deploy_json::{ReadFault, read_deployment};
 use slee_descriptor::Deployment;
 use std::alloc::Global;

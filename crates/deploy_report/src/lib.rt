@@ -1,4 +1,4 @@
-//! What is written of bytes that were read as a deployment: how many parts of each kind it has, or what is wrong with them.
+//! What is said of bytes that are read as a deployment: how many parts of each kind it has, or what is wrong with them.
 #![tactic(auto)]
 
 mod counting;
@@ -9,4 +9,3 @@ mod words;
 pub use counting::count_deployment;
 pub use counts::Counts;
 pub use printing::{write_counts, write_fault};
-pub use words::{check_word, shape_word, syntax_word};

@@ -4,7 +4,7 @@ ghost use Rattle.slee_disk.specs.Writes.{Writes};
 ghost use Rattle.deploy_report.specs.Words.{check_word, shape_word, syntax_word};
 ghost use Rattle.deploy_report.specs.Texts.{count_text, counts_text, pointer_word, place_text, script_text, fault_text};
 
-use crate::Counts;
+use crate::counts::Counts;
 use crate::words::{check_word, shape_word, syntax_word};
 use deploy_json::ReadFault;
 use deploy_model::DeployBad;

@@ -7,7 +7,7 @@ use script_tree::SyntaxBad;
 use script_types::CheckBad;
 
 /// The word for a fault of the shape.
-pub fn shape_word(kind: DeployBad) -> &'static str
+pub(crate) fn shape_word(kind: DeployBad) -> &'static str
     ensures { result.now ≡ shape_word kind }
 {
     match kind {
@@ -23,7 +23,7 @@ pub fn shape_word(kind: DeployBad) -> &'static str
 }
 
 /// The word for a fault of a script's text.
-pub fn syntax_word(kind: SyntaxBad) -> &'static str
+pub(crate) fn syntax_word(kind: SyntaxBad) -> &'static str
     ensures { result.now ≡ syntax_word kind }
 {
     match kind {
@@ -35,7 +35,7 @@ pub fn syntax_word(kind: SyntaxBad) -> &'static str
 }
 
 /// The word for a fault of a script that can be read.
-pub fn check_word(kind: CheckBad) -> &'static str
+pub(crate) fn check_word(kind: CheckBad) -> &'static str
     ensures { result.now ≡ check_word kind }
 {
     match kind {

@@ -7,14 +7,18 @@ ghost use Rattle.deploy_schema.specs.Lookups.{names_of};
 ghost use Rattle.deploy_schema.specs.Tables.{alias_name, alias_entry, relation, callbacks, block_parts, block_values, block_members};
 
 use crate::component::{Version, component};
+use crate::fault::{here, unless};
+use crate::form::{EntryForm, Form};
 use crate::handler::Handlers;
 use crate::kinds::attribute_kind;
+use crate::leaf::Priority;
 use crate::lookup::Lookup;
+use crate::map::{MapOf, Named};
 use crate::method::MethodForm;
-use crate::{
-    End, EntryForm, Form, FreshName, Label, MapOf, May, Named, Need, Object, Priority, Reference,
-    ScriptForm, Table, TextOf, TextRule, TypeWord, check_name, here, unless,
-};
+use crate::object::{End, May, Need, Object, Table};
+use crate::script::ScriptForm;
+use crate::text::{FreshName, Label, Reference, TextOf, TextRule, check_name};
+use crate::word::TypeWord;
 use deploy_model::{DeployBad, DeployFault};
 use serde_json::Value;
 use slee_value::Kind;

@@ -4,7 +4,7 @@ ghost use Rattle.deploy_schema.specs.Lookups.{id_answer};
 ghost use Rattle.deploy_schema.specs.Tables.{version};
 
 use crate::ids::Ids;
-use crate::{TextRule, check_fresh, check_label};
+use crate::text::{TextRule, check_fresh, check_label};
 use deploy_model::DeployFault;
 use serde_json::Value;
 use std::alloc::Global;

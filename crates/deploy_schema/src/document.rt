@@ -6,10 +6,14 @@ ghost use Rattle.deploy_schema.specs.Tables.{top_members, fault_by, shape_fault}
 
 use crate::block::BlockForm;
 use crate::event::EventForm;
+use crate::form::Form;
+use crate::list::ListOf;
 use crate::lookup::{Lookup, lookup_of};
+use crate::map::{MapOf, Named};
+use crate::object::{End, May, Object, Table};
 use crate::profile::ProfileForm;
 use crate::service::ServiceForm;
-use crate::{End, Form, ListOf, MapOf, May, Named, Object, Reference, Table, TextOf};
+use crate::text::{Reference, TextOf};
 use deploy_model::DeployFault;
 use serde_json::Value;
 use std::alloc::Global;

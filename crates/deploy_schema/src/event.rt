@@ -6,11 +6,14 @@ ghost use Rattle.deploy_schema.specs.Lookups.{names_of};
 ghost use Rattle.deploy_schema.specs.Tables.{event_key, event_members};
 
 use crate::component::{Version, component};
+use crate::fault::unless;
+use crate::firsts::Numbers;
+use crate::form::Form;
 use crate::lookup::Lookup;
-use crate::{
-    End, Form, Label, MapOf, May, Named, Need, Numbers, Object, TextOf, TextRule, TypeWord,
-    check_fresh, check_name, unless,
-};
+use crate::map::{MapOf, Named};
+use crate::object::{End, May, Need, Object};
+use crate::text::{Label, TextOf, TextRule, check_fresh, check_name};
+use crate::word::TypeWord;
 use built_in_events::BuiltInEvent;
 use deploy_model::{DeployBad, DeployFault};
 use serde_json::Value;

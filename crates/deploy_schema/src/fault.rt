@@ -8,7 +8,7 @@ use slee_value::{NoMemory, Text};
 use std::alloc::Global;
 
 /// A fault of the value itself.
-pub fn here(alloc: Global, kind: DeployBad) -> DeployFault
+pub(crate) fn here(alloc: Global, kind: DeployBad) -> DeployFault
     ensures { Tells (first_here kind) result }
 {
     DeployFault::At {
@@ -18,7 +18,7 @@ pub fn here(alloc: Global, kind: DeployBad) -> DeployFault
 }
 
 /// A fault of the value itself unless the test holds.
-pub fn unless(alloc: Global, holds: bool, kind: DeployBad) -> Result<(), DeployFault>
+pub(crate) fn unless(alloc: Global, holds: bool, kind: DeployBad) -> Result<(), DeployFault>
     ensures { Says (unless_so holds kind) result }
 {
     if holds {
@@ -39,7 +39,7 @@ pub fn moved(alloc: Global, step: &str, path: &str) -> Result<Text, NoMemory>
 }
 
 /// The fault, seen from what has the faulty value at this step, which needs no escape.
-pub fn under_step(alloc: Global, step: &str, fault: DeployFault) -> DeployFault
+pub(crate) fn under_step(alloc: Global, step: &str, fault: DeployFault) -> DeployFault
     ensures { (m : Option Fault) → Tells m fault → Tells (under step.now m) result }
 {
     match fault {
@@ -76,7 +76,7 @@ pub fn escaped_step(alloc: Global, name: &str) -> Result<String, NoMemory>
 }
 
 /// The fault, seen from the object that has the faulty value under this name.
-pub fn under_name(alloc: Global, name: &str, fault: DeployFault) -> DeployFault
+pub(crate) fn under_name(alloc: Global, name: &str, fault: DeployFault) -> DeployFault
     ensures { (m : Option Fault) → Tells m fault → Tells (under (escaped name.now) m) result }
 {
     match escaped_step(alloc, name) {

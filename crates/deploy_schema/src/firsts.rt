@@ -10,12 +10,12 @@ use std::alloc::Global;
 
 /// From names to what the first of each stands for.
 #[derive(Drop)]
-pub struct Firsts<'v, V> {
+pub(crate) struct Firsts<'v, V> {
     found: IndexMap<&'v str, V>,
 }
 
 impl<'v, V: Copy> Firsts<'v, V> {
-    pub fn new(alloc: Global) -> Self
+    pub(crate) fn new(alloc: Global) -> Self
         ensures { (q : Bytes) → answer_of result q ≡ Option.None }
     {
         Firsts {
@@ -24,7 +24,7 @@ impl<'v, V: Copy> Firsts<'v, V> {
     }
 
     /// The name stands for the value, if it stood for nothing before.
-    pub fn note(&mut self, name: &'v str, value: V) -> Result<(), NoMemory>
+    pub(crate) fn note(&mut self, name: &'v str, value: V) -> Result<(), NoMemory>
         ensures { OnOk result ((q : Bytes) → answer_of self.new q ≡ or_later (answer_of self.old q) (where_named value (Option.Some name.now) q)) }
     {
         if self.found.get(&name).is_some() {
@@ -35,7 +35,7 @@ impl<'v, V: Copy> Firsts<'v, V> {
     }
 
     /// What the name stands for.
-    pub fn get(&self, name: &str) -> Option<V>
+    pub(crate) fn get(&self, name: &str) -> Option<V>
         ensures { result ≡ answer_of self.now name.now }
     {
         self.found.get(&name).copied()
@@ -43,4 +43,4 @@ impl<'v, V: Copy> Firsts<'v, V> {
 }
 
 /// Which item of a list has each name.
-pub type Numbers<'v> = Firsts<'v, usize>;
+pub(crate) type Numbers<'v> = Firsts<'v, usize>;

@@ -7,7 +7,7 @@ use serde_json::Value;
 use std::alloc::Global;
 
 /// A form of values.
-pub trait Form {
+pub(crate) trait Form {
     ghost use Rattle.std.specs.Prelude.{ℕ, Option};
     ghost use Rattle.serde_json.specs.Data.{Data};
 
@@ -25,7 +25,7 @@ pub trait Form {
 }
 
 /// A form of the members of a map, which may go by the member's name.
-pub trait EntryForm {
+pub(crate) trait EntryForm {
     ghost use Rattle.std.specs.Prelude.{ℕ, Option};
     ghost use Rattle.script_tree.specs.Tree.{Bytes};
     ghost use Rattle.serde_json.specs.Data.{Data};

@@ -4,13 +4,18 @@ ghost use Rattle.deploy_schema.specs.Numbers.{answer_of};
 ghost use Rattle.deploy_schema.specs.Lookups.{names_of};
 ghost use Rattle.deploy_schema.specs.Tables.{event_name, handler_members, handler, handlers};
 
+use crate::fault::here;
+use crate::firsts::Numbers;
+use crate::form::Form;
+use crate::leaf::Flag;
+use crate::list::ListOf;
 use crate::lookup::Lookup;
 use crate::member::text_at;
+use crate::numbers::{array_items, numbers_of};
+use crate::object::{End, May, Need, NeedIf, Object, Table};
+use crate::script::ScriptForm;
 use crate::selection::{Custom, Initial, is_custom};
-use crate::{
-    End, Flag, Form, ListOf, May, Need, NeedIf, Numbers, Object, ScriptForm, Table, TextOf,
-    TextRule, array_items, check_fresh, here, numbers_of,
-};
+use crate::text::{TextOf, TextRule, check_fresh};
 use deploy_model::{DeployBad, DeployFault};
 use serde_json::Value;
 use std::alloc::Global;

@@ -7,8 +7,10 @@ ghost use Rattle.serde_json.specs.Find.{as_str};
 ghost use Rattle.deploy_schema.specs.Numbers.{answer_of};
 ghost use Rattle.deploy_schema.specs.Names.{kind_in as in_so, kind_at as at_so, attribute_kind as attribute_so, aliased_by, alias_in, members_at, alias_kind};
 
+use crate::firsts::Firsts;
 use crate::member::object_at;
-use crate::{Firsts, kind_of_word, member_text};
+use crate::numbers::member_text;
+use crate::word::kind_of_word;
 use serde_json::{Map, Value};
 use slee_value::{Kind, NoMemory};
 use std::alloc::Global;

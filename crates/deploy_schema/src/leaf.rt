@@ -9,14 +9,14 @@ use serde_json::Value;
 use std::alloc::Global;
 
 /// The least priority.
-pub const LEAST_PRIORITY: i64 = -128;
+const LEAST_PRIORITY: i64 = -128;
 
 /// The greatest priority.
-pub const GREATEST_PRIORITY: i64 = 127;
+const GREATEST_PRIORITY: i64 = 127;
 
 /// A priority.
 #[derive(Drop)]
-pub struct Priority;
+pub(crate) struct Priority;
 
 impl Form for Priority {
     ghost fault = { λ _. priority };
@@ -41,7 +41,7 @@ impl Form for Priority {
 
 /// A truth value.
 #[derive(Drop)]
-pub struct Flag;
+pub(crate) struct Flag;
 
 impl Form for Flag {
     ghost fault = { λ _. flag };
@@ -62,7 +62,7 @@ impl Form for Flag {
 
 /// A value of a form, or null.
 #[derive(Drop)]
-pub struct OrNull<F>(pub F);
+pub(crate) struct OrNull<F>(pub F);
 
 impl<F: Form> Form for OrNull<F> {
     ghost fault = { λ s. or_null (F.fault s.0) };

@@ -27,17 +27,7 @@ mod text;
 mod word;
 
 pub use document::check_document;
-pub use fault::{escaped_step, here, moved, printed, under_name, unless};
-pub use firsts::{Firsts, Numbers};
-pub use form::{EntryForm, Form};
-pub use leaf::{Flag, GREATEST_PRIORITY, LEAST_PRIORITY, OrNull, Priority};
-pub use list::ListOf;
-pub use map::{MapOf, Named};
+pub use fault::{escaped_step, moved, printed};
 pub use member::{object_at, text_at, text_or_empty};
-pub use numbers::{array_items, items_in, member_text, number_of_name, numbers_of};
-pub use object::{End, May, Need, NeedIf, Object, Table, check_member};
-pub use script::ScriptForm;
-pub use text::{
-    AnyText, FreshName, Label, Reference, TextOf, TextRule, check_fresh, check_label, check_name,
-};
-pub use word::{ProfileWord, TypeWord, kind_of_word};
+pub use numbers::{array_items, items_in, member_text};
+pub use word::kind_of_word;

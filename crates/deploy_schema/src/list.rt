@@ -12,7 +12,7 @@ use std::alloc::Global;
 
 /// An array, each item of one form.
 #[derive(Drop)]
-pub struct ListOf<F>(pub F);
+pub(crate) struct ListOf<F>(pub F);
 
 impl<F: Form> Form for ListOf<F> {
     ghost fault = { λ s. list_of (F.fault s.0) };

@@ -7,9 +7,10 @@ ghost use Rattle.deploy_schema.specs.Numbers.{answer_of, numbers_from};
 ghost use Rattle.deploy_schema.specs.Ids.{ids_from};
 ghost use Rattle.deploy_schema.specs.Lookups.{names_of, id_answer};
 
+use crate::firsts::Numbers;
 use crate::ids::{Ids, ids_of};
 use crate::kinds::{Kinds, aliases_of, kind_at};
-use crate::{Numbers, items_in, number_of_name, numbers_of};
+use crate::numbers::{items_in, number_of_name, numbers_of};
 use deploy_model::{built_in_field, is_built_in};
 use serde_json::Value;
 use slee_value::{Kind, NoMemory};

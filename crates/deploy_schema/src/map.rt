@@ -13,7 +13,7 @@ use std::alloc::Global;
 
 /// An object whose members have one form, which may go by their names.
 #[derive(Drop)]
-pub struct MapOf<E>(pub E);
+pub(crate) struct MapOf<E>(pub E);
 
 impl<E: EntryForm> Form for MapOf<E> {
     ghost fault = { λ s. map_of (E.entry_fault s.0) };
@@ -65,7 +65,7 @@ fn check_one<E: EntryForm>(
 
 /// A member whose name is of the form of names.
 #[derive(Drop)]
-pub struct Named<F>(pub F);
+pub(crate) struct Named<F>(pub F);
 
 impl<F: Form> EntryForm for Named<F> {
     ghost entry_fault = { λ s. named (F.fault s.0) };

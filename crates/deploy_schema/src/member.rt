@@ -5,7 +5,7 @@ ghost use Rattle.serde_json.specs.View.{view, members_view};
 ghost use Rattle.std.specs.Prelude.{option_and_then};
 ghost use Rattle.deploy_schema.specs.Ids.{text_at as text_so};
 
-use crate::member_text;
+use crate::numbers::member_text;
 use serde_json::{Map, Value};
 
 /// The text that a value is, empty where it is none.

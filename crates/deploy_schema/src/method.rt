@@ -4,10 +4,15 @@ ghost use Rattle.deploy_model.specs.Faults.{Says};
 ghost use Rattle.deploy_schema.specs.Numbers.{answer_of};
 ghost use Rattle.deploy_schema.specs.Tables.{parameter, parameters, method};
 
-use crate::{
-    End, Form, FreshName, ListOf, May, Need, Numbers, Object, OrNull, ScriptForm, TextOf, TypeWord,
-    array_items, numbers_of,
-};
+use crate::firsts::Numbers;
+use crate::form::Form;
+use crate::leaf::OrNull;
+use crate::list::ListOf;
+use crate::numbers::{array_items, numbers_of};
+use crate::object::{End, May, Need, Object};
+use crate::script::ScriptForm;
+use crate::text::{FreshName, TextOf};
+use crate::word::TypeWord;
 use deploy_model::DeployFault;
 use serde_json::Value;
 use std::alloc::Global;

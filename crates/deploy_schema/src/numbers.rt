@@ -54,7 +54,7 @@ fn note_item<'v>(
 }
 
 /// Which item of an array has each text at the member.
-pub fn numbers_of<'v>(
+pub(crate) fn numbers_of<'v>(
     alloc: Global,
     name: &str,
     items: &'v [Value],
@@ -69,7 +69,7 @@ pub fn numbers_of<'v>(
 }
 
 /// What a text names, where it is of the form of names.
-pub fn number_of_name(numbers: &Numbers, name: &str) -> Option<usize>
+pub(crate) fn number_of_name(numbers: &Numbers, name: &str) -> Option<usize>
     ensures { result ≡ name_number (answer_of numbers.now) name.now }
 {
     if Name::is_name(name.as_bytes()) {

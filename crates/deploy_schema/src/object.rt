@@ -12,7 +12,7 @@ use serde_json::{Map, Value};
 use std::alloc::Global;
 
 /// The members that an object may have, in order.
-pub trait Table {
+pub(crate) trait Table {
     ghost use Rattle.std.specs.Prelude.{List};
 
     ghost wants: { Self → List Want };
@@ -28,7 +28,7 @@ pub trait Table {
 
 /// The end of a table.
 #[derive(Drop)]
-pub struct End;
+pub(crate) struct End;
 
 impl Table for End {
     ghost wants = { λ _. [] };
@@ -49,7 +49,7 @@ impl Table for End {
 
 /// A member that has to be there, and the rest of the table.
 #[derive(Drop)]
-pub struct Need<'n, F, R>(pub &'n str, pub F, pub R);
+pub(crate) struct Need<'n, F, R>(pub &'n str, pub F, pub R);
 
 impl<'n, F: Form, R: Table> Table for Need<'n, F, R> {
     ghost wants = { λ s. need s.0.now (F.fault s.1) ∷ R.wants s.2 };
@@ -66,7 +66,7 @@ impl<'n, F: Form, R: Table> Table for Need<'n, F, R> {
 
 /// A member that may be absent, and the rest of the table.
 #[derive(Drop)]
-pub struct May<'n, F, R>(pub &'n str, pub F, pub R);
+pub(crate) struct May<'n, F, R>(pub &'n str, pub F, pub R);
 
 impl<'n, F: Form, R: Table> Table for May<'n, F, R> {
     ghost wants = { λ s. may s.0.now (F.fault s.1) ∷ R.wants s.2 };
@@ -83,7 +83,7 @@ impl<'n, F: Form, R: Table> Table for May<'n, F, R> {
 
 /// A member that has to be there where the test says so, and the rest of the table.
 #[derive(Drop)]
-pub struct NeedIf<'n, F, R>(pub &'n str, pub bool, pub F, pub R);
+pub(crate) struct NeedIf<'n, F, R>(pub &'n str, pub bool, pub F, pub R);
 
 impl<'n, F: Form, R: Table> Table for NeedIf<'n, F, R> {
     ghost wants = { λ s. record { name = s.0.now; needed = s.1; form = F.fault s.2 } ∷ R.wants s.3 };
@@ -99,7 +99,7 @@ impl<'n, F: Form, R: Table> Table for NeedIf<'n, F, R> {
 }
 
 /// The member of an object at this name.
-pub fn check_member<F: Form>(
+fn check_member<F: Form>(
     alloc: Global,
     name: &str,
     needed: bool,
@@ -137,7 +137,7 @@ fn check_value<F: Form>(
 
 /// An object that has the members of a table and no others.
 #[derive(Drop)]
-pub struct Object<T>(pub T);
+pub(crate) struct Object<T>(pub T);
 
 impl<T: Table> Form for Object<T> {
     ghost fault = { λ s. object (T.wants s.0) };

@@ -5,12 +5,15 @@ ghost use Rattle.deploy_schema.specs.Lookups.{names_of};
 ghost use Rattle.deploy_schema.specs.Tables.{attribute_name, profile_members};
 
 use crate::component::{Version, component};
+use crate::fault::unless;
+use crate::form::Form;
 use crate::kinds::attribute_kind;
+use crate::list::ListOf;
 use crate::lookup::Lookup;
-use crate::{
-    End, Form, FreshName, Label, ListOf, MapOf, May, Named, Need, Object, ProfileWord, TextOf,
-    TextRule, unless,
-};
+use crate::map::{MapOf, Named};
+use crate::object::{End, May, Need, Object};
+use crate::text::{FreshName, Label, TextOf, TextRule};
+use crate::word::ProfileWord;
 use deploy_model::{DeployBad, DeployFault};
 use serde_json::Value;
 use std::alloc::Global;

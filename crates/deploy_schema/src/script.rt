@@ -11,7 +11,7 @@ use std::alloc::Global;
 
 /// A text, or an array of texts.
 #[derive(Drop)]
-pub struct ScriptForm;
+pub(crate) struct ScriptForm;
 
 impl Form for ScriptForm {
     ghost fault = { λ _. script };

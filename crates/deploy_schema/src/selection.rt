@@ -10,12 +10,14 @@ ghost use Rattle.deploy_schema.specs.Lookups.{names_of};
 ghost use Rattle.deploy_schema.specs.Names.{texts_of};
 ghost use Rattle.deploy_schema.specs.Tables.{variable, initial, is_custom as custom_so, selection_rule, selection_field, custom_rule, unwanted, custom};
 
+use crate::fault::{here, unless};
+use crate::form::Form;
+use crate::list::ListOf;
 use crate::lookup::Lookup;
 use crate::member::text_or_empty;
-use crate::{
-    End, Form, ListOf, Need, Object, TextOf, TextRule, array_items, check_fresh, here, items_in,
-    unless,
-};
+use crate::numbers::{array_items, items_in};
+use crate::object::{End, Need, Object};
+use crate::text::{TextOf, TextRule, check_fresh};
 use built_in_events::BuiltInEvent;
 use deploy_model::{DeployBad, DeployFault, rule_of, variable_of};
 use serde_json::Value;

@@ -5,8 +5,11 @@ ghost use Rattle.deploy_schema.specs.Lookups.{names_of};
 ghost use Rattle.deploy_schema.specs.Tables.{service_members};
 
 use crate::component::{Version, component};
+use crate::form::Form;
+use crate::leaf::{Flag, Priority};
 use crate::lookup::Lookup;
-use crate::{End, Flag, Form, FreshName, Label, May, Need, Object, Priority, Reference, TextOf};
+use crate::object::{End, May, Need, Object};
+use crate::text::{FreshName, Label, Reference, TextOf};
 use deploy_model::DeployFault;
 use serde_json::Value;
 use std::alloc::Global;

@@ -16,7 +16,7 @@ use slee_value::Name;
 use std::alloc::Global;
 
 /// A rule that texts may keep.
-pub trait TextRule {
+pub(crate) trait TextRule {
     ghost use Rattle.std.specs.Prelude.{ℕ, Option};
     ghost use Rattle.script_tree.specs.Tree.{Bytes};
     ghost use Rattle.serde_json.specs.Data.{Data};
@@ -36,7 +36,7 @@ pub trait TextRule {
 
 /// A text that keeps a rule.
 #[derive(Drop)]
-pub struct TextOf<R>(pub R);
+pub(crate) struct TextOf<R>(pub R);
 
 impl<R: TextRule> Form for TextOf<R> {
     ghost fault = { λ s. text_so (R.text_fault s.0) };
@@ -57,7 +57,7 @@ impl<R: TextRule> Form for TextOf<R> {
 
 /// Any text.
 #[derive(Drop)]
-pub struct AnyText;
+pub(crate) struct AnyText;
 
 impl TextRule for AnyText {
     ghost text_fault = { λ _. any_text };
@@ -75,7 +75,7 @@ impl TextRule for AnyText {
 
 /// A name, vendor or version.
 #[derive(Drop)]
-pub struct Label;
+pub(crate) struct Label;
 
 impl TextRule for Label {
     ghost text_fault = { λ _. label };
@@ -92,7 +92,7 @@ impl TextRule for Label {
 }
 
 /// A text of 1 to 256 bytes.
-pub fn check_label(alloc: Global, text: &str) -> Result<(), DeployFault>
+pub(crate) fn check_label(alloc: Global, text: &str) -> Result<(), DeployFault>
     ensures { Says (label_rule text.now) result }
 {
     unless(
@@ -103,14 +103,14 @@ pub fn check_label(alloc: Global, text: &str) -> Result<(), DeployFault>
 }
 
 /// The form of names.
-pub fn check_name(alloc: Global, text: &str) -> Result<(), DeployFault>
+pub(crate) fn check_name(alloc: Global, text: &str) -> Result<(), DeployFault>
     ensures { Says (name_rule text.now) result }
 {
     unless(alloc, Name::is_name(text.as_bytes()), DeployBad::BadName)
 }
 
 /// What names item `number` and no earlier one.
-pub fn check_fresh(alloc: Global, named: Option<usize>, number: usize) -> Result<(), DeployFault>
+pub(crate) fn check_fresh(alloc: Global, named: Option<usize>, number: usize) -> Result<(), DeployFault>
     ensures { Says (fresh_so named number) result }
 {
     match named {
@@ -121,7 +121,7 @@ pub fn check_fresh(alloc: Global, named: Option<usize>, number: usize) -> Result
 
 /// A name that no earlier item of the list has.
 #[derive(Drop)]
-pub struct FreshName<'a, 'v>(pub &'a Numbers<'v>);
+pub(crate) struct FreshName<'a, 'v>(pub &'a Numbers<'v>);
 
 impl<'a, 'v> TextRule for FreshName<'a, 'v> {
     ghost text_fault = { λ s. fresh_name (answer_of s.0.now) };
@@ -140,7 +140,7 @@ impl<'a, 'v> TextRule for FreshName<'a, 'v> {
 
 /// The name of some item of a list, be it earlier or later.
 #[derive(Drop)]
-pub struct Reference<'a, 'v>(pub &'a Numbers<'v>);
+pub(crate) struct Reference<'a, 'v>(pub &'a Numbers<'v>);
 
 impl<'a, 'v> TextRule for Reference<'a, 'v> {
     ghost text_fault = { λ s. reference (answer_of s.0.now) };

@@ -32,7 +32,7 @@ pub fn kind_of_word(word: &str) -> Option<Kind>
 
 /// The word of a type.
 #[derive(Drop)]
-pub struct TypeWord;
+pub(crate) struct TypeWord;
 
 impl TextRule for TypeWord {
     ghost text_fault = { λ _. type_word };
@@ -50,7 +50,7 @@ impl TextRule for TypeWord {
 
 /// The word of a type that a profile's attribute may have.
 #[derive(Drop)]
-pub struct ProfileWord;
+pub(crate) struct ProfileWord;
 
 impl TextRule for ProfileWord {
     ghost text_fault = { λ _. profile_word };

@@ -6,7 +6,7 @@ use slee_value::NoMemory;
 
 /// The first fault of all scripts, with the script in which it stands, or want of memory.
 #[derive(Debug, Drop)]
-pub enum CodeFault {
+pub(crate) enum CodeFault {
     At { place: CodePlace, misuse: Misuse },
     NoMemory,
 }

@@ -3,9 +3,10 @@ ghost use Rattle.std.specs.Prelude.{◌≡◌, IfOk, MatchResult, Ok, Err};
 ghost use Rattle.script_types.specs.ProgramOf.{IsChecked, kept_program};
 ghost use Rattle.handler_check.specs.Told.{Tells, checked, fault_at};
 
+use crate::code_fault::CodeFault;
 use crate::fault::CheckFault;
 use crate::path::{path_of, token_place};
-use crate::{CodeFault, check_codes};
+use crate::program::check_codes;
 use script_types::{CodePlace, Codes, Misuse};
 use slee_descriptor::Deployment;
 use std::alloc::Global;

@@ -11,8 +11,6 @@ mod path;
 mod program;
 mod task;
 
-pub use code_fault::CodeFault;
 pub use deployment::{Checked, check};
 pub use fault::CheckFault;
-pub use program::check_codes;
 pub use script_types::CheckBad;

@@ -58,7 +58,7 @@ fn check_blocks(
 }
 
 /// What all scripts are made into, block by block, or the first fault with the script in which it stands.
-pub fn check_codes(alloc: Global, codes: &Codes) -> Result<CodeList<BlockSteps>, CodeFault>
+pub(crate) fn check_codes(alloc: Global, codes: &Codes) -> Result<CodeList<BlockSteps>, CodeFault>
     ensures { Builds (λ l. map block_program_of l) result (program_of (codes_of codes.now)) }
 {
     let fields = BuiltInFields::new(alloc)?;

@@ -1,5 +1,5 @@
 //! What a transaction already has.
-use crate::Keys;
+use crate::keys::Keys;
 use slee_effect::Effects;
 
 /// The effects and keys that a transaction already has. Clauses see one through `before_of`.

@@ -1,4 +1,4 @@
-//! Runs of the scripts of a checked deployment.
+//! Runs of the scripts of a checked deployment: the call that others make.
 ghost use Rattle.std.specs.Prelude.{◌≡◌, ◌≤◌, IfOk, Some, length};
 ghost use Rattle.script_types.specs.Program.{Steps};
 ghost use Rattle.script_types.specs.ProgramOf.{kept_program, IsChecked};
@@ -8,7 +8,9 @@ ghost use Rattle.script_meaning.specs.Meaning.{meaning};
 ghost use Rattle.handler_run.specs.Runs.{before_of, meaning_of_run};
 ghost use Rattle.handler_run.specs.Scripts.{script_of};
 
-use crate::{Before, Known, Run, Unfinished, run_in};
+use crate::before::Before;
+use crate::keys::Known;
+use crate::run::{Run, Unfinished, run_in};
 use script_meaning::{Args, Which};
 use script_types::Codes;
 use slee_value::{EntityId, NoMemory};

@@ -11,5 +11,5 @@ mod words;
 pub use before::Before;
 pub use checked::run_script;
 pub use keys::{Keys, Known};
-pub use run::{Run, Unfinished, run_in};
+pub use run::Run;
 pub use words::word_of;

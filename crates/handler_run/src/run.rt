@@ -1,4 +1,4 @@
-//! Whole runs.
+//! Whole runs of tidy scripts.
 ghost use Rattle.std.specs.Prelude.{◌≡◌, ◌≤◌, length, map};
 ghost use Rattle.script_types.specs.Numbers.{AreNumberedSteps, IsNumberedProgram};
 ghost use Rattle.script_types.specs.ProgramOf.{steps_of, block_program_of};
@@ -10,9 +10,10 @@ ghost use Rattle.script_run_blocks.specs.Tidy.{AreTidy, IsTidyProgram};
 ghost use Rattle.handler_run.specs.declared.run.Unfinished.TheVariants as unfinished;
 ghost use Rattle.handler_run.specs.Runs.{before_of, Means, ended, gone_through};
 
+use crate::before::Before;
+use crate::keys::{Keys, Known};
 use crate::scripts::script_in;
 use crate::words::word_of;
-use crate::{Before, Keys, Known};
 use script_meaning::{Args, FailKind, Key, Outcome, Which};
 use script_run_blocks::{Stage, block_at, do_all};
 use script_run_machine::{
@@ -42,7 +43,7 @@ pub enum Run {
 
 /// Why a run comes to nothing.
 #[derive(Debug, Clone, Copy, PartialEq, Eq)]
-pub enum Unfinished {
+pub(crate) enum Unfinished {
     NoMemory,
     /// No checked script comes here.
     Unchecked,
@@ -108,7 +109,7 @@ fn run_steps(alloc: Global, stage: &Stage, steps: &[Step]) -> Result<Run, Unfini
 }
 
 /// What a script of a block means for an entity, over the answers that are known.
-pub fn run_in(
+pub(crate) fn run_in(
     alloc: Global,
     names: &NamedList<Text>,
     blocks: &[BlockSteps],

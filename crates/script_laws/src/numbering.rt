@@ -1,4 +1,4 @@
-//! The law.
+//! The law that the names of checked scripts have their numbers.
 ghost use Rattle.std.specs.Prelude.{◌≡◌, Ok};
 ghost use Rattle.script_types.specs.Codes.{Codes};
 ghost use Rattle.script_types.specs.Numbers.{IsNumberedProgram};

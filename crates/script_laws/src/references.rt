@@ -1,4 +1,4 @@
-//! The laws. `known` is any set of references that has what a script is given and told, so they hold of the least one.
+//! Laws: effects refer to what is known. `known` is any set of references that has what a script is given and told, so they hold of the least one.
 ghost use Rattle.std.specs.Prelude.{◌≡◌, Bool, ℕ, List, [], ◌∷◌, ◌++◌, Some, Ok, slice_get};
 ghost use Rattle.std.specs.List.{AllByRecursion};
 ghost use Rattle.slee_value.specs.declared.ids.EntityId.{EntityId};

@@ -1,4 +1,4 @@
-//! The laws.
+//! Laws: checked scripts come to nothing that a checked program doesn't have.
 ghost use Rattle.std.specs.Prelude.{◌≡◌, ◌≤◌, ℕ, List, length, Some, Ok, slice_get};
 ghost use Rattle.slee_value.specs.declared.ids.EntityId.{EntityId};
 ghost use Rattle.slee_value.specs.declared.ids.ActivityId.{ActivityId};

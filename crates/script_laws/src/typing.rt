@@ -1,4 +1,4 @@
-//! The laws.
+//! Laws: what is well typed is what can be made into steps, and the first fault is the same.
 ghost use Rattle.std.specs.Prelude.{◌≡◌, ℕ, Ok};
 ghost use Rattle.script_tree.specs.Tree.{Expression, Statements};
 ghost use Rattle.script_types.specs.Codes.{Codes};

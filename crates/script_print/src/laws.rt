@@ -1,4 +1,4 @@
-//! Laws over the definitions.
+//! Laws: what is printed, or spelled, is read as itself, and each script has a spelling of its own.
 ghost use Rattle.std.specs.Prelude.{◌≡◌, ◌+◌, ◌∷◌, ◌++◌, List, length, IsTrue, Ok};
 ghost use Rattle.script_tree.specs.declared.fault.SyntaxBad.{SyntaxBad};
 ghost use Rattle.script_tree.specs.declared.lexeme.Lexeme.{Lexeme as ALexeme};

@@ -6,7 +6,7 @@ use script_tree::{Fixed, Lexeme, Symbol};
 
 /// How a token stands among others.
 #[derive(Clone, Copy)]
-pub enum Manner {
+pub(crate) enum Manner {
     /// With a blank on each side.
     Plain,
     /// A function: with nothing before its `(`.
@@ -28,7 +28,7 @@ pub enum Manner {
 }
 
 impl Manner {
-    pub fn of(token: &Lexeme) -> Self
+    pub(crate) fn of(token: &Lexeme) -> Self
         ensures { result ≡ manner token.now }
     {
         match token {
@@ -70,7 +70,7 @@ impl Manner {
     }
 
     /// Whether nothing stands between this and the next.
-    pub fn is_tight(self, next: Manner) -> bool
+    pub(crate) fn is_tight(self, next: Manner) -> bool
         ensures { result ≡ is_tight self next }
     {
         match (self, next) {
@@ -82,7 +82,7 @@ impl Manner {
     }
 
     /// Whether a line ends between this and the next.
-    pub fn ends_line(self, next: Manner) -> bool
+    pub(crate) fn ends_line(self, next: Manner) -> bool
         ensures { result ≡ ends_line self next }
     {
         match (self, next) {
@@ -94,7 +94,7 @@ impl Manner {
     }
 
     /// How many braces are open behind it, of so many before it.
-    pub fn nesting(self, before: usize) -> usize
+    pub(crate) fn nesting(self, before: usize) -> usize
         requires { before < 18446744073709551615 }
         ensures { result ≡ nesting before self }
     {
@@ -106,7 +106,7 @@ impl Manner {
     }
 
     /// How many braces are open round the line that begins with it.
-    pub fn margin(self, before: usize) -> usize
+    pub(crate) fn margin(self, before: usize) -> usize
         ensures { result ≡ margin before self }
     {
         match self {
