@@ -4,7 +4,8 @@ use Rattle.std.specs.List.{AllByRecursion}
 use Rattle.std.proofs.lemmas.Bool.{cases_Bool}
 use Rattle.router_state.specs.Contexts.{ends}
 use Rattle.router_state.specs.declared.rows.Activity.{Activity}
-use Rattle.rows_sorted.specs.Keys.{activity_key, is_key, number_key}
+use Rattle.router_state.specs.Keys.{activity_key}
+use Rattle.rows_sorted.specs.Keys.{is_key, number_key}
 use Rattle.rows_sorted.proofs.ChangeLemmas.{number_is}
 use Rattle.rows_leaves.proofs.ChangeLemmas.{map_same}
 use Rattle.rows_index.specs.declared.entry.Entry.{Entry}

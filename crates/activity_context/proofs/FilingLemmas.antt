@@ -8,9 +8,10 @@ use Rattle.std.proofs.lemmas.Bool.Decides.{nat_tests}
 use Rattle.std.proofs.lemmas.Map.Views.{any-filter_same}
 use Rattle.std.proofs.lemmas.Slice.Eq.{bytes_eq-Decides}
 use Rattle.router_state.specs.Contexts.{name_before, named_at}
-use Rattle.router_state.specs.Orders.{put, rises_by}
+use Rattle.rows_sorted.specs.Orders.{put, rises_by}
 use Rattle.router_state.specs.declared.rows.Named.{Named}
-use Rattle.rows_sorted.specs.Keys.{is_key, is_pair, key_before, named_key, pair_key, Rises}
+use Rattle.rows_sorted.specs.Keys.{is_key, is_pair, key_before, pair_key, Rises}
+use Rattle.router_state.specs.Keys.{named_key}
 use Rattle.rows_sorted.proofs.OrderLemmas.{AllInOrder, all_filter, all_from_all, before_joins, in_order, put_rises, filter_rises}
 use Rattle.rows_sorted.proofs.PartLemmas.{parted_by_key}
 use Rattle.rows_sorted.proofs.RowLemmas.{inserted_is}

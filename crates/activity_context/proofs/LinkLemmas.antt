@@ -3,7 +3,8 @@ use Rattle.std.proofs.Common.{◌≡◌, ℕ, Bool, true, false, refl}
 use Rattle.std.specs.Prelude.{◌&&◌, ◌==◌}
 use Rattle.router_state.specs.Contexts.{is_link}
 use Rattle.router_state.specs.declared.rows.Link.{Link}
-use Rattle.rows_sorted.specs.Keys.{is_pair, link_key}
+use Rattle.rows_sorted.specs.Keys.{is_pair}
+use Rattle.router_state.specs.Keys.{link_key}
 
 turned : (p q : Bool) → (p && q) ≡ (q && p)
 turned true true = refl

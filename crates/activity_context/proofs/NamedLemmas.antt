@@ -7,9 +7,10 @@ use Rattle.std.specs.Str.{bytes_eq}
 use Rattle.std.proofs.lemmas.List.{length-map}
 use Rattle.std.proofs.lemmas.List.Sorted.{IsPermutation-sym, length_permutation}
 use Rattle.router_state.specs.Contexts.{name_before, without_name}
-use Rattle.router_state.specs.Orders.{put}
+use Rattle.rows_sorted.specs.Orders.{put}
 use Rattle.router_state.specs.declared.rows.Named.{Named}
-use Rattle.rows_sorted.specs.Keys.{named_key, text_key}
+use Rattle.router_state.specs.Keys.{named_key}
+use Rattle.rows_sorted.specs.Keys.{text_key}
 use Rattle.rows_sorted.proofs.PartLemmas.{parted_by_key}
 use Rattle.rows_index.proofs.RowLemmas.{filter_behind}
 use Rattle.activity_context.specs.declared.numbered.NumberedName.{NumberedName}

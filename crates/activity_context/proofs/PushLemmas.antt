@@ -4,11 +4,11 @@ use Rattle.std.specs.Prelude.{nat_lt, IsTrue}
 use Rattle.std.specs.List.{filter, list_all}
 use Rattle.std.proofs.lemmas.Bool.{and_parts}
 use Rattle.std.proofs.lemmas.Bool.Decides.{nat_tests}
-use Rattle.router_state.specs.Ordered.{are_below}
-use Rattle.router_state.specs.Orders.{put}
+use Rattle.rows_sorted.specs.Orders.{are_below, put}
 use Rattle.router_state.specs.declared.rows.Activity.{Activity}
-use Rattle.rows_sorted.specs.Keys.{activity_key, key_before}
-use Rattle.rows_sorted.proofs.AgreeLemmas.{activity_put}
+use Rattle.router_state.specs.Keys.{activity_key}
+use Rattle.rows_sorted.specs.Keys.{key_before}
+use Rattle.router_state.proofs.AgreeLemmas.{activity_put}
 
 all_low : (n : ℕ) (rows : List Activity) → IsTrue (are_below (λ row. row.number.0) n rows) → filter (λ row. nat_lt row.number.0 n) rows ≡ rows
 all_low n [] all = refl

@@ -3,7 +3,8 @@ use Rattle.std.specs.Prelude.{ℕ, min}
 use Rattle.router_state.specs.declared.rows.AcKind.{AcKind}
 use Rattle.router_state.specs.declared.rows.AcKind.TheVariants as kinds
 use Rattle.router_state.specs.declared.rows.Activity.{Activity}
-use Rattle.rows_sorted.specs.Keys.{activity_key, Rises}
+use Rattle.router_state.specs.Keys.{activity_key}
+use Rattle.rows_sorted.specs.Keys.{Rises}
 use Rattle.rows_index.specs.Index.{IsIndex}
 use Rattle.rows_index.specs.declared.entry.Entry.{Entry}
 use Rattle.rows_index.specs.Numbers.{number_of}

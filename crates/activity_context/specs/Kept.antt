@@ -1,6 +1,6 @@
 -- How contexts are kept: activities' numbers are below the next one.
 use Rattle.std.specs.Prelude.{IsTrue}
-use Rattle.router_state.specs.Ordered.{are_below}
+use Rattle.rows_sorted.specs.Orders.{are_below}
 use Rattle.activity_context.specs.Views.{ContextsView}
 use Rattle.activity_context.specs.declared.contexts.Contexts.TheInside.{Inside}
 

@@ -2,7 +2,7 @@
 use Rattle.std.specs.Prelude.{◌≡◌, min, IsTrue, List, map}
 use Rattle.std.specs.List.{AllByRecursion, list_any}
 use Rattle.router_state.specs.Contexts.{name_before}
-use Rattle.router_state.specs.Orders.{rises_by, sorted}
+use Rattle.rows_sorted.specs.Orders.{rises_by, sorted}
 use Rattle.router_state.specs.declared.rows.Named.{Named}
 use Rattle.rows_sorted.specs.Keys.{Key, is_pair}
 use Rattle.rows_index.specs.declared.entry.Entry.{Entry}

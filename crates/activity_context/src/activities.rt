@@ -1,7 +1,6 @@
 //! Activities that rise by number, of which an external one is found by its name; clauses see them as a list, with the room.
 ghost use Rattle.std.specs.Prelude.{ℕ, ◌≡◌, ◌+◌, ◌<◌, ◌≤◌, [], length, None, Some, IsTrue, OnOk, slice_get, option_copied};
-ghost use Rattle.router_state.specs.Orders.{put};
-ghost use Rattle.router_state.specs.Ordered.{are_below, rises_in};
+ghost use Rattle.rows_sorted.specs.Orders.{put, are_below, rises_in};
 ghost use Rattle.router_state.specs.Contexts.{activity_at, external, with_activity, with_end, without_activity};
 ghost use Rattle.activity_context.specs.Faults.{start_fault, active_fault};
 ghost use Rattle.activity_context.specs.Views.{activity_before};

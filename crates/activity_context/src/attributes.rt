@@ -1,7 +1,8 @@
 //! Rows of attributes.
 ghost use Rattle.std.specs.Prelude.{◌≡◌, ◌+◌, ◌<◌, ◌≤◌};
 ghost use Rattle.router_state.specs.Contexts.{with_attribute};
-ghost use Rattle.rows_sorted.specs.Keys.{attribute_key, Rises};
+ghost use Rattle.router_state.specs.Keys.{attribute_key};
+ghost use Rattle.rows_sorted.specs.Keys.{Rises};
 
 use router_state::Attribute;
 use rows_leaves::Leaves;

@@ -1,7 +1,8 @@
 //! Rows of attachments.
 ghost use Rattle.std.specs.Prelude.{◌≡◌, ◌+◌, ◌<◌, ◌≤◌};
 ghost use Rattle.router_state.specs.Contexts.{is_linked, with_link, without_link};
-ghost use Rattle.rows_sorted.specs.Keys.{link_key, Rises};
+ghost use Rattle.router_state.specs.Keys.{link_key};
+ghost use Rattle.rows_sorted.specs.Keys.{Rises};
 
 use router_state::Link;
 use rows_leaves::Leaves;

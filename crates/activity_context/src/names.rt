@@ -1,7 +1,7 @@
 //! Names of the naming facility; clauses see them as a list in byte order, and as they are kept, with the room.
 ghost use Rattle.std.specs.Prelude.{◌≡◌, ◌+◌, ◌<◌, ◌≤◌, [], length, Some, IsTrue, OnOk, slice_get};
 ghost use Rattle.std.specs.List.Sorted.{IsPermutation};
-ghost use Rattle.router_state.specs.Orders.{rises_by};
+ghost use Rattle.rows_sorted.specs.Orders.{rises_by};
 ghost use Rattle.router_state.specs.Contexts.{name_before, named_at, with_name, without_name, without_names_of};
 
 use crate::filing::{cut_named, cut_names_of, file, row_named};

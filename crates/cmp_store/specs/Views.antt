@@ -1,7 +1,7 @@
 -- What contracts see of the store of fields.
 use Rattle.std.specs.Prelude.{ℕ, Bool, List}
 use Rattle.std.specs.List.{list_any}
-use Rattle.router_state.specs.Orders.{same_text}
+use Rattle.rows_sorted.specs.Orders.{same_text}
 use Rattle.router_state.specs.declared.rows.Field.{Field}
 
 -- the fields, by entity, then by name, and how many more can be added without memory

@@ -1,7 +1,7 @@
 //! The store of fields. Contracts see it as the list of all fields in order, and the number of fields that can be added without memory.
 ghost use Rattle.std.specs.Prelude.{◌≡◌, ◌==◌, ◌+◌, ◌≤◌, ◌<◌, ◌||◌, [], Some, nat_lt, length, slice_get, filter, IsTrue, OnOk, option_copied};
 ghost use Rattle.router_state.specs.Fields.{field_at, field_before, with_field, without_fields};
-ghost use Rattle.router_state.specs.Orders.{rises_by};
+ghost use Rattle.rows_sorted.specs.Orders.{rises_by};
 ghost use Rattle.cmp_store.specs.Views.{has_field};
 
 use router_state::Field;

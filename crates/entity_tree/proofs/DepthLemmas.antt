@@ -6,7 +6,7 @@ use Rattle.std.specs.Option.{option_map_or}
 use Rattle.std.proofs.lemmas.Bool.{cases_Bool}
 use Rattle.std.proofs.lemmas.Bool.Decides.{nat_tests}
 use Rattle.router_state.specs.declared.rows.Entity.{Entity}
-use Rattle.router_state.specs.Orders.{put}
+use Rattle.rows_sorted.specs.Orders.{put}
 use Rattle.router_state.specs.Trees.{entity_at, number_of, parent_of, children, with_priority, without_entity}
 use Rattle.rows_sorted.specs.Keys.{is_key, key_before}
 use Rattle.rows_sorted.proofs.OrderLemmas.{all_filter}

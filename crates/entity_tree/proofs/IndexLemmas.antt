@@ -6,9 +6,10 @@ use Rattle.std.proofs.lemmas.Bool.{cases_Bool}
 use Rattle.std.proofs.lemmas.List.{map-append}
 use Rattle.std.proofs.lemmas.Bool.Decides.{nat_tests}
 use Rattle.router_state.specs.declared.rows.Entity.{Entity}
-use Rattle.router_state.specs.Orders.{put, triple_before}
+use Rattle.rows_sorted.specs.Orders.{put, triple_before}
 use Rattle.router_state.specs.Trees.{entity_at, parent_of, children, with_priority, without_entity}
-use Rattle.rows_sorted.specs.Keys.{key_before, is_key, entity_key, pair_key, Rises}
+use Rattle.rows_sorted.specs.Keys.{key_before, is_key, pair_key, Rises}
+use Rattle.router_state.specs.Keys.{entity_key}
 use Rattle.rows_sorted.proofs.OrderLemmas.{IsBefore, in_order, order_filter, all_filter, all_from_all}
 use Rattle.entity_tree.specs.declared.branch.Branch.{Branch}
 use Rattle.entity_tree.specs.Kept.{entity_before, parent_at, branch_key, branch_of}

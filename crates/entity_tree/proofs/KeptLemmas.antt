@@ -6,8 +6,7 @@ use Rattle.std.proofs.lemmas.Bool.Decides.{nat_tests}
 use Rattle.router_state.specs.declared.rows.Entity.{Entity}
 use Rattle.router_state.specs.declared.rows.Stem.{Stem}
 use Rattle.router_state.specs.declared.rows.Stem.TheVariants as stems
-use Rattle.router_state.specs.Orders.{put}
-use Rattle.router_state.specs.Ordered.{are_below}
+use Rattle.rows_sorted.specs.Orders.{put, are_below}
 use Rattle.router_state.specs.Trees.{children, entity_at, number_of, is_root, parent_in, parent_of, with_priority, without_entity}
 use Rattle.rows_sorted.proofs.OrderLemmas.{all_filter, all_from_all}
 use Rattle.entity_tree.specs.declared.branch.Branch.{Branch}

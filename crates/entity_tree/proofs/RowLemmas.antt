@@ -7,11 +7,12 @@ use Rattle.std.specs.Str.{bytes_eq}
 use Rattle.std.proofs.lemmas.Bool.{cases_Bool, and_parts}
 use Rattle.std.proofs.lemmas.Bool.Decides.{nat_tests}
 use Rattle.router_state.specs.declared.rows.Entity.{Entity}
-use Rattle.router_state.specs.Orders.{put}
+use Rattle.rows_sorted.specs.Orders.{put}
 use Rattle.router_state.specs.declared.rows.Stem.{Stem}
 use Rattle.router_state.specs.declared.rows.Stem.TheVariants as stems
 use Rattle.router_state.specs.Trees.{entity_at, number_of, parent_in, parent_of, children, children_under, is_child_of, has_priority, without_entity}
-use Rattle.rows_sorted.specs.Keys.{key_before, is_key, entity_key, Rises}
+use Rattle.rows_sorted.specs.Keys.{key_before, is_key, Rises}
+use Rattle.router_state.specs.Keys.{entity_key}
 use Rattle.rows_sorted.proofs.OrderLemmas.{AllInOrder, IsBefore, in_order, all_filter, all_from_all}
 use Rattle.entity_tree.specs.declared.branch.Branch.{Branch}
 use Rattle.entity_tree.specs.Kept.{entity_before, branch_of}

@@ -3,7 +3,8 @@ use Rattle.std.proofs.Common.{◌≡◌, ℕ, ℤ, ◌<◌, List, [], map}
 use Rattle.std.specs.Prelude.{if◌then◌else◌}
 use Rattle.router_state.specs.declared.rows.Entity.{Entity}
 use Rattle.router_state.specs.Trees.{number_of, parent_of, has_priority, with_priority}
-use Rattle.rows_sorted.specs.Keys.{is_key, entity_key}
+use Rattle.rows_sorted.specs.Keys.{is_key}
+use Rattle.router_state.specs.Keys.{entity_key}
 use Rattle.rows_sorted.proofs.OrderLemmas.{all_from_all}
 use Rattle.entity_tree.specs.Kept.{AreEntities}
 use Rattle.entity_tree.proofs.ListLemmas.{all_mapped}

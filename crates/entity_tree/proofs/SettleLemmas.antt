@@ -6,7 +6,8 @@ use Rattle.std.proofs.lemmas.Bool.{cases_Bool}
 use Rattle.std.proofs.lemmas.Bool.Decides.{nat_tests}
 use Rattle.router_state.specs.declared.rows.Entity.{Entity}
 use Rattle.router_state.specs.Trees.{entity_at, parent_of}
-use Rattle.rows_sorted.specs.Keys.{Rises, entity_key}
+use Rattle.rows_sorted.specs.Keys.{Rises}
+use Rattle.router_state.specs.Keys.{entity_key}
 use Rattle.rows_sorted.proofs.OrderLemmas.{AllInOrder, IsBefore, all_from_all, in_order}
 use Rattle.entity_tree.specs.declared.depths.Depth.{Depth}
 use Rattle.entity_tree.specs.Kept.{AreParents, is_entity}

@@ -1,6 +1,6 @@
 //! Entities, the index of children and the depths, changed together.
 ghost use Rattle.std.specs.Prelude.{◌≡◌, ◌<◌, ◌≤◌, ◌+◌, [], None, length};
-ghost use Rattle.router_state.specs.Orders.{put};
+ghost use Rattle.rows_sorted.specs.Orders.{put};
 ghost use Rattle.router_state.specs.Trees.{children, entity_at, parent_of, with_priority, without_entity};
 ghost use Rattle.entity_tree.specs.Kept.{AreParents, IsIndex, entity_before};
 ghost use Rattle.entity_tree.specs.Depths.{AreDepths, HasDepths};

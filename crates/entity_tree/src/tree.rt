@@ -1,13 +1,13 @@
 //! The store of entities. Clauses see it as its entities by number, the number of the next one, and how many more can be added without memory.
 ghost use Rattle.std.specs.Prelude.{◌≡◌, ◌||◌, ◌+◌, ◌<◌, ◌≤◌, ◌^◌, [], Some, None, nat_lt, length, slice_get, IsTrue, IfOk, OnOk, option_copied};
 ghost use Rattle.router_state.specs.declared.rows.Stem.TheVariants as stems;
-ghost use Rattle.router_state.specs.Orders.{put};
-ghost use Rattle.router_state.specs.Ordered.{are_below};
+ghost use Rattle.rows_sorted.specs.Orders.{put, are_below};
 ghost use Rattle.router_state.specs.Trees.{children, children_under, entity_at, is_root, number_of, parent_in, parent_of, service_of, tree_of, with_entity, with_priority, without_entity};
 ghost use Rattle.router_state.specs.Paths.{path_before};
 ghost use Rattle.std.specs.Ordering.{is_lt, is_gt};
 ghost use Rattle.std.specs.Borrow.{sem};
-ghost use Rattle.rows_sorted.specs.Keys.{Rises, entity_key};
+ghost use Rattle.rows_sorted.specs.Keys.{Rises};
+ghost use Rattle.router_state.specs.Keys.{entity_key};
 ghost use Rattle.entity_tree.specs.Climbing.{path_at};
 ghost use Rattle.entity_tree.specs.Kept.{AreParents, entity_before, is_entity, numbers_of};
 ghost use Rattle.entity_tree.specs.Lending.{KeepsTree};

@@ -5,7 +5,8 @@ use Rattle.std.specs.List.{filter, list_any}
 use Rattle.std.specs.Str.{bytes_eq}
 use Rattle.router_state.specs.Masks.{is_mask, is_mask_of, is_masked, with_mask, with_masks, without_mask, without_masks}
 use Rattle.router_state.specs.declared.rows.Mask.{Mask}
-use Rattle.rows_sorted.specs.Keys.{is_key, is_pair, mask_key}
+use Rattle.rows_sorted.specs.Keys.{is_key, is_pair}
+use Rattle.router_state.specs.Keys.{mask_key}
 
 swapped : (x y z : Bool) → (y && (x && z)) ≡ ((x && y) && z)
 swapped true true z = refl

@@ -1,7 +1,7 @@
 //! The store of event masks. Contracts see it as the list of all masks in order, and the number of masks that can be added without memory.
 ghost use Rattle.std.specs.Prelude.{◌≡◌, ◌+◌, ◌≤◌, ◌<◌, ◌||◌, [], Some, not, nat_lt, length, slice_get, filter, IsTrue, OnOk};
 ghost use Rattle.router_state.specs.Masks.{is_mask_of, is_masked, mask_before, with_mask, with_mask_set, with_masks, without_masks};
-ghost use Rattle.router_state.specs.Orders.{rises_by};
+ghost use Rattle.rows_sorted.specs.Orders.{rises_by};
 
 use router_state::Mask;
 use rows_leaves::{Leaves, Run};

@@ -1,6 +1,6 @@
 //! The store of events. Contracts see it as four lists in order, and the number of rows that each of them takes without memory.
 ghost use Rattle.std.specs.Prelude.{ℕ, ◌≡◌, ◌==◌, ◌+◌, ◌≤◌, ◌<◌, [], Some, length, slice_get, filter, IsTrue, OnOk, option_copied, option_map};
-ghost use Rattle.router_state.specs.Orders.{rises_by};
+ghost use Rattle.rows_sorted.specs.Orders.{rises_by};
 ghost use Rattle.event_queue.specs.Views.{HasRoom};
 ghost use Rattle.router_state.specs.Queues.{queued_before, service_mark_before, entity_mark_before, suspension_before, queue, head_event, is_waiting, is_done, is_delivered, is_suspended, suspended_until, with_event, without_head, with_service_mark, without_service_marks, with_entity_mark, without_entity_marks, with_suspension, without_suspension};
 
@@ -132,7 +132,7 @@ impl Queues {
     }
 
     /// The head event of the activity is suspended until this moment.
-    #[tactic(auto, using(rows_sorted::proofs::AgreeLemmas::suspension_put))]
+    #[tactic(auto, using(router_state::proofs::AgreeLemmas::suspension_put))]
     pub fn hold(&mut self, activity: ActivityId, until: u64)
         requires { 0 < self.old.suspensions_room }
         ensures rows { self.new ≡ record self.old { suspensions = with_suspension self.old.suspensions activity.0 until; suspensions_room = self.new.suspensions_room } }
@@ -241,7 +241,7 @@ impl Queues {
     }
 
     /// Passes on that each list stands in its order.
-    #[tactic(auto, using(rows_sorted::proofs::AgreeLemmas::queued_order, rows_sorted::proofs::AgreeLemmas::service_mark_order, rows_sorted::proofs::AgreeLemmas::entity_mark_order, rows_sorted::proofs::AgreeLemmas::suspension_order))]
+    #[tactic(auto, using(router_state::proofs::AgreeLemmas::queued_order, router_state::proofs::AgreeLemmas::service_mark_order, router_state::proofs::AgreeLemmas::entity_mark_order, router_state::proofs::AgreeLemmas::suspension_order))]
     pub fn in_order(&self)
         ensures events { IsTrue (rises_by queued_before self.now.events) }
         ensures services_done { IsTrue (rises_by service_mark_before self.now.services_done) }

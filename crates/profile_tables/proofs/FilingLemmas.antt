@@ -10,10 +10,11 @@ use Rattle.std.proofs.lemmas.List.{length-map}
 use Rattle.std.proofs.lemmas.List.Sorted.{IsPermutation-sym, length_permutation}
 use Rattle.std.proofs.lemmas.Slice.Eq.{bytes_eq-Decides}
 use Rattle.router_state.specs.Fitting.{has_row}
-use Rattle.router_state.specs.Orders.{put}
+use Rattle.rows_sorted.specs.Orders.{put}
 use Rattle.router_state.specs.Profiles.{is_row, row_before}
 use Rattle.router_state.specs.declared.rows.ProfileRow.{ProfileRow}
-use Rattle.rows_sorted.specs.Keys.{Key, is_key, key_before, profile_row_key, Rises}
+use Rattle.rows_sorted.specs.Keys.{Key, is_key, key_before, Rises}
+use Rattle.router_state.specs.Keys.{profile_row_key}
 use Rattle.rows_sorted.proofs.OrderLemmas.{AllInOrder, all_filter, all_from_all, before_joins, filter_rises, in_order, put_rises}
 use Rattle.rows_sorted.proofs.PartLemmas.{parted_by_key}
 use Rattle.rows_sorted.proofs.RowLemmas.{inserted_is}

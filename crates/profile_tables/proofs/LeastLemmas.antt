@@ -7,10 +7,11 @@ use Rattle.std.proofs.lemmas.Bool.{cases_Bool, and_parts}
 use Rattle.std.proofs.lemmas.Bool.Decides.{nat_tests}
 use Rattle.std.proofs.lemmas.Slice.Eq.{bytes_eq-Decides}
 use Rattle.slee_value.specs.Order.{is_below}
-use Rattle.router_state.specs.Orders.{sorted}
+use Rattle.rows_sorted.specs.Orders.{sorted}
 use Rattle.router_state.specs.Profiles.{is_row, row_before}
 use Rattle.router_state.specs.declared.rows.ProfileRow.{ProfileRow}
-use Rattle.rows_sorted.specs.Keys.{is_pair, key_before, profile_row_key, Rises}
+use Rattle.rows_sorted.specs.Keys.{is_pair, key_before, Rises}
+use Rattle.router_state.specs.Keys.{profile_row_key}
 use Rattle.rows_sorted.proofs.OrderLemmas.{AllInOrder, IsBefore, all_from_all, filter_rises, in_order}
 use Rattle.rows_sorted.proofs.PartLemmas.{parted_by_key}
 use Rattle.rows_index.proofs.SumLemmas.{all_passed}

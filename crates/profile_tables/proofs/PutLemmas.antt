@@ -6,7 +6,7 @@ use Rattle.std.specs.List.{filter, find, list_any, sum_by}
 use Rattle.std.proofs.lemmas.Bool.{cases_Bool, and_parts}
 use Rattle.std.proofs.lemmas.Bool.Decides.{nat_tests}
 use Rattle.std.proofs.lemmas.Nat.{mul-le}
-use Rattle.router_state.specs.Orders.{put}
+use Rattle.rows_sorted.specs.Orders.{put}
 use Rattle.rows_sorted.specs.Keys.{Key, key_before, Rises}
 use Rattle.rows_sorted.proofs.OrderLemmas.{IsBefore, in_order}
 use Rattle.rows_index.specs.declared.entry.Entry.{Entry}

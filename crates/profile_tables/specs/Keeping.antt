@@ -1,7 +1,7 @@
 -- How rows are kept: under the numbers of their names.
 use Rattle.std.specs.Prelude.{◌≡◌, IsTrue, List, map}
 use Rattle.std.specs.List.{AllByRecursion}
-use Rattle.router_state.specs.Orders.{rises_by, sorted}
+use Rattle.rows_sorted.specs.Orders.{rises_by, sorted}
 use Rattle.router_state.specs.Profiles.{row_before}
 use Rattle.router_state.specs.declared.rows.ProfileRow.{ProfileRow}
 use Rattle.rows_sorted.specs.Keys.{Key}

@@ -1,6 +1,6 @@
 //! The rows of profile tables; clauses see them as a list in byte order, and as they are kept, with what is declared for each table and the room.
 ghost use Rattle.std.specs.Prelude.{◌≡◌, ◌+◌, ◌<◌, ◌≤◌, ◌||◌, [], Some, nat_lt, length, find, IsTrue, IfOk, OnOk, OnErr, slice_get, option_copied};
-ghost use Rattle.router_state.specs.Orders.{rises_by};
+ghost use Rattle.rows_sorted.specs.Orders.{rises_by};
 ghost use Rattle.router_state.specs.Fitting.{has_row};
 ghost use Rattle.router_state.specs.Profiles.{is_row, row_at, row_before, with_row, without_row};
 ghost use Rattle.std.specs.List.Sorted.{IsPermutation};

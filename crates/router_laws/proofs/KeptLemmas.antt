@@ -26,7 +26,7 @@ use Rattle.router_steps.specs.Histories.{replay}
 use Rattle.router_steps.specs.Moves.{ended, attached, dropped, changes_of_dropping, with_service}
 use Rattle.router_steps.specs.Steps.{Subject, Taking, Selecting, Delivering, Finishing, Root, NoRoot, OldRoot, NewRoot, Due, Finish, after, before_closing, after_subject, subject_of, with_root_attached, marked_service, marked_entity, finished, is_end}
 use Rattle.router_steps.specs.Taking.{taken, counted, after_action, all_resumed, all_occurred, occurred, clocked, ended_if}
-use Rattle.router_steps.specs.Timing.{Occurrence}
+use Rattle.router_state.specs.Timing.{Occurrence}
 use Rattle.router_steps.specs.declared.refusal.Refusal.{Refusal}
 use Rattle.trace_history.specs.declared.choice.Choice.{Choice}
 use Rattle.trace_history.specs.declared.entry.Entry.{Entry}

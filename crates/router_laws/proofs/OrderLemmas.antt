@@ -3,7 +3,7 @@ use Rattle.std.proofs.Common.{◌≡◌, ℕ, ◌<◌, ◌≤◌, ◌==◌, Bool
 use Rattle.std.proofs.lemmas.Bool.{cases_lt, lt-ltb, le-ltb, ne_eqb, eq-eqb, or_cases, and_parts, cases_Bool}
 use Rattle.std.proofs.lemmas.Bool.Decides.{nat_tests}
 use Rattle.slee_value.specs.Order.{is_below}
-use Rattle.router_state.specs.Orders.{pair_before, text_before, triple_before}
+use Rattle.rows_sorted.specs.Orders.{pair_before, text_before, triple_before}
 
 below_less : (p b : ℕ) (ps bs : List ℕ) → p < b → is_below (p ∷ ps) (b ∷ bs) ≡ true
 below_less p b ps bs h = rw (lt-ltb p b h) refl

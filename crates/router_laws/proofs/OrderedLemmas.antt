@@ -7,8 +7,8 @@ use Rattle.std.proofs.lemmas.Bool.Decides.{nat_tests}
 use Rattle.router_laws.proofs.OrderLemmas.{below_joins, pair_joins, text_joins, triple_joins}
 use Rattle.router_laws.proofs.RisingLemmas.{Joins, InOrder, order_append, order_from_rises, rises_from_order, put_rises, filter_rises}
 use Rattle.router_state.specs.State.{State}
-use Rattle.router_state.specs.Orders.{rises_by}
-use Rattle.router_state.specs.Ordered.{IsOrdered, rises_in, are_below}
+use Rattle.rows_sorted.specs.Orders.{rises_by, rises_in, are_below}
+use Rattle.router_state.specs.Ordered.{IsOrdered}
 use Rattle.router_state.specs.Changes.{after_change}
 use Rattle.router_state.specs.Fields.{field_before}
 use Rattle.router_state.specs.Trees.{has_priority, root_name_before}

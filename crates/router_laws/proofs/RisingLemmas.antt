@@ -2,7 +2,7 @@
 use Rattle.std.proofs.Common.{◌≡◌, ℕ, ◌<◌, ◌≤◌, ◌==◌, Bool, true, false, ◌&&◌, ◌||◌, List, [], ◌∷◌, ◌++◌, filter, refl, sym, ◌∙◌, arith, inl, inr, ◌⊎◌, nat_lt}
 use Rattle.std.specs.List.{AllByRecursion}
 use Rattle.std.proofs.lemmas.Bool.{cond_both, and_parts, cases_Bool}
-use Rattle.router_state.specs.Orders.{rises_by, put}
+use Rattle.rows_sorted.specs.Orders.{rises_by, put}
 
 -- the order goes on from row to row
 abbrev pub Joins : {Row : Type 0} → (Row → Row → Bool) → Type 0

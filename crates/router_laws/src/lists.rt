@@ -4,7 +4,7 @@ ghost use Rattle.slee_value.specs.Order.{is_below};
 ghost use Rattle.router_state.specs.State.{State};
 ghost use Rattle.router_state.specs.Changes.{after_change};
 ghost use Rattle.router_state.specs.Ordered.{IsOrdered};
-ghost use Rattle.router_state.specs.Orders.{pair_before, text_before, triple_before};
+ghost use Rattle.rows_sorted.specs.Orders.{pair_before, text_before, triple_before};
 ghost use Rattle.router_state.specs.declared.change.Change.{Change};
 
 /// Every change keeps each list rising, and the numbers that were drawn below the next ones.

@@ -9,7 +9,7 @@ ghost use Rattle.router_state.specs.Timers.{advanced};
 ghost use Rattle.router_state.specs.declared.kindred.Kindred.TheVariants as kindreds;
 ghost use Rattle.router_steps.specs.Actions.{action_of};
 ghost use Rattle.router_steps.specs.Selection.{custom_name};
-ghost use Rattle.router_steps.specs.Timing.{fired, fired_in_all};
+ghost use Rattle.router_state.specs.Timing.{fired, fired_in_all};
 ghost use Rattle.router_steps.specs.declared.refusal.Refusal.TheVariants as refusals;
 ghost use Rattle.slee_value.specs.declared.keep.Keep.TheVariants as keeps;
 

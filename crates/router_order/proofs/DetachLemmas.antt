@@ -8,7 +8,7 @@ use Rattle.router_state.specs.declared.rows.Entity.{Entity}
 use Rattle.router_state.specs.declared.rows.Link.{Link}
 use Rattle.router_state.specs.Contexts.{is_link, is_linked, without_link}
 use Rattle.rows_sorted.specs.Keys.{Rises, is_key, pair_key}
-use Rattle.rows_sorted.proofs.AgreeLemmas.{pair_agrees}
+use Rattle.rows_sorted.proofs.KeyLemmas.{pair_agrees}
 use Rattle.rows_sorted.proofs.OrderLemmas.{AllInOrder, IsBefore, all_from_all, in_order}
 use Rattle.entity_tree.proofs.ListLemmas.{and_true, or_right}
 use Rattle.rows_index.proofs.FoundLemmas.{none_at}

@@ -11,7 +11,8 @@ use Rattle.router_state.specs.declared.rows.Entity.{Entity}
 use Rattle.router_state.specs.declared.rows.Link.{Link}
 use Rattle.router_state.specs.Trees.{entity_at}
 use Rattle.router_state.specs.Paths.{earlier, least_path, path_before, path_of}
-use Rattle.rows_sorted.specs.Keys.{Rises, entity_key}
+use Rattle.rows_sorted.specs.Keys.{Rises}
+use Rattle.router_state.specs.Keys.{entity_key}
 use Rattle.rows_sorted.proofs.OrderLemmas.{AllInOrder, all_from_all, in_order}
 use Rattle.entity_tree.specs.Climbing.{path_at}
 use Rattle.entity_tree.proofs.ListLemmas.{all_filtered, filter_none}

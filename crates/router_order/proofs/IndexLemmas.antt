@@ -11,7 +11,8 @@ use Rattle.router_state.specs.State.{State}
 use Rattle.router_state.specs.Paths.{least_path}
 use Rattle.router_state.specs.Contexts.{links_on}
 use Rattle.router_state.specs.Next.{is_eligible, first}
-use Rattle.rows_sorted.specs.Keys.{Rises, entity_key}
+use Rattle.rows_sorted.specs.Keys.{Rises}
+use Rattle.router_state.specs.Keys.{entity_key}
 use Rattle.rows_sorted.proofs.OrderLemmas.{order_filter}
 use Rattle.router_order.specs.Asked.{IsAbout, is_wanted, passes}
 use Rattle.router_order.specs.Listed.{Agrees}

@@ -8,10 +8,10 @@ use Rattle.std.proofs.lemmas.List.{take_more}
 use Rattle.slee_value.specs.declared.ids.EntityId.{EntityId}
 use Rattle.router_state.specs.declared.rows.Entity.{Entity}
 use Rattle.router_state.specs.declared.rows.Link.{Link}
-use Rattle.router_state.specs.Orders.{put, same_pair}
+use Rattle.rows_sorted.specs.Orders.{put, same_pair}
 use Rattle.router_state.specs.Contexts.{is_linked, without_link, without_links_on}
 use Rattle.rows_sorted.specs.Keys.{is_key, key_before, pair_key}
-use Rattle.rows_sorted.proofs.AgreeLemmas.{pair_agrees}
+use Rattle.rows_sorted.proofs.KeyLemmas.{pair_agrees}
 use Rattle.rows_sorted.proofs.OrderLemmas.{all_from_all}
 use Rattle.entity_tree.specs.Kept.{AreParents, is_entity, numbers_of}
 use Rattle.entity_tree.proofs.ListLemmas.{and_true, all_joined, all_of_any}

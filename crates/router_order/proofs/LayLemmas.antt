@@ -9,9 +9,9 @@ use Rattle.std.proofs.lemmas.List.{map-append, take_more}
 use Rattle.slee_value.specs.declared.ids.ActivityId.{ActivityId}
 use Rattle.router_state.specs.declared.rows.Entity.{Entity}
 use Rattle.router_state.specs.declared.rows.Link.{Link}
-use Rattle.router_state.specs.Orders.{pair_before, put}
+use Rattle.rows_sorted.specs.Orders.{pair_before, put}
 use Rattle.router_state.specs.Contexts.{links_on}
-use Rattle.rows_sorted.proofs.AgreeLemmas.{pair_agrees}
+use Rattle.rows_sorted.proofs.KeyLemmas.{pair_agrees}
 use Rattle.rows_sorted.proofs.OrderLemmas.{all_from_all}
 use Rattle.entity_tree.proofs.ListLemmas.{all_joined, all_two}
 use Rattle.rows_index.proofs.SumLemmas.{all_passed}

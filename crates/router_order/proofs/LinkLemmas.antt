@@ -5,7 +5,7 @@ use Rattle.std.specs.List.{AllByRecursion, filter, list_any}
 use Rattle.std.proofs.lemmas.Bool.{cases_Bool}
 use Rattle.std.proofs.lemmas.Bool.Decides.{nat_tests}
 use Rattle.router_state.specs.declared.rows.Link.{Link}
-use Rattle.router_state.specs.Orders.{put, same_pair}
+use Rattle.rows_sorted.specs.Orders.{put, same_pair}
 use Rattle.router_state.specs.Contexts.{is_link, is_linked, link_before, links_on, with_link, without_link, without_links_on}
 use Rattle.entity_tree.proofs.ListLemmas.{all_of_any, and_true}
 

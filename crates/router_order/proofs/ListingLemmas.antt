@@ -8,7 +8,7 @@ use Rattle.std.proofs.lemmas.Bool.{cases_Bool, cond_both, and_parts}
 use Rattle.std.proofs.lemmas.Bool.Decides.{nat_tests}
 use Rattle.router_state.specs.declared.rows.Entity.{Entity}
 use Rattle.router_state.specs.declared.rows.Link.{Link}
-use Rattle.router_state.specs.Orders.{put, rises_by, same_pair}
+use Rattle.rows_sorted.specs.Orders.{put, rises_by, same_pair}
 use Rattle.router_state.specs.Contexts.{is_link, is_linked, with_link, without_link, without_links_on}
 use Rattle.rows_sorted.proofs.OrderLemmas.{AllInOrder, all_filter, all_from_all, order_filter}
 use Rattle.rows_sorted.proofs.HalvingLemmas.{PlacesBy, absent_from, found, position_at}

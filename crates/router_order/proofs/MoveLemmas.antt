@@ -7,7 +7,7 @@ use Rattle.std.proofs.lemmas.Bool.Decides.{nat_tests}
 use Rattle.std.proofs.lemmas.List.{append_assoc, take_more}
 use Rattle.router_state.specs.declared.rows.Entity.{Entity}
 use Rattle.router_state.specs.declared.rows.Link.{Link}
-use Rattle.router_state.specs.Orders.{put, same_pair}
+use Rattle.rows_sorted.specs.Orders.{put, same_pair}
 use Rattle.router_state.specs.Contexts.{is_link, is_linked, links_on, without_link}
 use Rattle.rows_sorted.proofs.OrderLemmas.{all_filter, all_from_all}
 use Rattle.entity_tree.specs.Kept.{AreParents, is_entity}
@@ -15,8 +15,7 @@ use Rattle.entity_tree.proofs.ListLemmas.{all_joined}
 use Rattle.rows_index.specs.declared.entry.Entry.{Entry}
 use Rattle.router_order.specs.Listed.{IsListing, listed_before}
 use Rattle.router_order.specs.Taken.{IsTaken}
-use Rattle.router_order.proofs.LinkLemmas.{linked_more}
-use Rattle.router_order.proofs.LinkLemmas.{all_on, same_numbers, without_link_linked}
+use Rattle.router_order.proofs.LinkLemmas.{linked_more, all_on, same_numbers, without_link_linked}
 use Rattle.router_order.proofs.ListingLemmas.{filter_keeps, filter_listing, put_linked}
 
 or_true : (b : Bool) → (b || true) ≡ true

@@ -14,7 +14,8 @@ use Rattle.router_state.specs.Trees.{entity_at}
 use Rattle.router_state.specs.Paths.{earlier, least_path}
 use Rattle.router_state.specs.Contexts.{is_linked, links_on}
 use Rattle.router_state.specs.Next.{is_eligible, first}
-use Rattle.rows_sorted.specs.Keys.{Rises, entity_key, link_key}
+use Rattle.rows_sorted.specs.Keys.{Rises}
+use Rattle.router_state.specs.Keys.{entity_key, link_key}
 use Rattle.rows_sorted.proofs.OrderLemmas.{AllInOrder, IsBefore, in_order, all_from_all, filter_rises}
 use Rattle.entity_tree.proofs.ListLemmas.{filter_agree, filter_none, all_of_any}
 use Rattle.entity_tree.proofs.RowLemmas.{none_there}

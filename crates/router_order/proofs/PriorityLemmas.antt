@@ -6,11 +6,12 @@ use Rattle.std.proofs.lemmas.Bool.{cases_Bool, and_parts}
 use Rattle.std.proofs.lemmas.Bool.Decides.{nat_tests}
 use Rattle.router_state.specs.declared.rows.Entity.{Entity}
 use Rattle.router_state.specs.declared.rows.Link.{Link}
-use Rattle.router_state.specs.Orders.{rises_by}
+use Rattle.rows_sorted.specs.Orders.{rises_by}
 use Rattle.router_state.specs.Contexts.{is_linked}
 use Rattle.router_state.specs.Trees.{children, entity_at, has_priority, parent_of, tree_of, with_priority}
 use Rattle.router_state.specs.Paths.{path}
-use Rattle.rows_sorted.specs.Keys.{Rises, entity_key}
+use Rattle.rows_sorted.specs.Keys.{Rises}
+use Rattle.router_state.specs.Keys.{entity_key}
 use Rattle.rows_sorted.proofs.OrderLemmas.{all_from_all}
 use Rattle.entity_tree.specs.declared.branch.Branch.{Branch}
 use Rattle.entity_tree.specs.Kept.{AreParents, branch_of, is_entity}

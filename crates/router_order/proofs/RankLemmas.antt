@@ -7,10 +7,10 @@ use Rattle.std.proofs.lemmas.List.{map-append}
 use Rattle.std.proofs.lemmas.Bool.Decides.{nat_tests}
 use Rattle.router_state.specs.declared.rows.Entity.{Entity}
 use Rattle.router_state.specs.declared.rows.Link.{Link}
-use Rattle.router_state.specs.Orders.{pair_before, put}
+use Rattle.rows_sorted.specs.Orders.{pair_before, put}
 use Rattle.router_state.specs.Contexts.{is_link, is_linked, links_on}
 use Rattle.rows_sorted.specs.Keys.{Rises}
-use Rattle.rows_sorted.proofs.AgreeLemmas.{pair_agrees}
+use Rattle.rows_sorted.proofs.KeyLemmas.{pair_agrees}
 use Rattle.rows_sorted.proofs.OrderLemmas.{AllInOrder, IsBefore, all_filter, all_from_all, in_order, order_filter}
 use Rattle.entity_tree.specs.Kept.{AreParents, is_entity}
 use Rattle.entity_tree.proofs.ListLemmas.{all_two, filter_agree, filter_of_map}

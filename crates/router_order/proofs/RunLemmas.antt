@@ -6,10 +6,10 @@ use Rattle.std.proofs.lemmas.Bool.{cases_Bool, and_parts}
 use Rattle.std.proofs.lemmas.Bool.Decides.{nat_tests}
 use Rattle.std.proofs.lemmas.List.{append-nil}
 use Rattle.router_state.specs.declared.rows.Link.{Link}
-use Rattle.router_state.specs.Orders.{put, rises_by}
+use Rattle.rows_sorted.specs.Orders.{put, rises_by}
 use Rattle.router_state.specs.Contexts.{links_on}
 use Rattle.rows_sorted.specs.Keys.{key_before, Rises}
-use Rattle.rows_sorted.proofs.AgreeLemmas.{pair_agrees}
+use Rattle.rows_sorted.proofs.KeyLemmas.{pair_agrees}
 use Rattle.rows_sorted.proofs.OrderLemmas.{AllInOrder, all_from_all}
 use Rattle.entity_tree.proofs.ListLemmas.{all_of_any, filter_all, filter_none, filter_of_map, put_filtered}
 use Rattle.rows_index.proofs.RowLemmas.{filter_behind}

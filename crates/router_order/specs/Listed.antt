@@ -3,7 +3,7 @@ use Rattle.std.specs.Prelude.{◌≡◌, ℕ, ◌==◌, nat_lt, nat_le, Bool, �
 use Rattle.std.specs.List.{AllByRecursion}
 use Rattle.router_state.specs.declared.rows.Entity.{Entity}
 use Rattle.router_state.specs.declared.rows.Link.{Link}
-use Rattle.router_state.specs.Orders.{rises_by}
+use Rattle.rows_sorted.specs.Orders.{rises_by}
 use Rattle.router_state.specs.Paths.{path_before}
 use Rattle.router_state.specs.Contexts.{is_linked}
 use Rattle.entity_tree.specs.Kept.{is_entity}

@@ -2,7 +2,7 @@
 use Rattle.std.specs.Prelude.{◌≡◌, ℕ, List, map}
 use Rattle.std.specs.List.{list_any}
 use Rattle.router_state.specs.declared.rows.Link.{Link}
-use Rattle.router_state.specs.Orders.{same_pair}
+use Rattle.rows_sorted.specs.Orders.{same_pair}
 use Rattle.router_state.specs.Contexts.{is_linked}
 use Rattle.rows_sorted.specs.Keys.{Key, pair_key}
 use Rattle.rows_index.specs.declared.entry.Entry.{Entry}

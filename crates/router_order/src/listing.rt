@@ -1,7 +1,7 @@
 //! Attachments that are listed by activity, then by the path of the entity: one is found by halving, and put in its place.
 ghost use Rattle.std.specs.Prelude.{◌≡◌, ◌≤◌, ◌<◌, ◌+◌, ◌++◌, ◌∷◌, [], length, IsTrue, IfSome, vec_capacity, vec_len};
 ghost use Rattle.std.specs.List.{insert, prefix_len, position_from};
-ghost use Rattle.router_state.specs.Orders.{put};
+ghost use Rattle.rows_sorted.specs.Orders.{put};
 ghost use Rattle.router_state.specs.Contexts.{is_link};
 ghost use Rattle.entity_tree.specs.Kept.{is_entity};
 ghost use Rattle.router_order.specs.Listed.{IsListing, listed_before};

@@ -3,7 +3,7 @@ ghost use Rattle.std.specs.Prelude.{◌≡◌, ℕ, ◌==◌, ◌||◌, ◌+◌,
 ghost use Rattle.std.specs.List.{AllByRecursion, list_any};
 ghost use Rattle.router_state.specs.declared.rows.Entity.{Entity};
 ghost use Rattle.router_state.specs.Contexts.{is_linked};
-ghost use Rattle.router_state.specs.Orders.{put, same_pair};
+ghost use Rattle.rows_sorted.specs.Orders.{put, same_pair};
 ghost use Rattle.entity_tree.specs.Kept.{is_entity};
 ghost use Rattle.router_order.specs.Listed.{IsListing, listed_before};
 ghost use Rattle.router_order.specs.Placed.{attachments};

@@ -4,7 +4,7 @@ ghost use Rattle.router_state.specs.declared.rows.Event.{Event};
 ghost use Rattle.router_state.specs.declared.rows.Link.{Link};
 ghost use Rattle.router_state.specs.declared.rows.Entity.{Entity};
 ghost use Rattle.router_state.specs.State.{State};
-ghost use Rattle.router_state.specs.Orders.{put};
+ghost use Rattle.rows_sorted.specs.Orders.{put};
 ghost use Rattle.router_state.specs.Contexts.{with_link, without_link, without_links_on};
 ghost use Rattle.router_state.specs.Trees.{with_priority};
 ghost use Rattle.router_state.specs.Next.{first};

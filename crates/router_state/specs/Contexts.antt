@@ -6,7 +6,7 @@ use Rattle.std.specs.Str.{bytes_eq}
 use Rattle.slee_value.specs.Order.{is_below}
 use Rattle.slee_value.specs.declared.ids.ActivityId.{ActivityId}
 use Rattle.slee_value.specs.declared.value.Value.{Value}
-use Rattle.router_state.specs.Orders.{put, pair_before, text_before, same_text, same_pair}
+use Rattle.rows_sorted.specs.Orders.{put, pair_before, text_before, same_text, same_pair}
 use Rattle.router_state.specs.declared.rows.AcKind.{AcKind}
 use Rattle.router_state.specs.declared.rows.AcKind.TheVariants as kinds
 use Rattle.router_state.specs.declared.rows.Activity.{Activity}

@@ -1,7 +1,7 @@
 -- The fields of entities: what is read of them, and how they change.
 use Rattle.std.specs.Prelude.{ℕ, ◌==◌, Bool, not, List, Option, option_map, find, filter, map}
 use Rattle.slee_value.specs.declared.value.Value.{Value}
-use Rattle.router_state.specs.Orders.{put, text_before, same_text}
+use Rattle.rows_sorted.specs.Orders.{put, text_before, same_text}
 use Rattle.router_state.specs.declared.rows.Field.{Field}
 
 -- by entity, then by name

@@ -1,4 +1,3 @@
-pub mod Orders
 pub mod State
 pub mod Fields
 pub mod Trees
@@ -6,12 +5,14 @@ pub mod Contexts
 pub mod Masks
 pub mod Queues
 pub mod Timers
+pub mod Timing
 pub mod Profiles
 pub mod Services
 pub mod Changes
 pub mod Fits
 pub mod Fitting
 pub mod Ordered
+pub mod Keys
 pub mod Paths
 pub mod Next
 pub mod Look

@@ -2,7 +2,7 @@
 use Rattle.std.specs.Prelude.{ℕ, Bool, ◌&&◌, not, if◌then◌else◌, List, [], ◌∷◌, filter, map}
 use Rattle.std.specs.List.{list_any}
 use Rattle.std.specs.Str.{bytes_eq}
-use Rattle.router_state.specs.Orders.{put, triple_before, same_pair}
+use Rattle.rows_sorted.specs.Orders.{put, triple_before, same_pair}
 use Rattle.router_state.specs.declared.rows.Mask.{Mask}
 
 -- by activity, then by entity, then by event

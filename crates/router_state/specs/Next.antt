@@ -4,7 +4,7 @@ use Rattle.std.specs.List.{list_any}
 use Rattle.std.specs.Option.{option_map_or}
 use Rattle.deploy_model.specs.Deployed.{DeployedService, handles, is_initial}
 use Rattle.router_state.specs.State.{State}
-use Rattle.router_state.specs.Orders.{sorted}
+use Rattle.rows_sorted.specs.Orders.{sorted}
 use Rattle.router_state.specs.Trees.{service_of}
 use Rattle.router_state.specs.Paths.{step_before, least_path}
 use Rattle.router_state.specs.Contexts.{is_linked}

@@ -1,22 +1,13 @@
 -- Each list of a state rises, so that a row is found by halving, and numbers that were drawn are below the next ones.
-use Rattle.std.specs.Prelude.{ℕ, nat_lt, Bool, List, IsTrue}
-use Rattle.std.specs.List.{list_all}
+use Rattle.std.specs.Prelude.{IsTrue}
 use Rattle.router_state.specs.State.{State}
-use Rattle.router_state.specs.Orders.{rises_by}
+use Rattle.rows_sorted.specs.Orders.{rises_by, rises_in, are_below}
 use Rattle.router_state.specs.Fields.{field_before}
 use Rattle.router_state.specs.Trees.{root_name_before}
 use Rattle.router_state.specs.Contexts.{attribute_before, link_before, name_before}
 use Rattle.router_state.specs.Masks.{mask_before}
 use Rattle.router_state.specs.Queues.{queued_before, service_mark_before, entity_mark_before, suspension_before}
 use Rattle.router_state.specs.Profiles.{row_before}
-
--- the rows rise by this number
-abbrev pub rises_in : {Row : Type 0} → (Row → ℕ) → List Row → Bool
-rises_in number rows = rises_by (λ x y. nat_lt (number x) (number y)) rows
-
--- the rows' numbers are below this one
-abbrev pub are_below : {Row : Type 0} → (Row → ℕ) → ℕ → List Row → Bool
-are_below number n rows = list_all (λ row. nat_lt (number row) n) rows
 
 -- every list rises, and numbers are below the next ones
 pub record IsOrdered (s : State) : Type 0 where

@@ -5,7 +5,7 @@ use Rattle.std.specs.Str.{bytes_eq}
 use Rattle.slee_value.specs.declared.value.Value.{Value}
 use Rattle.script_meaning.specs.Same.{same_option, same_value}
 use Rattle.deploy_model.specs.Deployed.{Deployed, table_unique}
-use Rattle.router_state.specs.Orders.{put, text_before, same_text}
+use Rattle.rows_sorted.specs.Orders.{put, text_before, same_text}
 use Rattle.router_state.specs.declared.rows.ProfileRow.{ProfileRow}
 
 -- by table, then by row

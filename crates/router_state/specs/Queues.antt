@@ -3,7 +3,7 @@ use Rattle.std.specs.Prelude.{ℕ, nat_lt, Bool, ◌==◌, not, if◌then◌else
 use Rattle.std.specs.List.{list_any, list_all}
 use Rattle.built_in_events.specs.declared.built_in.BuiltInEvent.TheVariants as built_in_events
 use Rattle.built_in_events.specs.BuiltIn.{name_of as built_in_name}
-use Rattle.router_state.specs.Orders.{put, pair_before, same_pair}
+use Rattle.rows_sorted.specs.Orders.{put, pair_before, same_pair}
 use Rattle.router_state.specs.declared.rows.Event.{Event}
 use Rattle.router_state.specs.declared.rows.Queued.{Queued}
 use Rattle.router_state.specs.declared.rows.ServiceMark.{ServiceMark}

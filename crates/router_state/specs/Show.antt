@@ -7,7 +7,7 @@ use Rattle.slee_value.specs.declared.value.Value.{Value}
 use Rattle.slee_value.specs.declared.value.Value.TheVariants as values
 use Rattle.deploy_model.specs.Deployed.{Deployed, block_key, service_key, table_name}
 use Rattle.router_state.specs.State.{State}
-use Rattle.router_state.specs.Orders.{sorted}
+use Rattle.rows_sorted.specs.Orders.{sorted}
 use Rattle.router_state.specs.Fields.{fields_of}
 use Rattle.router_state.specs.Masks.{masks_of}
 use Rattle.router_state.specs.Queues.{head_event, suspended_until}

@@ -4,8 +4,7 @@ use Rattle.std.specs.Option.{option_map_or}
 use Rattle.std.specs.List.{list_all}
 use Rattle.slee_value.specs.Name.{is_name}
 use Rattle.deploy_model.specs.Deployed.{Deployed, DeployedTable, attribute_kind, is_event}
-use Rattle.router_state.specs.Orders.{rises_by}
-use Rattle.router_state.specs.Ordered.{rises_in}
+use Rattle.rows_sorted.specs.Orders.{rises_by, rises_in}
 use Rattle.router_state.specs.Fits.{is_drawn, is_text, is_value, is_of_kind}
 use Rattle.router_state.specs.Trees.{entity_at}
 use Rattle.router_state.specs.Contexts.{activity_at, has_name, is_of_service, is_of_table, is_linked, attribute_before, link_before, name_before}

@@ -5,8 +5,7 @@ use Rattle.std.specs.List.{list_all}
 use Rattle.slee_value.specs.declared.convergence.ConvName.{ConvName}
 use Rattle.script_meaning.specs.Same.{same_option, same_name}
 use Rattle.deploy_model.specs.Deployed.{Deployed, block_fields, relation_of, service_at, is_event}
-use Rattle.router_state.specs.Orders.{rises_by}
-use Rattle.router_state.specs.Ordered.{rises_in}
+use Rattle.rows_sorted.specs.Orders.{rises_by, rises_in}
 use Rattle.router_state.specs.Fits.{is_drawn, is_priority, is_text, is_value, none_or, are_declared}
 use Rattle.router_state.specs.Fields.{field_before, fields_of}
 use Rattle.router_state.specs.Trees.{entity_at, service_of, is_root, root_name_at, root_name_before}

@@ -4,7 +4,7 @@ use Rattle.std.specs.Option.{option_map_or}
 use Rattle.std.specs.List.{list_all}
 use Rattle.std.specs.Str.{bytes_eq}
 use Rattle.deploy_model.specs.Deployed.{Deployed, event_fields}
-use Rattle.router_state.specs.Orders.{rises_by}
+use Rattle.rows_sorted.specs.Orders.{rises_by}
 use Rattle.router_state.specs.Fits.{is_drawn, is_value, none_or, are_declared}
 use Rattle.router_state.specs.Timers.{last_moment}
 use Rattle.router_state.specs.Contexts.{activity_at}

@@ -3,8 +3,7 @@ use Rattle.std.specs.Prelude.{ℕ, nat_lt, nat_le, ◌==◌, Bool, ◌&&◌, ◌
 use Rattle.std.specs.List.{list_all}
 use Rattle.deploy_model.specs.Deployed.{Deployed, table_attributes}
 use Rattle.router_state.specs.State.{State}
-use Rattle.router_state.specs.Orders.{rises_by}
-use Rattle.router_state.specs.Ordered.{rises_in}
+use Rattle.rows_sorted.specs.Orders.{rises_by, rises_in}
 use Rattle.router_state.specs.Fits.{is_drawn, is_u64, is_text, is_value, are_declared}
 use Rattle.router_state.specs.Timers.{last_moment}
 use Rattle.router_state.specs.Contexts.{is_active}

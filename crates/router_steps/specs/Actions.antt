@@ -22,7 +22,7 @@ use Rattle.router_state.specs.declared.rows.Service.{Service}
 use Rattle.router_state.specs.declared.rows.Suspension.{Suspension}
 use Rattle.router_steps.specs.declared.refusal.Refusal.{Refusal}
 use Rattle.router_steps.specs.declared.refusal.Refusal.TheVariants as refusals
-use Rattle.router_steps.specs.Timing.{Occurrence, fired, fired_in_all, occurrence_limit, ending_suspensions}
+use Rattle.router_state.specs.Timing.{Occurrence, fired, fired_in_all, occurrence_limit, ending_suspensions}
 use Rattle.router_steps.specs.Values.{fields_given}
 
 -- What a line does.

@@ -6,7 +6,6 @@ pub mod Moves
 pub mod Creating
 pub mod Going
 pub mod Closing
-pub mod Timing
 pub mod Actions
 pub mod Taking
 pub mod Selection

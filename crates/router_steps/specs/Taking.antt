@@ -17,7 +17,7 @@ use Rattle.router_steps.specs.declared.refusal.Refusal.{Refusal}
 use Rattle.router_steps.specs.Actions.{Action, StartActivity, EndActivity, FireEvent, SetClock, ActivateService, StopService, ChangeRow}
 use Rattle.router_steps.specs.Lines.{refused_line, started_line, service_line}
 use Rattle.router_steps.specs.Moves.{queued, lines_of_queued, ended, lines_of_ended, resumed, lines_of_resumed, with_service}
-use Rattle.router_steps.specs.Timing.{Occurrence}
+use Rattle.router_state.specs.Timing.{Occurrence}
 
 -- suspensions end, one after another
 abbrev pub all_resumed : List Suspension → State → State

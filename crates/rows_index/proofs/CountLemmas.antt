@@ -7,7 +7,7 @@ use Rattle.std.proofs.lemmas.Bool.{cases_Bool, and_parts}
 use Rattle.std.proofs.Math.Bool.{or-true}
 use Rattle.std.proofs.lemmas.Bool.Decides.{nat_tests}
 use Rattle.std.proofs.lemmas.List.Sums.{sum_by-cons}
-use Rattle.router_state.specs.Orders.{put}
+use Rattle.rows_sorted.specs.Orders.{put}
 use Rattle.rows_sorted.specs.Keys.{Key, is_key, key_before, Rises}
 use Rattle.rows_sorted.proofs.OrderLemmas.{AllInOrder, IsBefore, all_from_all, in_order, filter_rises}
 use Rattle.rows_sorted.proofs.PartLemmas.{parted_by_key}

@@ -3,7 +3,7 @@ use Rattle.std.proofs.Common.{◌≡◌, ℕ, zero, suc, Bool, true, false, List
 use Rattle.std.specs.Prelude.{◌+◌, map, option_map}
 use Rattle.std.specs.List.{AllByRecursion, filter, find, insert, position_from}
 use Rattle.std.proofs.lemmas.Bool.{cases_Bool}
-use Rattle.router_state.specs.Orders.{put, sorted}
+use Rattle.rows_sorted.specs.Orders.{put, sorted}
 use Rattle.rows_sorted.proofs.OrderLemmas.{AllInOrder, all_filter}
 use Rattle.rows_index.proofs.SortLemmas as sorting
 use Rattle.rows_index.proofs.SortLemmas.{IsAhead, AreApart}

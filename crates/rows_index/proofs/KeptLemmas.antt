@@ -5,8 +5,7 @@ use Rattle.std.specs.List.{AllByRecursion, filter, find, list_all, sum_by}
 use Rattle.std.proofs.lemmas.Bool.{cases_Bool, and_parts}
 use Rattle.std.proofs.lemmas.Bool.Decides.{nat_tests}
 use Rattle.std.proofs.lemmas.List.Sums.{sum_by-cons, sum_by-append}
-use Rattle.router_state.specs.Ordered.{are_below}
-use Rattle.router_state.specs.Orders.{put}
+use Rattle.rows_sorted.specs.Orders.{are_below, put}
 use Rattle.rows_index.proofs.RowLemmas.{filter_behind}
 
 -- a row that is pushed adds its own measure

@@ -4,7 +4,7 @@ use Rattle.std.specs.Prelude.{not}
 use Rattle.std.specs.List.{AllByRecursion, filter, find, list_any, sum_by}
 use Rattle.std.proofs.lemmas.Bool.{cases_Bool}
 use Rattle.std.proofs.lemmas.Bool.Decides.{nat_tests}
-use Rattle.router_state.specs.Orders.{put}
+use Rattle.rows_sorted.specs.Orders.{put}
 use Rattle.rows_sorted.specs.Keys.{Key, is_key, key_before, number_key, pair_key, Rises}
 use Rattle.rows_sorted.proofs.OrderLemmas.{all_from_all}
 use Rattle.rows_index.specs.declared.entry.Entry.{Entry}

@@ -5,7 +5,7 @@ use Rattle.std.specs.List.{AllByRecursion, filter, find, insert}
 use Rattle.std.specs.List.Sorted.{IsPermutation}
 use Rattle.std.proofs.lemmas.Bool.{cases_Bool}
 use Rattle.std.proofs.lemmas.List.Sorted.{IsPermutation-refl, IsPermutation-trans, IsPermutation-cons, IsPermutation-insert}
-use Rattle.router_state.specs.Orders.{inserted, sorted}
+use Rattle.rows_sorted.specs.Orders.{inserted, sorted}
 use Rattle.rows_sorted.proofs.OrderLemmas.{AllInOrder, all_filter, all_from_all}
 
 turned : (b c : Bool) → b ≡ not c → c ≡ not b

@@ -2,7 +2,7 @@
 use Rattle.std.specs.Prelude.{ℕ, ◌≡◌, ◌+◌, ◌-◌, ◌*◌, ◌≤◌, Bool, nat_lt, not, if◌then◌else◌, true, List, [], ◌∷◌, filter, find}
 use Rattle.std.specs.List.{AllByRecursion, sum_by}
 use Rattle.std.specs.Option.{option_map_or}
-use Rattle.router_state.specs.Orders.{put}
+use Rattle.rows_sorted.specs.Orders.{put}
 use Rattle.rows_sorted.specs.Keys.{Key, is_key, key_before, Rises}
 use Rattle.rows_index.specs.declared.entry.Entry.{Entry}
 use Rattle.rows_index.specs.Index.{entry_key}

@@ -1,7 +1,7 @@
 //! An entry under another key.
 ghost use Rattle.std.specs.Prelude.{◌≡◌, ◌≤◌, not, filter, IsTrue};
 ghost use Rattle.std.specs.List.{list_any};
-ghost use Rattle.router_state.specs.Orders.{put};
+ghost use Rattle.rows_sorted.specs.Orders.{put};
 ghost use Rattle.rows_sorted.specs.Keys.{is_key, key_before, Rises};
 ghost use Rattle.rows_index.specs.Index.{entry_key};
 

@@ -3,7 +3,7 @@ use Rattle.std.proofs.Common.{◌≡◌, ℕ, zero, suc, Bool, true, false, if�
 use Rattle.std.specs.Prelude.{set, ◌&&◌}
 use Rattle.std.specs.List.{AllByRecursion, find, position_from}
 use Rattle.std.proofs.lemmas.Bool.{cases_Bool}
-use Rattle.router_state.specs.Orders.{rises_by}
+use Rattle.rows_sorted.specs.Orders.{rises_by}
 use Rattle.rows_sorted.specs.Keys.{Key, is_key, key_before, Rises}
 use Rattle.rows_sorted.proofs.ChangeLemmas.{changed_is}
 use Rattle.rows_sorted.proofs.HalvingLemmas.{find_at_place}

@@ -4,7 +4,7 @@ use Rattle.std.specs.Prelude.{is_some, nat_lt, not, set}
 use Rattle.std.specs.List.{filter, flat_map, insert, list_any, position_from, prefix_len}
 use Rattle.std.proofs.lemmas.Bool.{cases_Bool}
 use Rattle.std.proofs.lemmas.Bool.Decides.{nat_tests}
-use Rattle.router_state.specs.Orders.{put}
+use Rattle.rows_sorted.specs.Orders.{put}
 use Rattle.rows_sorted.specs.Keys.{Key, is_key, key_before, Rises}
 use Rattle.rows_sorted.proofs.HalvingLemmas.{any_is, absent_from}
 use Rattle.rows_sorted.proofs.OrderLemmas.{AllInOrder, IsBefore, in_order, rises_again, all_filter}

@@ -4,7 +4,7 @@ use Rattle.std.specs.Prelude.{not, remove, set}
 use Rattle.std.specs.List.{AllByRecursion, filter, find, flat_map, insert, list_any}
 use Rattle.std.proofs.lemmas.List.{append-nil, drop_more, drop-set-lt, set_split, take-append-drop, take_more_set, take-set}
 use Rattle.std.proofs.lemmas.List.Concat.{flat_map-append}
-use Rattle.router_state.specs.Orders.{put}
+use Rattle.rows_sorted.specs.Orders.{put}
 use Rattle.rows_sorted.specs.Keys.{Key, is_key, key_before, Rises}
 use Rattle.rows_sorted.proofs.OrderLemmas.{IsBefore, in_order, rises_again}
 use Rattle.rows_leaves.proofs.LastLemmas.{all_both, order_front, order_back}

@@ -1,7 +1,7 @@
 -- The numbers that a leaf has beside its rows are those of its last row, so that the leaves rise by them too.
 use Rattle.std.proofs.Common.{◌≡◌, Bool, List, [], ◌∷◌, map, refl, sym, ap, ◌∙◌}
 use Rattle.std.specs.List.{AllByRecursion, flat_map, prefix_len}
-use Rattle.router_state.specs.Orders.{rises_by}
+use Rattle.rows_sorted.specs.Orders.{rises_by}
 use Rattle.rows_sorted.specs.Keys.{Key, key_before, Rises}
 use Rattle.rows_leaves.specs.Laying.{last_key}
 use Rattle.rows_leaves.specs.Invariant.{leaf_rows, HasRows, IsNumbered}

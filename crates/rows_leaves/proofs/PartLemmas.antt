@@ -5,7 +5,7 @@ use Rattle.std.specs.List.{AllByRecursion, filter, find, list_any}
 use Rattle.std.proofs.lemmas.Bool.{cases_Bool}
 use Rattle.std.proofs.lemmas.List.{append-nil}
 use Rattle.std.proofs.lemmas.List.Elements.{filter-append}
-use Rattle.router_state.specs.Orders.{put}
+use Rattle.rows_sorted.specs.Orders.{put}
 use Rattle.rows_sorted.specs.Keys.{Key, is_key, key_before}
 use Rattle.rows_sorted.proofs.OrderLemmas.{all_from_all}
 use Rattle.rows_sorted.proofs.PartLemmas.{parted_by_key}

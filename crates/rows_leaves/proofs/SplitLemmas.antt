@@ -3,7 +3,7 @@ use Rattle.std.proofs.Common.{◌≡◌, ◌<◌, Bool, true, false, List, [], �
 use Rattle.std.specs.List.{AllByRecursion, prefix_len}
 use Rattle.std.proofs.lemmas.Bool.{cases_Bool}
 use Rattle.std.proofs.lemmas.List.{append-nil, reverse-append}
-use Rattle.router_state.specs.Orders.{put}
+use Rattle.rows_sorted.specs.Orders.{put}
 use Rattle.rows_sorted.specs.Keys.{Key, key_before, Rises}
 use Rattle.rows_sorted.proofs.OrderLemmas.{IsBefore, in_order, rises_again}
 use Rattle.rows_leaves.specs.Laying.{last_key}

@@ -2,7 +2,7 @@
 ghost use Rattle.std.specs.Prelude.{◌≡◌, ◌==◌, ◌+◌, ◌<◌, ◌≤◌, ◌||◌, if◌then◌else◌, [], IsTrue, OnOk, Some, filter, find, length, map, nat_eq, nat_le, nat_lt, not, option_copied, slice_get};
 ghost use Rattle.std.specs.List.{list_any, position_from};
 ghost use Rattle.std.specs.Fn.{FnOnceReturnsAtMut};
-ghost use Rattle.router_state.specs.Orders.{put};
+ghost use Rattle.rows_sorted.specs.Orders.{put};
 ghost use Rattle.rows_sorted.specs.Keys.{Rises, is_key, is_pair, key_before};
 ghost use Rattle.rows_sorted.specs.Runs.{without_first};
 ghost use Rattle.rows_leaves.specs.Shares.{is_in};

@@ -1,7 +1,7 @@
 //! Rows put into the leaf in which they belong.
 ghost use Rattle.std.specs.Prelude.{◌≡◌, ◌-◌, ◌+◌, ◌^◌, ◌≤◌, ◌<◌, [], ◌∷◌, IsTrue, MatchOption, false, length, map, not, nat_lt, ◌||◌, slice_index_or, vec_capacity, vec_len};
 ghost use Rattle.std.specs.List.{AllByRecursion, flat_map, insert, list_any};
-ghost use Rattle.router_state.specs.Orders.{put};
+ghost use Rattle.rows_sorted.specs.Orders.{put};
 ghost use Rattle.rows_sorted.specs.Keys.{Rises, is_key, key_before};
 ghost use Rattle.rows_leaves.specs.Invariant.{leaf_rows, row_count, has_place, Belongs, HasMemory, HasRows, IsNumbered, Stands};
 

@@ -1,5 +1,5 @@
 -- Keys are in a total order.
-use Rattle.std.proofs.Common.{Less, Equal, Greater, ◌≡◌, ℕ, ◌==◌, Bool, true, false, cond, refl, sym, ap, ◌∙◌, arith, inl, inr}
+use Rattle.std.proofs.Common.{Less, Equal, Greater, ◌≡◌, ℕ, ◌==◌, Bool, true, false, [], cond, refl, sym, ap, ◌∙◌, arith, inl, inr}
 use Rattle.std.specs.Prelude.{◌&&◌, ◌||◌, nat_lt}
 use Rattle.std.specs.Cmp.{IsTotalOrder}
 use Rattle.std.specs.Cmp.Lexicographic.{slice_cmp}
@@ -10,6 +10,7 @@ use Rattle.std.proofs.lemmas.Bool.Decides.{nat_tests}
 use Rattle.std.proofs.lemmas.Cmp.{nat_cmp_total, on_total, then_total, alike_right}
 use Rattle.std.proofs.lemmas.Map.Text.{is_eq-slice_cmp}
 use Rattle.std.specs.Cmp.Lexicographic.{nat_list_cmp_total}
+use Rattle.rows_sorted.specs.Orders.{pair_before, triple_before}
 use Rattle.rows_sorted.specs.Keys.{Key, key_before, is_key}
 
 -- how two keys compare
@@ -63,3 +64,19 @@ greater_after x y k rises high = by (key_order y k) refl
     by Less is = let low : is_lt (key_order x k) ≡ true = ap is_lt (key_total.trans x y k rises is) in cc
     by Equal is = let low : is_lt (key_order x k) ≡ true = ap is_lt (sym (alike_right key_total y k x is) ∙ rises) in cc
     by Greater is = is
+
+none_behind : (b : Bool) → (b && false) ≡ false
+none_behind true = refl
+none_behind false = refl
+
+alone : (b : Bool) → (b || false) ≡ b
+alone true = refl
+alone false = refl
+
+-- keys of two numbers are in the order of pairs
+pub pair_agrees : (a b c d : ℕ) → triple_before a b [] c d [] ≡ pair_before a b c d
+pair_agrees a b c d = rw (none_behind (b == d), alone (nat_lt b d)) refl
+
+-- keys of one number are in the order of numbers
+pub number_agrees : (a c : ℕ) → triple_before a 0 [] c 0 [] ≡ nat_lt a c
+number_agrees a c = rw (none_behind (a == c), alone (nat_lt a c)) refl

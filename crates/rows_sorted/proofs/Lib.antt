@@ -8,6 +8,5 @@ pub mod RunLemmas
 pub mod PartLemmas
 pub mod HeadLemmas
 pub mod ShareLemmas
-pub mod AgreeLemmas
 pub mod ChangeLemmas
 pub mod NumberLemmas

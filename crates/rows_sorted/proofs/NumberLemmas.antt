@@ -4,11 +4,10 @@ use Rattle.std.specs.Prelude.{◌&&◌, nat_lt, IsTrue}
 use Rattle.std.specs.List.{AllByRecursion, filter, list_all}
 use Rattle.std.proofs.lemmas.Bool.{cases_Bool}
 use Rattle.std.proofs.lemmas.Bool.Decides.{nat_tests}
-use Rattle.router_state.specs.Orders.{put}
-use Rattle.router_state.specs.Ordered.{are_below}
+use Rattle.rows_sorted.specs.Orders.{put, are_below}
 use Rattle.rows_sorted.specs.Keys.{Key, number_key, Rises}
-use Rattle.rows_sorted.proofs.AgreeLemmas.{number_agrees}
-use Rattle.rows_sorted.proofs.OrderLemmas.{AllInOrder, IsBefore, all_from_all, in_order, rises_again}
+use Rattle.rows_sorted.proofs.KeyLemmas.{number_agrees}
+use Rattle.rows_sorted.proofs.OrderLemmas.{AllInOrder, IsBefore, in_order, rises_again}
 
 both_true : (a b : Bool) → (a && b) ≡ true → (a ≡ true) × (b ≡ true)
 both_true true true passes = (refl, refl)

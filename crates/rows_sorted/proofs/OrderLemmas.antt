@@ -5,7 +5,7 @@ use Rattle.std.specs.List.{AllByRecursion, filter}
 use Rattle.std.specs.Ordering.{is_lt}
 use Rattle.std.proofs.lemmas.Bool.{cond_both}
 use Rattle.std.proofs.lemmas.Bool.Decides.{nat_tests}
-use Rattle.router_state.specs.Orders.{rises_by, put}
+use Rattle.rows_sorted.specs.Orders.{rises_by, put}
 use Rattle.rows_sorted.specs.Keys.{Key, key_before, Rises}
 use Rattle.rows_sorted.proofs.KeyLemmas.{key_order, key_total, before_is, lower_is, greater_after}
 

@@ -2,9 +2,6 @@
 #![tactic(auto)]
 
 mod keyed;
-mod keyed_by_number;
-mod keyed_by_pair;
-mod keyed_by_text;
 mod places;
 mod rows;
 mod runs;

@@ -1,7 +1,7 @@
 //! Rows found, put in their place, and taken out.
 ghost use Rattle.std.specs.Prelude.{◌≡◌, ◌==◌, ◌≤◌, ◌<◌, ◌-◌, ◌+◌, ◌||◌, ◌++◌, take, drop, IsTrue, IfSome, not, set, length, nat_lt, filter, find, vec_capacity, vec_len, option_copied};
 ghost use Rattle.std.specs.List.{insert, prefix_len, position_from, list_any};
-ghost use Rattle.router_state.specs.Orders.{put};
+ghost use Rattle.rows_sorted.specs.Orders.{put};
 ghost use Rattle.rows_sorted.specs.Keys.{key_before, is_key, is_pair, Rises};
 
 use crate::{Keyed, places};

@@ -6,10 +6,11 @@ use Rattle.std.proofs.Math.Nat.{lt-div-mul-add, suc-mul}
 use Rattle.std.proofs.lemmas.Bool.{cases_Bool}
 use Rattle.std.proofs.lemmas.Bool.Decides.{nat_tests}
 use Rattle.std.proofs.lemmas.List.Sums.{sum_by-cons}
-use Rattle.router_state.specs.Orders.{put}
+use Rattle.rows_sorted.specs.Orders.{put}
 use Rattle.router_state.specs.Timers.{behind, due_count, goes_on, left_behind, repeated, timer_at, without_timer}
 use Rattle.router_state.specs.declared.rows.Timer.{Timer}
-use Rattle.rows_sorted.specs.Keys.{is_key, key_before, number_key, pair_key, timer_key, Rises}
+use Rattle.rows_sorted.specs.Keys.{is_key, key_before, number_key, pair_key, Rises}
+use Rattle.router_state.specs.Keys.{timer_key}
 use Rattle.rows_sorted.proofs.ChangeLemmas.{changed_is, number_is}
 use Rattle.rows_sorted.proofs.HalvingLemmas.{absent_from, find_at_place, not_found}
 use Rattle.rows_sorted.proofs.PartLemmas.{parted_by_key}

@@ -9,7 +9,7 @@ use Rattle.slee_value.specs.declared.keep.Keep.{Keep}
 use Rattle.slee_value.specs.declared.keep.Keep.TheVariants as keeps
 use Rattle.router_state.specs.Timers.{due_count, repeated, goes_on, last_moment}
 use Rattle.router_state.specs.declared.rows.Timer.{Timer}
-use Rattle.router_steps.specs.Timing.{moment_of, is_last_at, kept_count}
+use Rattle.router_state.specs.Timing.{moment_of, is_last_at, kept_count}
 
 due_few : (t : Timer) (to k : ℕ) → k < due_count t to → (t.next ≤ to) × (k ≤ (to - t.next) / t.period)
 due_few t to k few = elim (cases_Bool (nat_lt to t.next)) [

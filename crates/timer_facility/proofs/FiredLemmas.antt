@@ -8,11 +8,12 @@ use Rattle.std.specs.Cmp.{IsStrictWeakOrder}
 use Rattle.std.proofs.lemmas.Bool.{cases_Bool}
 use Rattle.std.proofs.lemmas.Bool.Decides.{nat_tests}
 use Rattle.std.proofs.lemmas.List.Sums.{sum-map}
-use Rattle.router_state.specs.Orders.{sorted}
+use Rattle.rows_sorted.specs.Orders.{sorted}
 use Rattle.router_state.specs.Timers.{timer_at, due_count}
 use Rattle.router_state.specs.declared.rows.Timer.{Timer}
-use Rattle.router_steps.specs.Timing.{Occurrence, occurrence_before, occurrence_of, fired, fired_count, fired_in_all, fired_of}
-use Rattle.rows_sorted.specs.Keys.{timer_key, Rises}
+use Rattle.router_state.specs.Timing.{Occurrence, occurrence_before, occurrence_of, fired, fired_count, fired_in_all, fired_of}
+use Rattle.router_state.specs.Keys.{timer_key}
+use Rattle.rows_sorted.specs.Keys.{Rises}
 use Rattle.rows_sorted.proofs.OrderLemmas.{all_from_all}
 use Rattle.rows_index.specs.declared.entry.Entry.{Entry}
 use Rattle.rows_index.specs.Index.{IsIndex}

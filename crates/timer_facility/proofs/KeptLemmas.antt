@@ -4,8 +4,7 @@ use Rattle.std.specs.Prelude.{not, nat_lt, IsTrue}
 use Rattle.std.specs.List.{AllByRecursion, filter, list_all}
 use Rattle.std.proofs.lemmas.Bool.{cases_Bool, and_parts}
 use Rattle.std.proofs.lemmas.Bool.Decides.{nat_tests}
-use Rattle.router_state.specs.Ordered.{are_below}
-use Rattle.router_state.specs.Orders.{put}
+use Rattle.rows_sorted.specs.Orders.{are_below, put}
 use Rattle.router_state.specs.Timers.{timer_at, without_timer}
 use Rattle.router_state.specs.declared.rows.Timer.{Timer}
 use Rattle.timer_facility.specs.Views.{timer_before}

@@ -4,7 +4,7 @@ use Rattle.std.specs.List.{range_with_len}
 use Rattle.std.proofs.lemmas.List.FromFn.{map-range_with_len_more}
 use Rattle.router_state.specs.Timers.{due_count}
 use Rattle.router_state.specs.declared.rows.Timer.{Timer}
-use Rattle.router_steps.specs.Timing.{Occurrence, occurrence_of, fired_count, fired_of}
+use Rattle.router_state.specs.Timing.{Occurrence, occurrence_of, fired_count, fired_of}
 
 -- one more occurrence behind those from the first on
 pub one_more : (t : Timer) (first place : ℕ) (ys : List Occurrence) → first ≤ place

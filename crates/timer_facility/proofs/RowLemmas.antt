@@ -6,7 +6,8 @@ use Rattle.std.specs.Option.{option_map_or}
 use Rattle.std.proofs.lemmas.Bool.{cases_Bool}
 use Rattle.router_state.specs.Timers.{timer_at, without_timer, without_timers_on}
 use Rattle.router_state.specs.declared.rows.Timer.{Timer}
-use Rattle.rows_sorted.specs.Keys.{timer_key, Rises}
+use Rattle.router_state.specs.Keys.{timer_key}
+use Rattle.rows_sorted.specs.Keys.{Rises}
 use Rattle.rows_sorted.proofs.OrderLemmas.{all_from_all}
 use Rattle.rows_index.proofs.FoundLemmas.{each_found, only_found}
 use Rattle.rows_index.proofs.RowLemmas.{filter_behind}

@@ -5,7 +5,7 @@ use Rattle.std.specs.List.{AllByRecursion, filter}
 use Rattle.std.specs.List.Sorted.{IsSortedBy, IsStableBy, ties}
 use Rattle.std.proofs.lemmas.Bool.{cases_Bool, cond_both}
 use Rattle.std.proofs.lemmas.Grind.{reverse_onto}
-use Rattle.router_state.specs.Orders.{inserted, sorted}
+use Rattle.rows_sorted.specs.Orders.{inserted, sorted}
 
 all_from_all : {X : Type 0} (P Q : X → Type 0) → ((x : X) → P x → Q x) → (xs : List X) → AllByRecursion P xs → AllByRecursion Q xs
 all_from_all P Q follows [] all = tt

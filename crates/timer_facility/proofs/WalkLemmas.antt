@@ -7,7 +7,8 @@ use Rattle.std.proofs.lemmas.Bool.{cases_Bool}
 use Rattle.std.proofs.lemmas.Bool.Decides.{nat_tests}
 use Rattle.router_state.specs.Timers.{advanced, behind, due_count, timer_at, without_timer}
 use Rattle.router_state.specs.declared.rows.Timer.{Timer}
-use Rattle.rows_sorted.specs.Keys.{timer_key, Rises}
+use Rattle.router_state.specs.Keys.{timer_key}
+use Rattle.rows_sorted.specs.Keys.{Rises}
 use Rattle.rows_sorted.proofs.OrderLemmas.{AllInOrder, IsBefore, all_filter, all_from_all, in_order}
 use Rattle.rows_index.specs.declared.entry.Entry.{Entry}
 use Rattle.rows_index.specs.Index.{entry_before, entry_key, IsIndex}

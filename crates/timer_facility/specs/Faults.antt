@@ -1,6 +1,6 @@
 -- Why there is no list of due occurrences.
 use Rattle.std.specs.Prelude.{◌≡◌, ℕ, ◌<◌, ◌≤◌}
-use Rattle.router_steps.specs.Timing.{occurrence_limit}
+use Rattle.router_state.specs.Timing.{occurrence_limit}
 use Rattle.timer_facility.specs.declared.occurrences.DueFault.{DueFault}
 use Rattle.timer_facility.specs.declared.occurrences.DueFault.TheVariants as faults
 

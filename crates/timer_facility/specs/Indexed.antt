@@ -4,8 +4,9 @@ use Rattle.std.specs.List.{list_any}
 use Rattle.std.specs.Option.{option_map_or}
 use Rattle.router_state.specs.Timers.{timer_at, behind, due_count, goes_on}
 use Rattle.router_state.specs.declared.rows.Timer.{Timer}
-use Rattle.router_steps.specs.Timing.{Occurrence, fired_count, fired_of}
-use Rattle.rows_sorted.specs.Keys.{timer_key, Rises}
+use Rattle.router_state.specs.Timing.{Occurrence, fired_count, fired_of}
+use Rattle.router_state.specs.Keys.{timer_key}
+use Rattle.rows_sorted.specs.Keys.{Rises}
 use Rattle.rows_index.specs.Index.{entry_before, IsIndex}
 use Rattle.rows_index.specs.declared.entry.Entry.{Entry}
 use Rattle.timer_facility.specs.Views.{TimerRowsView}

@@ -1,6 +1,6 @@
 -- How the timers are kept: below the next number.
 use Rattle.std.specs.Prelude.{IsTrue}
-use Rattle.router_state.specs.Ordered.{are_below}
+use Rattle.rows_sorted.specs.Orders.{are_below}
 use Rattle.timer_facility.specs.Views.{TimersView}
 use Rattle.timer_facility.specs.declared.timers.Timers.TheInside.{Inside}
 

@@ -1,6 +1,6 @@
 -- An occurrence in a list, and the order of lists.
 use Rattle.std.specs.Prelude.{Bool}
-use Rattle.router_steps.specs.Timing.{Occurrence, occurrence_before}
+use Rattle.router_state.specs.Timing.{Occurrence, occurrence_before}
 use Rattle.timer_facility.specs.declared.occurrences.Due.{Due}
 
 -- the occurrence that stands in a list

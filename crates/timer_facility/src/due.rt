@@ -1,7 +1,7 @@
 //! What of one timer is due at a moment, what is fired of it, and what is left.
 ghost use Rattle.std.specs.Prelude.{◌≡◌, ℕ, ◌+◌, ◌-◌, ◌*◌, ◌<◌, ◌≤◌, ◌^◌, IsTrue};
 ghost use Rattle.router_state.specs.Timers.{due_count, goes_on, left_behind, behind};
-ghost use Rattle.router_steps.specs.Timing.{fired_count, is_last_at};
+ghost use Rattle.router_state.specs.Timing.{fired_count, is_last_at};
 
 use router_state::Timer;
 use slee_value::Keep;

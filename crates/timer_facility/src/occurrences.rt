@@ -2,8 +2,8 @@
 ghost use Rattle.std.specs.Prelude.{◌≡◌, ◌++◌, ◌<◌, ◌≤◌, ◌^◌, length, map, sum, OnOk, IfOk};
 ghost use Rattle.std.specs.Ordering.{is_lt};
 ghost use Rattle.std.specs.List.{flat_map};
-ghost use Rattle.router_state.specs.Orders.{sorted};
-ghost use Rattle.router_steps.specs.Timing.{fired_of, occurrence_before};
+ghost use Rattle.rows_sorted.specs.Orders.{sorted};
+ghost use Rattle.router_state.specs.Timing.{fired_of, occurrence_before};
 ghost use Rattle.timer_facility.specs.Indexed.{fired_at, fired_count_at};
 ghost use Rattle.timer_facility.specs.Occurrences.{occurrence, due_before};
 

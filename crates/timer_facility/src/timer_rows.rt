@@ -2,10 +2,9 @@
 ghost use Rattle.std.specs.Prelude.{◌≡◌, ◌+◌, ◌<◌, ◌≤◌, ◌==◌, false, [], Some, None, length, map, slice_get, IsTrue, OnOk, IfOk, MatchOption, option_copied};
 ghost use Rattle.std.specs.List.{list_any};
 ghost use Rattle.std.specs.Option.{option_map_or};
-ghost use Rattle.router_state.specs.Ordered.{rises_in};
-ghost use Rattle.router_state.specs.Orders.{put};
+ghost use Rattle.rows_sorted.specs.Orders.{rises_in, put};
 ghost use Rattle.router_state.specs.Timers.{timer_at, without_timer, without_timers_on, advanced, due_count, goes_on};
-ghost use Rattle.router_steps.specs.Timing.{fired, fired_in_all};
+ghost use Rattle.router_state.specs.Timing.{fired, fired_in_all};
 ghost use Rattle.timer_facility.specs.Indexed.{is_left, moved_on, used_up, IsNext};
 ghost use Rattle.timer_facility.specs.Occurrences.{occurrence};
 ghost use Rattle.timer_facility.specs.Views.{timer_before};

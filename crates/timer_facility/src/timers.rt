@@ -1,9 +1,8 @@
 //! The timers, rising by number; clauses see them as a list, with the next number and the room.
 ghost use Rattle.std.specs.Prelude.{◌≡◌, ◌+◌, ◌-◌, ◌<◌, ◌≤◌, ◌^◌, ◌++◌, ◌∷◌, [], map, length, filter, nat_lt, Some, IsTrue, OnOk, IfErr, IfOk, slice_get, option_copied};
-ghost use Rattle.router_state.specs.Ordered.{rises_in, are_below};
-ghost use Rattle.router_state.specs.Orders.{put};
+ghost use Rattle.rows_sorted.specs.Orders.{rises_in, are_below, put};
 ghost use Rattle.router_state.specs.Timers.{timer_at, with_timer, without_timer, without_timers_on, advanced, behind, due_count, goes_on};
-ghost use Rattle.router_steps.specs.Timing.{fired, fired_in_all, occurrence_limit};
+ghost use Rattle.router_state.specs.Timing.{fired, fired_in_all, occurrence_limit};
 ghost use Rattle.timer_facility.specs.Occurrences.{occurrence};
 ghost use Rattle.timer_facility.specs.Faults.{IsFaultOf};
 ghost use Rattle.timer_facility.specs.Views.{timer_before};

@@ -1,6 +1,6 @@
 -- by activity, then by entity
 use Rattle.std.proofs.Common.{◌∙◌}
-use Rattle.rows_sorted.proofs.AgreeLemmas.{link_put}
+use Rattle.router_state.proofs.AgreeLemmas.{link_put}
 use Rattle.activity_context.proofs.links.put_link.Goals as goal
 
 pub returns-clause-rows : goal.returns-clause-rows

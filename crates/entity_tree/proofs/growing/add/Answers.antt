@@ -1,7 +1,7 @@
 -- the index and the depths follow the entity that was put in
 use Rattle.std.proofs.Common.{◌+◌, ◌==◌, List, map, sym, ap, subst, ◌∙◌, arith}
 use Rattle.std.specs.List.{filter}
-use Rattle.router_state.specs.Orders.{put}
+use Rattle.rows_sorted.specs.Orders.{put}
 use Rattle.router_state.specs.Trees.{children}
 use Rattle.router_state.specs.declared.rows.Entity.{Entity}
 use Rattle.entity_tree.specs.declared.branch.Branch.{Branch}

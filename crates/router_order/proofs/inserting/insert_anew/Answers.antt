@@ -1,6 +1,6 @@
 -- the attachment is put among those to its activity, and so among all
 use Rattle.std.proofs.Common.{◌∙◌, ap, arith, length}
-use Rattle.router_state.specs.Orders.{put}
+use Rattle.rows_sorted.specs.Orders.{put}
 use Rattle.router_state.specs.Contexts.{links_on}
 use Rattle.router_order.specs.Listed.{listed_before}
 use Rattle.router_order.specs.Placed.{attachments}

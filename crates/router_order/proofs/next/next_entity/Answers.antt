@@ -2,7 +2,7 @@
 use Rattle.std.proofs.Common.{ap, ◌∙◌}
 use Rattle.std.specs.Prelude.{option_map}
 use Rattle.router_state.specs.declared.rows.Entity.{Entity}
-use Rattle.rows_sorted.proofs.AgreeLemmas.{link_order}
+use Rattle.router_state.proofs.AgreeLemmas.{link_order}
 use Rattle.router_order.proofs.NextLemmas.{first_is}
 use Rattle.router_order.proofs.next.next_entity.Goals as goal
 

@@ -1,6 +1,6 @@
 -- the entry goes, and comes under the other key
 use Rattle.std.proofs.Common.{List, ap, ◌∙◌}
-use Rattle.router_state.specs.Orders.{put}
+use Rattle.rows_sorted.specs.Orders.{put}
 use Rattle.rows_index.specs.declared.entry.Entry.{Entry}
 use Rattle.rows_index.specs.Index.{entry_before}
 use Rattle.rows_index.proofs.moving.move_entry.Goals as goal

@@ -1,6 +1,6 @@
 -- the row goes behind where all of the first part stand before it, and else into the first part
 use Rattle.std.proofs.Common.{◌<◌, ◌++◌, length, sym, ap, subst, ◌∙◌, arith}
-use Rattle.router_state.specs.Orders.{put}
+use Rattle.rows_sorted.specs.Orders.{put}
 use Rattle.rows_sorted.specs.Keys.{Rises, key_before}
 use Rattle.rows_leaves.proofs.SplitLemmas.{front_rises, back_rises, put_behind, put_ahead}
 use Rattle.rows_leaves.proofs.splitting.put_in_two.Goals as goal

@@ -1,10 +1,8 @@
 -- a row that is looked at tells on which side the place is
-use Rattle.std.proofs.Common.{arith, ◌≡◌, ◌≤◌, ◌<◌, ◌+◌, true, false, sym, ◌∙◌}
-use Rattle.std.specs.List.{prefix_len}
+use Rattle.std.proofs.Common.{arith, sym, ◌∙◌}
 use Rattle.rows_sorted.specs.Keys.{Key}
 use Rattle.rows_sorted.specs.Borders.{is_ahead}
 use Rattle.rows_sorted.proofs.SearchLemmas.{behind_front, front_fits, in_front}
-use Rattle.rows_sorted.proofs.searching.count_ahead.Invariants.{Narrowed}
 use Rattle.rows_sorted.proofs.searching.count_ahead.Goals as goal
 use Rattle.rows_sorted.proofs.searching.count_ahead.Goals.{then-is_ahead, else-is_ahead}
 

@@ -1,7 +1,7 @@
 -- the occurrences before this place are in the list
 use Rattle.std.proofs.Common.{◌≡◌, ◌-◌, ◌++◌, map}
 use Rattle.std.specs.List.{range_with_len}
-use Rattle.router_steps.specs.Timing.{occurrence_of}
+use Rattle.router_state.specs.Timing.{occurrence_of}
 use Rattle.timer_facility.specs.Occurrences.{occurrence}
 use Rattle.timer_facility.proofs.occurrences.add_occurrences.Given as goal
 

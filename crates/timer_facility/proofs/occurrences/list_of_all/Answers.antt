@@ -1,7 +1,7 @@
 -- the order of what stands for occurrences is theirs
 use Rattle.std.proofs.Common.{map, ap, ◌∙◌}
-use Rattle.router_state.specs.Orders.{sorted}
-use Rattle.router_steps.specs.Timing.{occurrence_before}
+use Rattle.rows_sorted.specs.Orders.{sorted}
+use Rattle.router_state.specs.Timing.{occurrence_before}
 use Rattle.timer_facility.specs.Occurrences.{occurrence}
 use Rattle.timer_facility.proofs.SortLemmas.{sorted_mapped}
 use Rattle.timer_facility.proofs.occurrences.list_of_all.Goals as goal

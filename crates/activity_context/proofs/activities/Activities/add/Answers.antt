@@ -1,8 +1,8 @@
 -- the activity comes with its entry
 use Rattle.std.proofs.Common.{refl, ◌∙◌}
 use Rattle.router_state.specs.declared.rows.Activity.{Activity}
-use Rattle.rows_sorted.proofs.AgreeLemmas.{activity_put}
-use Rattle.rows_sorted.specs.Keys.{activity_key}
+use Rattle.router_state.proofs.AgreeLemmas.{activity_put}
+use Rattle.router_state.specs.Keys.{activity_key}
 use Rattle.rows_index.proofs.RowLemmas.{indexed_put}
 use Rattle.activity_context.specs.Indexed.{name_number}
 use Rattle.activity_context.proofs.activities.Activities.add.Goals as goal

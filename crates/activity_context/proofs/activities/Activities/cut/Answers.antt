@@ -1,7 +1,7 @@
 -- the activity goes with its entry, or there is none
 use Rattle.std.proofs.Common.{sym, ◌==◌, refl}
 use Rattle.router_state.specs.declared.rows.Activity.{Activity}
-use Rattle.rows_sorted.specs.Keys.{activity_key}
+use Rattle.router_state.specs.Keys.{activity_key}
 use Rattle.rows_sorted.proofs.NumberLemmas.{below_filter}
 use Rattle.rows_index.proofs.FoundLemmas.{none_at}
 use Rattle.rows_index.proofs.RowLemmas.{all_stay, indexed_cut}

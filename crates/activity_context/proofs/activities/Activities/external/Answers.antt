@@ -2,7 +2,7 @@
 use Rattle.std.proofs.Common.{List, refl, ap, ◌∙◌}
 use Rattle.router_state.specs.Contexts.{activity_at, has_name}
 use Rattle.router_state.specs.declared.rows.Activity.{Activity}
-use Rattle.rows_sorted.specs.Keys.{activity_key}
+use Rattle.router_state.specs.Keys.{activity_key}
 use Rattle.rows_index.specs.declared.entry.Entry.{Entry}
 use Rattle.rows_index.specs.Found.{first_found}
 use Rattle.rows_index.specs.Numbers.{number_of}

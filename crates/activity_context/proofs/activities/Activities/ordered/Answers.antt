@@ -1,6 +1,6 @@
 -- as they are kept
 use Rattle.std.proofs.Common.{sym, ◌∙◌}
-use Rattle.rows_sorted.proofs.AgreeLemmas.{activity_order}
+use Rattle.router_state.proofs.AgreeLemmas.{activity_order}
 use Rattle.activity_context.proofs.activities.Activities.ordered.Goals as goal
 
 pub returns : goal.returns

@@ -1,6 +1,6 @@
 -- as they are kept
 use Rattle.std.proofs.Common.{sym, ◌∙◌}
-use Rattle.rows_sorted.proofs.AgreeLemmas.{link_order}
+use Rattle.router_state.proofs.AgreeLemmas.{link_order}
 use Rattle.activity_context.proofs.contexts.Contexts.ordered.Goals as goal
 
 pub returns-clause-attributes : goal.returns-clause-attributes

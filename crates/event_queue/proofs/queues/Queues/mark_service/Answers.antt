@@ -1,6 +1,6 @@
 -- the mark is put in its place
 use Rattle.std.proofs.Common.{refl, ◌∙◌}
-use Rattle.rows_sorted.proofs.AgreeLemmas.{service_mark_put}
+use Rattle.router_state.proofs.AgreeLemmas.{service_mark_put}
 use Rattle.event_queue.proofs.queues.Queues.mark_service.Goals as goal
 
 pub returns-clause-rows : goal.returns-clause-rows

@@ -1,6 +1,6 @@
 -- the event is put in its place
 use Rattle.std.proofs.Common.{refl, ◌∙◌}
-use Rattle.rows_sorted.proofs.AgreeLemmas.{queued_put}
+use Rattle.router_state.proofs.AgreeLemmas.{queued_put}
 use Rattle.event_queue.proofs.queues.Queues.restore.Goals as goal
 
 pub returns-clause-rows : goal.returns-clause-rows

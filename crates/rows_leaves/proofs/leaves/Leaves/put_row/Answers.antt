@@ -4,7 +4,7 @@ use Rattle.std.specs.Prelude.{nat_lt, not, ◌||◌}
 use Rattle.std.specs.List.{list_any}
 use Rattle.std.proofs.lemmas.Bool.{cases_Bool}
 use Rattle.std.proofs.lemmas.Bool.Decides.{nat_tests}
-use Rattle.router_state.specs.Orders.{put}
+use Rattle.rows_sorted.specs.Orders.{put}
 use Rattle.rows_sorted.specs.Keys.{Key, Rises, is_key, key_before}
 use Rattle.rows_leaves.proofs.CountLemmas.{put_again, put_anew}
 use Rattle.rows_leaves.proofs.leaves.Leaves.put_row.Goals as goal

@@ -1,8 +1,8 @@
 -- each index has the new timer
 use Rattle.std.proofs.Common.{◌∙◌, refl}
 use Rattle.router_state.specs.declared.rows.Timer.{Timer}
-use Rattle.rows_sorted.proofs.AgreeLemmas.{timer_put}
-use Rattle.rows_sorted.specs.Keys.{timer_key}
+use Rattle.router_state.proofs.AgreeLemmas.{timer_put}
+use Rattle.router_state.specs.Keys.{timer_key}
 use Rattle.rows_index.proofs.RowLemmas.{indexed_put}
 use Rattle.timer_facility.proofs.timer_rows.TimerRows.add.Goals as goal
 

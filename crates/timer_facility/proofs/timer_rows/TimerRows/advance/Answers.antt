@@ -1,6 +1,6 @@
 -- the timer of the next entry is done, until no due one is left
 use Rattle.std.proofs.Common.{sym, ◌∙◌, arith}
-use Rattle.rows_sorted.proofs.AgreeLemmas.{timer_order}
+use Rattle.router_state.proofs.AgreeLemmas.{timer_order}
 use Rattle.timer_facility.proofs.WalkLemmas.{none_left, step_fewer, step_same}
 use Rattle.timer_facility.proofs.timer_rows.TimerRows.advance.Goals as goal
 

@@ -3,7 +3,7 @@ use Rattle.std.proofs.Common.{sym, ◌==◌, ◌∙◌, refl}
 use Rattle.std.specs.Prelude.{filter, not}
 use Rattle.router_state.specs.declared.rows.Timer.{Timer}
 use Rattle.rows_index.proofs.FoundLemmas.{none_at}
-use Rattle.rows_sorted.specs.Keys.{timer_key}
+use Rattle.router_state.specs.Keys.{timer_key}
 use Rattle.rows_sorted.proofs.ChangeLemmas.{number_is}
 use Rattle.rows_index.proofs.RowLemmas.{all_stay, indexed_cut}
 use Rattle.timer_facility.proofs.timer_rows.TimerRows.cut.Goals as goal

@@ -2,7 +2,7 @@
 use Rattle.std.proofs.Common.{List, ◌==◌, sym, ap, ◌∙◌, arith}
 use Rattle.router_state.specs.Timers.{without_timers_on}
 use Rattle.router_state.specs.declared.rows.Timer.{Timer}
-use Rattle.rows_sorted.proofs.AgreeLemmas.{timer_order}
+use Rattle.router_state.proofs.AgreeLemmas.{timer_order}
 use Rattle.rows_index.proofs.RowLemmas.{all_stay, cut_fewer, each_fails}
 use Rattle.timer_facility.proofs.RowLemmas.{cut_on_later, found_there}
 use Rattle.timer_facility.proofs.timer_rows.TimerRows.cut_on.Goals as goal

@@ -3,7 +3,7 @@ use Rattle.std.proofs.Common.{◌==◌, false, sym, ap, ◌∙◌, refl}
 use Rattle.std.specs.Option.{option_map_or}
 use Rattle.router_state.specs.declared.rows.Timer.{Timer}
 use Rattle.rows_index.specs.declared.entry.Entry.{Entry}
-use Rattle.rows_sorted.specs.Keys.{timer_key}
+use Rattle.router_state.specs.Keys.{timer_key}
 use Rattle.rows_index.proofs.RowLemmas.{any_fails, none_first, some_first}
 use Rattle.timer_facility.proofs.timer_rows.TimerRows.first_on.Goals as goal
 

@@ -4,8 +4,8 @@ use Rattle.std.specs.Cmp.{IsStrictWeakOrder}
 use Rattle.std.specs.List.{flat_map}
 use Rattle.std.proofs.lemmas.Bool.Decides.{nat_tests}
 use Rattle.std.proofs.lemmas.Result.{IfOk-weaker}
-use Rattle.router_state.specs.Orders.{sorted}
-use Rattle.router_steps.specs.Timing.{occurrence_before}
+use Rattle.rows_sorted.specs.Orders.{sorted}
+use Rattle.router_state.specs.Timing.{occurrence_before}
 use Rattle.rows_index.specs.declared.entry.Entry.{Entry}
 use Rattle.timer_facility.specs.Indexed.{fired_at}
 use Rattle.timer_facility.proofs.FiredLemmas.{list_is}

@@ -1,9 +1,10 @@
 -- the timer is behind its due occurrences, and so is its entry
 use Rattle.std.proofs.Common.{ap, ◌∙◌, arith}
 use Rattle.std.proofs.lemmas.Bool.{or_left}
-use Rattle.router_state.specs.Orders.{put}
+use Rattle.rows_sorted.specs.Orders.{put}
 use Rattle.router_state.specs.declared.rows.Timer.{Timer}
-use Rattle.rows_sorted.specs.Keys.{key_before, timer_key}
+use Rattle.rows_sorted.specs.Keys.{key_before}
+use Rattle.router_state.specs.Keys.{timer_key}
 use Rattle.rows_sorted.proofs.NumberLemmas.{rises_map}
 use Rattle.rows_index.proofs.IndexLemmas.{index_map}
 use Rattle.timer_facility.specs.Indexed.{activity_entry, moved_on}

@@ -1,6 +1,6 @@
 -- as they are kept
 use Rattle.std.proofs.Common.{sym, ◌∙◌}
-use Rattle.rows_sorted.proofs.AgreeLemmas.{timer_order}
+use Rattle.router_state.proofs.AgreeLemmas.{timer_order}
 use Rattle.timer_facility.proofs.timer_rows.TimerRows.ordered.Goals as goal
 
 pub returns : goal.returns

@@ -1,11 +1,10 @@
 -- The order of keys is that in which the lists of the state stand.
-use Rattle.std.proofs.Common.{◌≡◌, ℕ, Bool, true, false, List, [], refl}
-use Rattle.std.specs.Prelude.{◌||◌, ◌&&◌, ◌==◌, nat_lt}
-use Rattle.router_state.specs.Orders.{put, rises_by, pair_before, triple_before}
+use Rattle.std.proofs.Common.{◌≡◌, List}
+use Rattle.std.specs.Prelude.{nat_lt}
+use Rattle.rows_sorted.specs.Orders.{put, rises_by, rises_in}
 use Rattle.router_state.specs.Trees.{root_name_before}
 use Rattle.router_state.specs.Contexts.{link_before}
 use Rattle.router_state.specs.Queues.{queued_before, service_mark_before, entity_mark_before, suspension_before}
-use Rattle.router_state.specs.Ordered.{rises_in}
 use Rattle.router_state.specs.declared.rows.Entity.{Entity}
 use Rattle.router_state.specs.declared.rows.RootName.{RootName}
 use Rattle.router_state.specs.declared.rows.Activity.{Activity}
@@ -15,23 +14,9 @@ use Rattle.router_state.specs.declared.rows.ServiceMark.{ServiceMark}
 use Rattle.router_state.specs.declared.rows.EntityMark.{EntityMark}
 use Rattle.router_state.specs.declared.rows.Suspension.{Suspension}
 use Rattle.router_state.specs.declared.rows.Timer.{Timer}
-use Rattle.rows_sorted.specs.Keys.{key_before, entity_key, root_name_key, activity_key, link_key, queued_key, service_mark_key, entity_mark_key, suspension_key, timer_key}
-
-none_behind : (b : Bool) → (b && false) ≡ false
-none_behind true = refl
-none_behind false = refl
-
-alone : (b : Bool) → (b || false) ≡ b
-alone true = refl
-alone false = refl
-
--- keys of two numbers are in the order of pairs
-pub pair_agrees : (a b c d : ℕ) → triple_before a b [] c d [] ≡ pair_before a b c d
-pair_agrees a b c d = rw (none_behind (b == d), alone (nat_lt b d)) refl
-
--- keys of one number are in the order of numbers
-pub number_agrees : (a c : ℕ) → triple_before a 0 [] c 0 [] ≡ nat_lt a c
-number_agrees a c = rw (none_behind (a == c), alone (nat_lt a c)) refl
+use Rattle.rows_sorted.specs.Keys.{key_before}
+use Rattle.rows_sorted.proofs.KeyLemmas.{number_agrees, pair_agrees}
+use Rattle.router_state.specs.Keys.{entity_key, root_name_key, activity_key, link_key, queued_key, service_mark_key, entity_mark_key, suspension_key, timer_key}
 
 pub entity_order : (rows : List Entity) → rises_by (λ x y. key_before (entity_key x) (entity_key y)) rows ≡ rises_in (λ row. row.number.0) rows
 entity_order rows = λ i. rises_by (λ x y. number_agrees x.number.0 y.number.0 i) rows

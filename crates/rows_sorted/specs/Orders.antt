@@ -1,5 +1,6 @@
 -- The orders in which lists stand, and how a list is put in order.
 use Rattle.std.specs.Prelude.{ℕ, Bool, true, ◌==◌, ◌||◌, ◌&&◌, nat_lt, if◌then◌else◌, List, [], ◌∷◌, ◌++◌, filter}
+use Rattle.std.specs.List.{list_all}
 use Rattle.std.specs.Str.{bytes_eq}
 use Rattle.slee_value.specs.Order.{is_below}
 
@@ -28,6 +29,14 @@ abbrev pub rises_by : {Row : Type 0} → (Row → Row → Bool) → List Row →
 rises_by before [] = true
 rises_by before (x ∷ []) = true
 rises_by before (x ∷ y ∷ rows) = before x y && rises_by before (y ∷ rows)
+
+-- the rows rise by this number
+abbrev pub rises_in : {Row : Type 0} → (Row → ℕ) → List Row → Bool
+rises_in number rows = rises_by (λ x y. nat_lt (number x) (number y)) rows
+
+-- the rows' numbers are below this one
+abbrev pub are_below : {Row : Type 0} → (Row → ℕ) → ℕ → List Row → Bool
+are_below number n rows = list_all (λ row. nat_lt (number row) n) rows
 
 -- A row in its place in a list that rises: the rows that stand before it, the row, and those behind it. One that stands in the same place gives way.
 abbrev pub put : {Row : Type 0} → (Row → Row → Bool) → Row → List Row → List Row

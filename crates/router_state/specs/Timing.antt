@@ -3,7 +3,7 @@ use Rattle.std.specs.Prelude.{ℕ, zero, suc, ◌+◌, ◌-◌, ◌*◌, min, Bo
 use Rattle.std.specs.List.{flat_map, range_with_len}
 use Rattle.slee_value.specs.declared.keep.Keep.{Keep}
 use Rattle.slee_value.specs.declared.keep.Keep.TheVariants as keeps
-use Rattle.router_state.specs.Orders.{pair_before, sorted}
+use Rattle.rows_sorted.specs.Orders.{pair_before, sorted}
 use Rattle.router_state.specs.Timers.{due_count}
 use Rattle.router_state.specs.declared.rows.Suspension.{Suspension}
 use Rattle.router_state.specs.declared.rows.Timer.{Timer}

@@ -1,10 +1,10 @@
 //! The keys of rows that are found by one number.
 
-use crate::Keyed;
-use router_state::{Activity, Entity, RootName, Suspension, Timer};
+use crate::rows::{Activity, Entity, RootName, Suspension, Timer};
+use rows_sorted::Keyed;
 
 impl Keyed for Entity {
-    ghost use Rattle.rows_sorted.specs.Keys.{entity_key};
+    ghost use Rattle.router_state.specs.Keys.{entity_key};
 
     ghost key = { entity_key };
 
@@ -22,7 +22,7 @@ impl Keyed for Entity {
 }
 
 impl Keyed for RootName {
-    ghost use Rattle.rows_sorted.specs.Keys.{root_name_key};
+    ghost use Rattle.router_state.specs.Keys.{root_name_key};
 
     ghost key = { root_name_key };
 
@@ -40,7 +40,7 @@ impl Keyed for RootName {
 }
 
 impl Keyed for Activity {
-    ghost use Rattle.rows_sorted.specs.Keys.{activity_key};
+    ghost use Rattle.router_state.specs.Keys.{activity_key};
 
     ghost key = { activity_key };
 
@@ -58,7 +58,7 @@ impl Keyed for Activity {
 }
 
 impl Keyed for Suspension {
-    ghost use Rattle.rows_sorted.specs.Keys.{suspension_key};
+    ghost use Rattle.router_state.specs.Keys.{suspension_key};
 
     ghost key = { suspension_key };
 
@@ -76,7 +76,7 @@ impl Keyed for Suspension {
 }
 
 impl Keyed for Timer {
-    ghost use Rattle.rows_sorted.specs.Keys.{timer_key};
+    ghost use Rattle.router_state.specs.Keys.{timer_key};
 
     ghost key = { timer_key };
 

@@ -1,10 +1,10 @@
 //! The keys of rows that are found by a pair of numbers.
 
-use crate::Keyed;
-use router_state::{EntityMark, Link, Queued, ServiceMark};
+use crate::rows::{EntityMark, Link, Queued, ServiceMark};
+use rows_sorted::Keyed;
 
 impl Keyed for Link {
-    ghost use Rattle.rows_sorted.specs.Keys.{link_key};
+    ghost use Rattle.router_state.specs.Keys.{link_key};
 
     ghost key = { link_key };
 
@@ -22,7 +22,7 @@ impl Keyed for Link {
 }
 
 impl Keyed for Queued {
-    ghost use Rattle.rows_sorted.specs.Keys.{queued_key};
+    ghost use Rattle.router_state.specs.Keys.{queued_key};
 
     ghost key = { queued_key };
 
@@ -40,7 +40,7 @@ impl Keyed for Queued {
 }
 
 impl Keyed for ServiceMark {
-    ghost use Rattle.rows_sorted.specs.Keys.{service_mark_key};
+    ghost use Rattle.router_state.specs.Keys.{service_mark_key};
 
     ghost key = { service_mark_key };
 
@@ -58,7 +58,7 @@ impl Keyed for ServiceMark {
 }
 
 impl Keyed for EntityMark {
-    ghost use Rattle.rows_sorted.specs.Keys.{entity_mark_key};
+    ghost use Rattle.router_state.specs.Keys.{entity_mark_key};
 
     ghost key = { entity_mark_key };
 
