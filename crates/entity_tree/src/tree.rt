@@ -9,7 +9,7 @@ ghost use Rattle.std.specs.Borrow.{sem};
 ghost use Rattle.rows_sorted.specs.Keys.{Rises};
 ghost use Rattle.router_state.specs.Keys.{entity_key};
 ghost use Rattle.entity_tree.specs.Climbing.{path_at};
-ghost use Rattle.entity_tree.specs.Kept.{AreParents, entity_before, is_entity, numbers_of};
+ghost use Rattle.entity_tree.specs.Kept.{AreEntities, AreParents, entity_before, is_entity, numbers_of};
 ghost use Rattle.entity_tree.specs.Lending.{KeepsTree};
 
 use crate::branch::Branch;
@@ -235,11 +235,13 @@ impl Tree {
         paths::compare(&self.rows, &self.depths, one, other)
     }
 
-    /// Passes on that entities rise by number, and that a parent's number is below its child's.
+    /// Passes on that entities rise by number, that numbers are below the next one, and that a parent's number is below its child's.
     pub fn ordered(&self)
         ensures rises { Rises entity_key self.now.rows }
+        ensures kept { AreEntities self.now.next self.now.rows }
         ensures parents { AreParents self.now.rows }
     {
+        let _next = self.next;
         self.rows.rises();
     }
 

@@ -1,5 +1,6 @@
 //! The store of events. Contracts see it as four lists in order, and the number of rows that each of them takes without memory.
-ghost use Rattle.std.specs.Prelude.{ℕ, ◌≡◌, ◌==◌, ◌+◌, ◌≤◌, ◌<◌, [], Some, length, slice_get, filter, IsTrue, OnOk, option_copied, option_map};
+ghost use Rattle.std.specs.Prelude.{ℕ, ◌≡◌, ◌==◌, ◌+◌, ◌≤◌, ◌<◌, [], Some, not, length, slice_get, filter, IsTrue, OnOk, option_copied, option_map};
+ghost use Rattle.std.specs.List.{list_any};
 ghost use Rattle.rows_sorted.specs.Orders.{rises_by};
 ghost use Rattle.event_queue.specs.Views.{HasRoom};
 ghost use Rattle.router_state.specs.Queues.{queued_before, service_mark_before, entity_mark_before, suspension_before, queue, head_event, is_waiting, is_done, is_delivered, is_suspended, suspended_until, with_event, without_head, with_service_mark, without_service_marks, with_entity_mark, without_entity_marks, with_suspension, without_suspension};
@@ -204,6 +205,13 @@ impl Queues {
         self.delivered.has_row_of_pair(activity.0, entity.0)
     }
 
+    /// Whether no entity has received the head event of the activity.
+    pub fn is_undelivered(&self, activity: ActivityId) -> bool
+        ensures { result ≡ not (list_any (λ m. m.activity.0 == activity.0) self.now.delivered) }
+    {
+        !self.delivered.has_row_of(activity.0)
+    }
+
     /// The marks of services for the head event of the activity, rising by service.
     pub fn services_done(&self, activity: ActivityId) -> Run<'_, ServiceMark>
         ensures { result ≡ filter (λ m. m.activity.0 == activity.0) self.now.services_done }
@@ -226,23 +234,9 @@ impl Queues {
     }
 
     /// How many events wait.
-    pub fn len(&self) -> u64
-        ensures { result ≡ length self.now.events }
-    {
-        self.events.len() as u64
-    }
-
-    /// The event at this place of all that wait, counted from 0.
-    pub fn at(&self, place: u64) -> &Queued
-        requires { place < length self.now.events }
-        ensures { slice_get self.now.events place ≡ Some result.now }
-    {
-        self.events.at(place as usize)
-    }
-
-    /// Passes on that each list stands in its order.
     #[tactic(auto, using(router_state::proofs::AgreeLemmas::queued_order, router_state::proofs::AgreeLemmas::service_mark_order, router_state::proofs::AgreeLemmas::entity_mark_order, router_state::proofs::AgreeLemmas::suspension_order))]
-    pub fn in_order(&self)
+    pub fn len(&self) -> u64
+        ensures length { result ≡ length self.now.events }
         ensures events { IsTrue (rises_by queued_before self.now.events) }
         ensures services_done { IsTrue (rises_by service_mark_before self.now.services_done) }
         ensures delivered { IsTrue (rises_by entity_mark_before self.now.delivered) }
@@ -252,5 +246,14 @@ impl Queues {
         self.services_done.rises();
         self.delivered.rises();
         self.suspensions.rises();
+        self.events.len() as u64
+    }
+
+    /// The event at this place of all that wait, counted from 0.
+    pub fn at(&self, place: u64) -> &Queued
+        requires { place < length self.now.events }
+        ensures { slice_get self.now.events place ≡ Some result.now }
+    {
+        self.events.at(place as usize)
     }
 }

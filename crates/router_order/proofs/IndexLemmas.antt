@@ -2,7 +2,6 @@
 use Rattle.std.proofs.Common.{◌≡◌, ℕ, ◌==◌, List, Option, None, sym, ap, ◌∙◌}
 use Rattle.std.specs.Prelude.{◌&&◌, option_map}
 use Rattle.std.specs.List.{filter, find}
-use Rattle.slee_value.specs.declared.ids.EntityId.{EntityId}
 use Rattle.router_state.specs.declared.rows.Entity.{Entity}
 use Rattle.router_state.specs.declared.rows.Event.{Event}
 use Rattle.router_state.specs.declared.rows.Link.{Link}
@@ -21,7 +20,7 @@ use Rattle.router_order.proofs.ListingLemmas.{listing_order}
 use Rattle.router_order.proofs.FirstLemmas.{IsListedBefore, first_of, on_path}
 use Rattle.router_order.proofs.NextLemmas.{eligible_is}
 
-module _ (s : State) (a : ℕ) (v : Event) (es : List Entity) (ms : List Mask) (name bs : List ℕ) (service : Option ℕ) (ds : List EntityId) (about : IsAbout s a v es ms name bs service ds) where
+module _ (s : State) (a : ℕ) (v : Event) (es : List Entity) (ms : List Mask) (name bs : List ℕ) (service : Option ℕ) (ds : ℕ → Bool) (about : IsAbout s a v es ms name bs service ds) where
   pub first_listed : (rows : List Link) → Agrees es s.links rows → Rises entity_key es
       → option_map (λ (l : Link). l.entity) (find (passes es (is_wanted es ms a name bs service ds)) (links_on rows a)) ≡ option_map (λ (row : Entity). row.number) (first s a v)
   first_listed rows agrees rises =

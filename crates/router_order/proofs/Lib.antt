@@ -11,3 +11,5 @@ pub mod PriorityLemmas
 pub mod IndexedLemmas
 pub mod DetachLemmas
 pub mod RankLemmas
+pub mod HeldLemmas
+pub mod GrowthLemmas

@@ -4,7 +4,6 @@ use Rattle.std.specs.Prelude.{◌&&◌, nat_lt}
 use Rattle.std.specs.List.{AllByRecursion, filter, cons_option}
 use Rattle.std.proofs.lemmas.Bool.{cases_Bool}
 use Rattle.std.proofs.lemmas.Bool.Decides.{nat_tests}
-use Rattle.slee_value.specs.declared.ids.EntityId.{EntityId}
 use Rattle.router_state.specs.declared.rows.Entity.{Entity}
 use Rattle.router_state.specs.declared.rows.Event.{Event}
 use Rattle.router_state.specs.declared.rows.Link.{Link}
@@ -119,7 +118,7 @@ on_one a (l ∷ ls) mine order =
     lower_all [] here before = tt
     lower_all (m ∷ ms) here before = (let one = mine.0 in let two = here.0 in let less = before.0 in grind (arith, nat_tests, one, two, less), lower_all ms here.1 before.1)
 
-module _ (s : State) (a : ℕ) (v : Event) (es : List Entity) (ms : List Mask) (name bs : List ℕ) (service : Option ℕ) (ds : List EntityId) (about : IsAbout s a v es ms name bs service ds) where
+module _ (s : State) (a : ℕ) (v : Event) (es : List Entity) (ms : List Mask) (name bs : List ℕ) (service : Option ℕ) (ds : ℕ → Bool) (about : IsAbout s a v es ms name bs service ds) where
   abbrev wanted : Entity → Bool
   wanted = is_wanted es ms a name bs service ds
 

@@ -178,7 +178,7 @@ path_at_still es fs e priority f is rises parents apart =
     let short = subst (λ n. through e (path n (with_priority es e priority) f) ≡ false) long here in
     ap (λ (rows : List Entity). path (length rows) rows f) is ∙ ap (λ n. path n (with_priority es e priority) f) long ∙ path_still (length es) es e priority f short
 
-rises_alike : (es fs : List Entity) (links : List Link) → AllByRecursion (λ (l : Link). path_at fs l.entity.0 ≡ path_at es l.entity.0) links → rises_by (listed_before es) links ≡ true → rises_by (listed_before fs) links ≡ true
+pub rises_alike : (es fs : List Entity) (links : List Link) → AllByRecursion (λ (l : Link). path_at fs l.entity.0 ≡ path_at es l.entity.0) links → rises_by (listed_before es) links ≡ true → rises_by (listed_before fs) links ≡ true
 rises_alike es fs [] same rises = refl
 rises_alike es fs (x ∷ []) same rises = refl
 rises_alike es fs (x ∷ y ∷ links) same rises =

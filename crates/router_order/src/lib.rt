@@ -10,8 +10,10 @@ mod next;
 mod order;
 mod placed;
 mod ready;
+mod received;
 mod wants;
 
 pub use next::next_entity;
 pub use order::Order;
-pub use wants::Wants;
+pub use received::Received;
+pub use wants::{Head, Wants};

@@ -6,9 +6,10 @@ ghost use Rattle.router_state.specs.State.{State};
 ghost use Rattle.router_state.specs.Trees.{entity_at};
 ghost use Rattle.router_state.specs.Paths.{earlier, least_path};
 ghost use Rattle.router_state.specs.Next.{first};
-ghost use Rattle.router_order.specs.Asked.{IsAbout, entities_of, is_wanted};
+ghost use Rattle.router_order.specs.Asked.{IsAbout, entities_of, is_among, is_wanted};
 
-use crate::wants::{Wants, is_wanted};
+use crate::received::Received;
+use crate::wants::{Head, Wants, is_wanted};
 use activity_context::Contexts;
 use entity_tree::Tree;
 use event_mask::Masks;
@@ -34,19 +35,20 @@ fn earlier<'a>(tree: &Tree, best: Option<&'a Entity>, row: &'a Entity) -> &'a En
 
 /// The earlier one of the best so far and this entity, where the entity may receive the event.
 #[tactic(auto, using(crate::proofs::NextLemmas::considered_some, crate::proofs::NextLemmas::considered_other))]
-fn consider<'a>(
+fn consider<'a, D: Received>(
     tree: &'a Tree,
     masks: &Masks,
     activity: ActivityId,
-    wants: &Wants<'_>,
+    head: &Head<'_>,
+    marks: &D,
     best: Option<&'a Entity>,
     entity: EntityId,
 ) -> Option<&'a Entity>
-    ensures { option_copied result ≡ least_path tree.now.rows (option_copied best.entry) (filter (is_wanted tree.now.rows masks.now.rows activity.0 wants.now.event.now wants.now.blocks.now wants.now.target wants.now.delivered.now) (cons_option (entity_at tree.now.rows entity.0) [])) }
+    ensures { option_copied result ≡ least_path tree.now.rows (option_copied best.entry) (filter (is_wanted tree.now.rows masks.now.rows activity.0 head.now.event.now head.now.blocks.now head.now.target (D.received marks.now activity.0)) (cons_option (entity_at tree.now.rows entity.0) [])) }
 {
     match tree.find(entity) {
         Some(row) => {
-            if is_wanted(tree, masks, activity, wants, row) {
+            if is_wanted(tree, masks, activity, head, marks, row) {
                 Some(earlier(tree, best, row))
             } else {
                 best
@@ -57,18 +59,19 @@ fn consider<'a>(
 }
 
 /// The entity of least path among those that may receive the event, of the entities of these attachments.
-fn least<'a>(
+fn least<'a, D: Received>(
     tree: &'a Tree,
     links: Run<'_, Link>,
     masks: &Masks,
     activity: ActivityId,
-    wants: &Wants<'_>,
+    head: &Head<'_>,
+    marks: &D,
 ) -> Option<&'a Entity>
-    ensures { option_copied result ≡ least_path tree.now.rows None (filter (is_wanted tree.now.rows masks.now.rows activity.0 wants.now.event.now wants.now.blocks.now wants.now.target wants.now.delivered.now) (entities_of tree.now.rows links.entry)) }
+    ensures { option_copied result ≡ least_path tree.now.rows None (filter (is_wanted tree.now.rows masks.now.rows activity.0 head.now.event.now head.now.blocks.now head.now.target (D.received marks.now activity.0)) (entities_of tree.now.rows links.entry)) }
 {
     let mut best = None;
     'links: for link in links {
-        best = consider(tree, masks, activity, wants, best, link.entity);
+        best = consider(tree, masks, activity, head, marks, best, link.entity);
     }
     best
 }
@@ -90,9 +93,16 @@ pub fn next_entity(
     activity: ActivityId,
     wants: &Wants<'_>,
 ) -> Option<EntityId>
-    ensures { (s : State) (v : Event) → IsAbout s activity.0 v tree.now.rows masks.now.rows wants.now.event.now wants.now.blocks.now wants.now.target wants.now.delivered.now → contexts.now.links ≡ s.links → result ≡ option_map (λ row. row.number) (first s activity.0 v) }
+    ensures { (s : State) (v : Event) → IsAbout s activity.0 v tree.now.rows masks.now.rows wants.now.event.now wants.now.blocks.now wants.now.target (is_among wants.now.delivered.now) → contexts.now.links ≡ s.links → result ≡ option_map (λ row. row.number) (first s activity.0 v) }
 {
     tree.ordered();
     contexts.ordered();
-    number_of(least(tree, contexts.links_on(activity), masks, activity, wants))
+    number_of(least(
+        tree,
+        contexts.links_on(activity),
+        masks,
+        activity,
+        &wants.head(),
+        wants,
+    ))
 }

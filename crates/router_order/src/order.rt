@@ -1,15 +1,16 @@
 //! The index from which the next entity is taken. Clauses see it as the list of all attachments, by activity, then by path, and how many more can be listed without memory.
-ghost use Rattle.std.specs.Prelude.{◌≡◌, ◌+◌, ◌<◌, ◌≤◌, [], List, OnOk, IsTrue, option_map};
+ghost use Rattle.std.specs.Prelude.{◌≡◌, ◌==◌, ◌+◌, ◌<◌, ◌≤◌, [], List, OnOk, IsTrue, map, option_map};
+ghost use Rattle.std.specs.List.{list_any};
 ghost use Rattle.router_state.specs.declared.rows.Event.{Event};
 ghost use Rattle.router_state.specs.declared.rows.Link.{Link};
 ghost use Rattle.router_state.specs.declared.rows.Entity.{Entity};
 ghost use Rattle.router_state.specs.State.{State};
-ghost use Rattle.rows_sorted.specs.Orders.{put};
-ghost use Rattle.router_state.specs.Contexts.{with_link, without_link, without_links_on};
+ghost use Rattle.rows_sorted.specs.Orders.{put, rises_by};
+ghost use Rattle.router_state.specs.Contexts.{activities_of, link_before, with_link, without_link, without_links_on};
 ghost use Rattle.router_state.specs.Trees.{with_priority};
 ghost use Rattle.router_state.specs.Next.{first};
 ghost use Rattle.entity_tree.specs.Kept.{is_entity};
-ghost use Rattle.router_order.specs.Asked.{IsAbout};
+ghost use Rattle.router_order.specs.Asked.{IsAbout, is_among};
 ghost use Rattle.router_order.specs.Listed.{Agrees, IsListing, listed_before};
 
 use crate::cutting::{cut_entries, cut_link, cut_links_on};
@@ -17,12 +18,13 @@ use crate::inserting::insert_link;
 use crate::moving::{put_each, take_of};
 use crate::placed::Placed;
 use crate::ready::first_ready;
-use crate::wants::Wants;
+use crate::received::Received;
+use crate::wants::{Head, Wants};
 use entity_tree::Tree;
 use event_mask::Masks;
 use router_state::Link;
 use rows_index::Entry;
-use rows_leaves::Leaves;
+use rows_leaves::{Leaves, Run};
 use slee_value::{ActivityId, EntityId, NoMemory};
 use std::alloc::Global;
 use std::marker::Model;
@@ -164,9 +166,40 @@ impl Order {
         activity: ActivityId,
         wants: &Wants<'_>,
     ) -> Option<EntityId>
-        ensures { (s : State) (v : Event) → IsAbout s activity.0 v tree.now.rows masks.now.rows wants.now.event.now wants.now.blocks.now wants.now.target wants.now.delivered.now → Agrees tree.now.rows s.links self.now.rows → result ≡ option_map (λ row. row.number) (first s activity.0 v) }
+        ensures { (s : State) (v : Event) → IsAbout s activity.0 v tree.now.rows masks.now.rows wants.now.event.now wants.now.blocks.now wants.now.target (is_among wants.now.delivered.now) → Agrees tree.now.rows s.links self.now.rows → result ≡ option_map (λ row. row.number) (first s activity.0 v) }
+    {
+        self.next_unmarked(tree, masks, activity, &wants.head(), wants)
+    }
+
+    /// The same, where these marks tell who has received the event: the queues know it without a list.
+    pub fn next_unmarked<D: Received>(
+        &self,
+        tree: &Tree,
+        masks: &Masks,
+        activity: ActivityId,
+        head: &Head<'_>,
+        marks: &D,
+    ) -> Option<EntityId>
+        ensures { (s : State) (v : Event) → IsAbout s activity.0 v tree.now.rows masks.now.rows head.now.event.now head.now.blocks.now head.now.target (D.received marks.now activity.0) → Agrees tree.now.rows s.links self.now.rows → result ≡ option_map (λ row. row.number) (first s activity.0 v) }
     {
         tree.ordered();
-        first_ready(tree, self.rows.rows_of(activity.0), masks, activity, wants)
+        let run = self.rows.rows_of(activity.0);
+        first_ready(tree, run, masks, activity, head, marks)
+    }
+
+    /// The activities to which the entity is attached, rising.
+    pub fn of(&self, entity: EntityId) -> Run<'_, Entry>
+        ensures { (entities : List Entity) (links : List Link) → IsTrue (rises_by link_before links) → Agrees entities links self.now.rows → map (λ entry. entry.number) result ≡ activities_of links entity.0 }
+    {
+        self.entries.rises();
+        self.entries.rows_of(entity.0)
+    }
+
+    /// Whether the entity is attached to an activity.
+    pub fn has(&self, entity: EntityId) -> bool
+        ensures { (entities : List Entity) (links : List Link) → IsTrue (rises_by link_before links) → Agrees entities links self.now.rows → result ≡ list_any (λ l. l.entity.0 == entity.0) links }
+    {
+        self.entries.rises();
+        self.entries.has_row_of(entity.0)
     }
 }

@@ -59,10 +59,14 @@ is_spec spec =
     nat_le spec.start last_moment
     && (nat_le spec.period last_moment && (nat_le spec.times last_moment && (nat_lt 0 spec.period || spec.times == 1)))
 
+-- there is a table of this number
+abbrev pub has_table : Deployed → ℕ → Bool
+has_table d table = nat_lt table (length d.tables)
+
 -- the attributes are the table's, and no other row has a unique one of the same value
 abbrev pub is_fit_row : Deployed → List ProfileRow → ProfileRow → Bool
 is_fit_row d rows row =
-    nat_lt row.table (length d.tables)
+    has_table d row.table
     && (are_declared (table_attributes d row.table) row.attributes
     && list_all (λ other. is_row row.table row.row other || are_unique d row other) rows)
 
@@ -103,7 +107,7 @@ fits_change (changes.AddRow table row fields) s =
     is_fit_row s.deployment s.rows (record { table = table; row = row; attributes = fields }) && not (has_row s.rows table row)
 fits_change (changes.UpdateRow table row fields) s =
     is_fit_row s.deployment s.rows (record { table = table; row = row; attributes = fields }) && has_row s.rows table row
-fits_change (changes.RemoveRow table row) s = has_row s.rows table row
+fits_change (changes.RemoveRow table row) s = has_table s.deployment table && has_row s.rows table row
 fits_change (changes.Clock to) s = true
 fits_change changes.Taken s = has_next s.inputs
 fits_change (changes.Service service state a) s = nat_lt service (length s.services)

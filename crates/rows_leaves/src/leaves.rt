@@ -151,13 +151,6 @@ impl<R: Keyed + Drop> Leaves<R> {
         reading::has_row_of(self.leaves.as_slice(), Share::First(first))
     }
 
-    /// The first row of this pair of numbers.
-    pub fn row_of_pair(&self, first: u64, second: u64) -> Option<&R>
-        ensures { option_copied result ≡ find (λ row. is_pair first second (R.key row)) self.now.rows }
-    {
-        reading::first_row_of(self.leaves.as_slice(), Share::Pair(first, second))
-    }
-
     /// Whether there is a row of this pair of numbers.
     pub fn has_row_of_pair(&self, first: u64, second: u64) -> bool
         ensures { result ≡ list_any (λ row. is_pair first second (R.key row)) self.now.rows }

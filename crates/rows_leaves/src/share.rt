@@ -5,8 +5,7 @@ ghost use Rattle.rows_sorted.specs.Keys.{Rises};
 ghost use Rattle.rows_leaves.specs.Shares.{is_ahead, is_in, is_up_to};
 
 use rows_sorted::{
-    Keyed, count_lower, count_lower_pair, count_up_to, first_row_of, row_of_pair, run_of,
-    run_of_pair,
+    Keyed, count_lower, count_lower_pair, count_up_to, first_row_of, run_of, run_of_pair,
 };
 
 /// Which rows are asked for.
@@ -64,8 +63,7 @@ pub fn first_in<R: Keyed>(rows: &[R], share: Share) -> Option<&R>
 {
     match share {
         Share::First(first) => first_row_of(rows, first),
-        Share::Pair(first, second) => row_of_pair(rows, first, second),
-        Share::UpTo(_) => rows_in(rows, share).first(),
+        Share::Pair(..) | Share::UpTo(_) => rows_in(rows, share).first(),
     }
 }
 

@@ -12,5 +12,5 @@ pub use places::{count_before, count_lower, count_lower_pair, count_up_to, run_o
 pub use rows::{cut_row, cut_rows_of, cut_rows_of_pair, has_row, place_of, put_row, row_of};
 pub use runs::{
     cut_first_of, first_row_of, has_row_of, has_row_of_pair, place_of_first, place_of_pair,
-    row_of_pair, rows_of, rows_of_pair,
+    rows_of, rows_of_pair,
 };

@@ -101,17 +101,6 @@ pub fn place_of_pair<R: Keyed>(rows: &[R], first: u64, second: u64) -> Option<us
     }
 }
 
-/// The first row of this pair of numbers.
-pub fn row_of_pair<R: Keyed>(rows: &[R], first: u64, second: u64) -> Option<&R>
-    requires { Rises R.key rows.now }
-    ensures { option_copied result ≡ find (λ row. is_pair first second (R.key row)) rows.now }
-{
-    match place_of_pair(rows, first, second) {
-        Some(place) => Some(&rows[place]),
-        None => None,
-    }
-}
-
 /// Whether there is a row of this pair of numbers.
 pub fn has_row_of_pair<R: Keyed>(rows: &[R], first: u64, second: u64) -> bool
     requires { Rises R.key rows.now }

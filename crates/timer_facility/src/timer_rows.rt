@@ -51,17 +51,12 @@ impl TimerRows {
         }
     }
 
-    /// Passes on that the timers rise.
-    pub fn ordered(&self)
-        ensures { IsTrue (rises_in (λ row. row.number.0) self.now.timers) }
-    {
-        self.rows.rises();
-    }
-
     /// How many timers there are.
     pub fn len(&self) -> usize
-        ensures { result ≡ length self.now.timers }
+        ensures length { result ≡ length self.now.timers }
+        ensures rises { IsTrue (rises_in (λ row. row.number.0) self.now.timers) }
     {
+        self.rows.rises();
         self.rows.len()
     }
 

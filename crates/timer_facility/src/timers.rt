@@ -45,15 +45,6 @@ impl Timers {
         }
     }
 
-    /// Passes on that the timers rise, and that their numbers are below the next one.
-    pub fn ordered(&self)
-        ensures rises { IsTrue (rises_in (λ row. row.number.0) self.now.timers) }
-        ensures below { IsTrue (are_below (λ row. row.number.0) self.now.next self.now.timers) }
-    {
-        let _next = self.next;
-        self.rows.ordered();
-    }
-
     /// Makes room for so many more timers.
     pub fn reserve(&mut self, timers: u64) -> Result<(), NoMemory>
         ensures timers { self.new.timers ≡ self.old.timers }
@@ -158,8 +149,11 @@ impl Timers {
 
     /// How many timers there are.
     pub fn len(&self) -> u64
-        ensures { result ≡ length self.now.timers }
+        ensures length { result ≡ length self.now.timers }
+        ensures rises { IsTrue (rises_in (λ row. row.number.0) self.now.timers) }
+        ensures below { IsTrue (are_below (λ row. row.number.0) self.now.next self.now.timers) }
     {
+        let _next = self.next;
         self.rows.len() as u64
     }
 
