@@ -6,3 +6,4 @@ pub mod Firsts
 pub mod Ids
 pub mod Lookups
 pub mod Resolving
+pub mod Selecting

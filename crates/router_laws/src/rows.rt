@@ -1,9 +1,10 @@
 //! Worked examples, by computation.
 ghost use Rattle.std.specs.Prelude.{◌≡◌, ℕ, pos, negsuc, true, false, [], ◌∷◌, map, codes, Some, None, option_map, Err};
 ghost use Rattle.signal_script.specs.declared.signal.Signal.TheVariants as signals;
+ghost use Rattle.deploy_model.specs.Selecting.{service_order};
 ghost use Rattle.deploy_model.specs.declared.choice.SelectRule.TheVariants as rules;
 ghost use Rattle.router_laws.specs.Samples.{low_and_high, at_first, started, fired_ping, selected, periodic, three_timers};
-ghost use Rattle.router_state.specs.Next.{next, receives_at, service_order, least};
+ghost use Rattle.router_state.specs.Next.{next, receives_at, least};
 ghost use Rattle.router_state.specs.Paths.{path_before};
 ghost use Rattle.router_state.specs.Timers.{advanced};
 ghost use Rattle.router_state.specs.declared.kindred.Kindred.TheVariants as kindreds;

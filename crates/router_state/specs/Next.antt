@@ -1,12 +1,12 @@
 -- What is next on an activity: a service selects, an entity receives the head event, or the head event goes.
-use Rattle.std.specs.Prelude.{ℕ, ◌+◌, Bool, true, false, ◌&&◌, ◌==◌, not, if◌then◌else◌, is_some, List, [], ◌∷◌, filter, find, Option, Some, None, option_map, option_and_then}
+use Rattle.std.specs.Prelude.{ℕ, Bool, true, false, ◌&&◌, ◌==◌, not, if◌then◌else◌, is_some, List, [], ◌∷◌, filter, find, Option, Some, None, option_map, option_and_then}
 use Rattle.std.specs.List.{list_any}
 use Rattle.std.specs.Option.{option_map_or}
-use Rattle.deploy_model.specs.Deployed.{DeployedService, handles, is_initial}
+use Rattle.deploy_model.specs.Deployed.{handles, is_initial}
+use Rattle.deploy_model.specs.Selecting.{Numbered, service_order}
 use Rattle.router_state.specs.State.{State}
-use Rattle.rows_sorted.specs.Orders.{sorted}
 use Rattle.router_state.specs.Trees.{service_of}
-use Rattle.router_state.specs.Paths.{step_before, least_path}
+use Rattle.router_state.specs.Paths.{least_path}
 use Rattle.router_state.specs.Contexts.{is_linked}
 use Rattle.router_state.specs.Masks.{is_masked}
 use Rattle.router_state.specs.Queues.{head_event, is_done, is_delivered, is_undelivered, is_suspended}
@@ -16,23 +16,6 @@ use Rattle.router_state.specs.declared.rows.Entity.{Entity}
 use Rattle.router_state.specs.declared.rows.Event.{Event}
 use Rattle.router_state.specs.declared.kindred.Kindred.{Kindred}
 use Rattle.router_state.specs.declared.kindred.Kindred.TheVariants as kindreds
-
--- a service with its number
-abbrev pub Numbered : Type 0
-Numbered = ℕ × DeployedService
-
--- services with their numbers, from n on
-abbrev pub numbered : ℕ → List DeployedService → List Numbered
-numbered n [] = []
-numbered n (service ∷ services) = (n, service) ∷ numbered (n + 1) services
-
--- a service selects before another: higher priority first, then as deployed
-abbrev pub selects_before : Numbered → Numbered → Bool
-selects_before x y = step_before (x.1.priority, x.0) (y.1.priority, y.0)
-
--- the services in the order of selection
-abbrev pub service_order : List DeployedService → List Numbered
-service_order services = sorted selects_before (numbered 0 services)
 
 -- the event is for all services, or for this one
 abbrev pub is_for : Option ℕ → ℕ → Bool

@@ -10,3 +10,4 @@ pub mod HeadLemmas
 pub mod ShareLemmas
 pub mod ChangeLemmas
 pub mod NumberLemmas
+pub mod StableSortLemmas

@@ -22,7 +22,7 @@ use Rattle.timer_facility.specs.Indexed.{fired_at, fired_count_at, moment_entry}
 use Rattle.timer_facility.proofs.DueLemmas.{kept_within}
 use Rattle.rows_index.proofs.RowLemmas.{found_number}
 use Rattle.timer_facility.proofs.RowLemmas.{each_timer}
-use Rattle.timer_facility.proofs.SortLemmas.{sorted_same}
+use Rattle.rows_sorted.proofs.StableSortLemmas.{sorted_same}
 
 abbrev before_to : ℕ → Entry → Bool
 before_to to e = nat_le e.key to

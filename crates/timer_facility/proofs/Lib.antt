@@ -1,4 +1,3 @@
-pub mod SortLemmas
 pub mod DueLemmas
 pub mod ListLemmas
 pub mod RowLemmas

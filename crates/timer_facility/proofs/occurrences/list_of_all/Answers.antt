@@ -3,7 +3,7 @@ use Rattle.std.proofs.Common.{map, ap, ◌∙◌}
 use Rattle.rows_sorted.specs.Orders.{sorted}
 use Rattle.router_state.specs.Timing.{occurrence_before}
 use Rattle.timer_facility.specs.Occurrences.{occurrence}
-use Rattle.timer_facility.proofs.SortLemmas.{sorted_mapped}
+use Rattle.rows_sorted.proofs.StableSortLemmas.{sorted_mapped}
 use Rattle.timer_facility.proofs.occurrences.list_of_all.Goals as goal
 
 pub returns : goal.returns

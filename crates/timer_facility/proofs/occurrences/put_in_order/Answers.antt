@@ -4,7 +4,7 @@ use Rattle.std.specs.Cmp.{IsStrictWeakOrder}
 use Rattle.std.proofs.lemmas.Bool.Decides.{nat_tests}
 use Rattle.std.proofs.lemmas.List.Sorted.{answers_always}
 use Rattle.timer_facility.specs.Occurrences.{due_before}
-use Rattle.timer_facility.proofs.SortLemmas.{sorted_is}
+use Rattle.rows_sorted.proofs.StableSortLemmas.{sorted_is}
 use Rattle.timer_facility.proofs.occurrences.put_in_order.Goals as goal
 
 ranks : IsStrictWeakOrder due_before
