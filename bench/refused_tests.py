@@ -23,7 +23,7 @@ import tempfile
 from fail_alloc import library
 
 TOP = os.path.dirname(os.path.dirname(os.path.abspath(__file__)))
-CRATES = ("test_recovery", "test_values", "test_lines", "test_values", "test_disks", "test_values")
+CRATES = ("test_recovery", "test_values", "test_lines", "test_disks")
 WHOLE_CALL = "want_of_memory::a_refused_allocation_leaves_a_front_of_the_call"
 # How want of memory is told: by the crates of this repository, and by the library.
 NO_MEMORY = ("NoMemory", "OutOfMemory", "AllocError", "AllocFailed")
