@@ -391,14 +391,23 @@ class Repository:
         found = []
         for index, chunk in enumerate(spec.items[name]):
             if spec.kinds[name] == "record":
-                fields = re.findall(r"^\s+(?:pub )?([^\W\d][\w'-]*) :", chunk, re.M)
-                piece = re.sub(r"^(\s+)(?:pub )?[^\W\d][\w'-]* :", r"\1:", chunk, flags=re.M)
-                found += self.names_in(place, piece, bound=[field for field in fields if field in piece_words(piece)])
+                found += self.names_in_record(place, chunk)
             elif spec.kinds[name] == "data":
                 piece = re.sub(r"^(\s+)[^\W\d][\w'-]*((?: [^\W\d][\w'-]*)*) :", r"\1:", chunk, flags=re.M)
                 found += self.names_in(place, piece)
             else:
                 found += self.names_in(place, chunk, is_equation=index > 0)
+        return found
+
+    def names_in_record(self, place, chunk):
+        """Each field's type may name the parameters and the fields before it."""
+        parts = re.split(r"^\s+(?:pub )?(?=[^\W\d][\w'-]* :)", chunk, flags=re.M)
+        found = self.names_in(place, parts[0])
+        bound = {name for names in re.findall(r"[({]([^(){}:]+) :", parts[0]) for name in names.split()}
+        for part in parts[1:]:
+            field, _, kind = part.partition(" :")
+            found += self.names_in(place, kind, bound=bound)
+            bound.add(field)
         return found
 
     def next_of_type(self, crate, file, name):
@@ -485,10 +494,6 @@ class Repository:
             self.why[node] = by
             waiting += [(one, node) for one in self.next_of(node)]
         return calls, nodes
-
-
-def piece_words(text):
-    return {token for token, _, _ in tokens_of(text)}
 
 
 def order_of_crates(folder):
