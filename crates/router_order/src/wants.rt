@@ -35,9 +35,7 @@ pub struct Head<'a> {
 impl<'a> Wants<'a> {
     /// The event without the entities that have received it.
     pub fn head(&self) -> Head<'a>
-        ensures event { result.event ≡ self.now.event }
-        ensures blocks { result.blocks ≡ self.now.blocks }
-        ensures target { result.target ≡ self.now.target }
+        ensures { result ≡ record { event = self.now.event; blocks = self.now.blocks; target = self.now.target } }
     {
         Head {
             event: self.event,

@@ -141,6 +141,8 @@ fn marks_go_with_the_head_event_of_their_activity(rt: HostRuntime) -> Result<(),
     assert!(rt; !queues.is_done(CALL, SERVICE + 1));
     assert!(rt; queues.is_delivered(CALL, ME));
     assert!(rt; !queues.is_delivered(TIMER, ME));
+    assert!(rt; !queues.is_undelivered(CALL));
+    assert!(rt; queues.is_undelivered(TIMER));
     for wanted in [1, 0] {
         assert_eq!(rt; count(queues.services_done(CALL)), wanted);
         assert_eq!(rt; count(queues.delivered(CALL)), wanted);

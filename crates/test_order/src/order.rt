@@ -6,7 +6,8 @@ use crate::growing::{
 use activity_context::Contexts;
 use entity_tree::Tree;
 use event_mask::Masks;
-use router_order::{Order, Wants, next_entity};
+use event_queue::Queues;
+use router_order::{Head, Order, Wants, next_entity};
 use slee_value::{ActivityId, EntityId, NoMemory, Text};
 use std::alloc::Global;
 use std::mem::ManuallyDrop;
@@ -48,6 +49,57 @@ fn come(
     }
     let last = order.next(tree, masks, activity, &wants(&event, &delivered));
     Ok(last.is_none())
+}
+
+// Room is made for the mark, and then the head event of the call has it.
+fn mark(queues: &mut Queues, entity: EntityId) -> Result<(), NoMemory> {
+    queues.reserve(1)?;
+    queues.mark_entity(CALL, entity);
+    Ok(())
+}
+
+// As above, where the queues are asked who has received the event.
+fn come_by_marks(
+    alloc: Global,
+    tree: &Tree,
+    order: &Order,
+    masks: &Masks,
+    queues: &mut Queues,
+    wanted: &[u64],
+) -> Result<bool, NoMemory> {
+    let event = Text::from_str(alloc, "ring")?;
+    let head = Head {
+        event: &event,
+        blocks: &[BLOCK],
+        target: None,
+    };
+    for number in wanted {
+        if order.next_unmarked(tree, masks, CALL, &head, queues) != Some(EntityId(*number)) {
+            return Ok(false);
+        }
+        mark(queues, EntityId(*number))?;
+    }
+    Ok(
+        order
+            .next_unmarked(tree, masks, CALL, &head, queues)
+            .is_none(),
+    )
+}
+
+// The entity is attached to these activities and to no other one.
+fn is_on(order: &Order, entity: EntityId, activities: &[u64]) -> bool {
+    let mut found = order.of(entity);
+    for activity in activities {
+        match found.next() {
+            Some(entry) => {
+                if entry.number != *activity {
+                    return false;
+                }
+            }
+            None => return false,
+        }
+    }
+    found.next().is_none()
 }
 
 // As above, by going through all attachments.
@@ -124,6 +176,41 @@ fn entities_come_by_the_priorities_on_their_paths(rt: HostRuntime) -> Result<(),
     assert!(rt; come(alloc, tree, order, &masks, CALL, &[2, 5, 4, 1, 3])?);
     assert!(rt; come(alloc, tree, order, &masks, OTHER, &[4, 3])?);
     assert!(rt; come_plainly(alloc, tree, contexts, &masks, CALL, &[2, 5, 4, 1, 3])?);
+    Ok(())
+}
+
+#[test]
+fn marks_tell_who_has_received_the_event(rt: HostRuntime) -> Result<(), Fail> {
+    let alloc = rt.alloc();
+    let mut tree_kept = ManuallyDrop::new(Tree::new(alloc));
+    let tree = &mut *tree_kept;
+    let mut order_kept = ManuallyDrop::new(Order::new(alloc));
+    let order = &mut *order_kept;
+    let mut queues_kept = ManuallyDrop::new(Queues::new(alloc));
+    let queues = &mut *queues_kept;
+    let masks = ManuallyDrop::new(Masks::new(alloc));
+    grow(tree, alloc)?;
+    list_each(tree, order, CALL, &[4, 1, 5, 3, 2])?;
+    mark(queues, EntityId(4))?;
+    assert!(rt; come_by_marks(alloc, tree, order, &masks, queues, &[2, 5, 1, 3])?);
+    Ok(())
+}
+
+#[test]
+fn the_activities_of_an_entity_rise(rt: HostRuntime) -> Result<(), Fail> {
+    let alloc = rt.alloc();
+    let mut tree_kept = ManuallyDrop::new(Tree::new(alloc));
+    let tree = &mut *tree_kept;
+    let mut order_kept = ManuallyDrop::new(Order::new(alloc));
+    let order = &mut *order_kept;
+    grow(tree, alloc)?;
+    list_each(tree, order, CALL, &[4, 1])?;
+    list_each(tree, order, OTHER, &[3, 4])?;
+    assert!(rt; is_on(order, EntityId(4), &[3, 7]));
+    assert!(rt; is_on(order, EntityId(1), &[7]));
+    assert!(rt; is_on(order, EntityId(2), &[]));
+    assert!(rt; order.has(EntityId(3)));
+    assert!(rt; !order.has(EntityId(5)));
     Ok(())
 }
 
