@@ -15,7 +15,8 @@ ghost use Rattle.script_run_terms.specs.Writing.{EndsWriting, Writes};
 
 use crate::at_hand::text_at_hand;
 use crate::chains::spend;
-use crate::terms::{eval_number, find, find_asked};
+use crate::numbers::eval_number;
+use crate::terms::{find, find_asked};
 use script_meaning::FailKind;
 use script_run_machine::{Lent, Machine, Scene, Stop, TEXT_LIMIT, write_number};
 use script_types::{Joint, Question, Term};

@@ -6,7 +6,8 @@ ghost use Rattle.script_types.specs.Numbers.{IsNumberedTerm};
 ghost use Rattle.script_run_machine.specs.Agreeing.{Agrees};
 ghost use Rattle.script_run_machine.specs.Settings.{setting_of};
 
-use crate::terms::{eval, eval_number, find};
+use crate::numbers::eval_number;
+use crate::terms::{eval, find};
 use script_run_machine::{Machine, Scene, Stop, activity_of, timer_of};
 use script_types::Term;
 use slee_effect::{Ref, Val};

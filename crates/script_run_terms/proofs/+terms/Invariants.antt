@@ -13,47 +13,47 @@ decreases-terms::find l = 16 * l.machine.now.left + 5
 abbrev pub decreases-terms::find_any : goal.decreases-terms::find_any
 decreases-terms::find_any l = 16 * l.machine.now.left + 4
 
-abbrev pub decreases-terms::eval_number : goal.decreases-terms::eval_number
-decreases-terms::eval_number l = 16 * l.machine.now.left + 5
+abbrev pub decreases-numbers::eval_number : goal.decreases-numbers::eval_number
+decreases-numbers::eval_number l = 16 * l.machine.now.left + 5
 
-abbrev pub decreases-terms::eval_any_number : goal.decreases-terms::eval_any_number
-decreases-terms::eval_any_number l = 16 * l.machine.now.left + 4
+abbrev pub decreases-numbers::eval_any_number : goal.decreases-numbers::eval_any_number
+decreases-numbers::eval_any_number l = 16 * l.machine.now.left + 4
 
-abbrev pub decreases-terms::compared_number : goal.decreases-terms::compared_number
-decreases-terms::compared_number l = 16 * l.machine.now.left + 1
+abbrev pub decreases-numbers::compared_number : goal.decreases-numbers::compared_number
+decreases-numbers::compared_number l = 16 * l.machine.now.left + 1
 
-abbrev pub decreases-terms::eval_truth : goal.decreases-terms::eval_truth
-decreases-terms::eval_truth l = 16 * l.machine.now.left + 5
+abbrev pub decreases-numbers::eval_truth : goal.decreases-numbers::eval_truth
+decreases-numbers::eval_truth l = 16 * l.machine.now.left + 5
 
-abbrev pub decreases-terms::eval_any_truth : goal.decreases-terms::eval_any_truth
-decreases-terms::eval_any_truth l = 16 * l.machine.now.left + 4
+abbrev pub decreases-numbers::eval_any_truth : goal.decreases-numbers::eval_any_truth
+decreases-numbers::eval_any_truth l = 16 * l.machine.now.left + 4
 
 abbrev pub decreases-terms::find_asked : goal.decreases-terms::find_asked
 decreases-terms::find_asked l = 16 * l.machine.now.left
 
-abbrev pub decreases-terms::asked_number : goal.decreases-terms::asked_number
-decreases-terms::asked_number l = 16 * l.machine.now.left
+abbrev pub decreases-numbers::asked_number : goal.decreases-numbers::asked_number
+decreases-numbers::asked_number l = 16 * l.machine.now.left
 
-abbrev pub decreases-terms::placed_number : goal.decreases-terms::placed_number
-decreases-terms::placed_number l = 16 * l.machine.now.left + 6
+abbrev pub decreases-numbers::placed_number : goal.decreases-numbers::placed_number
+decreases-numbers::placed_number l = 16 * l.machine.now.left + 6
 
-abbrev pub decreases-terms::asked_truth : goal.decreases-terms::asked_truth
-decreases-terms::asked_truth l = 16 * l.machine.now.left
+abbrev pub decreases-numbers::asked_truth : goal.decreases-numbers::asked_truth
+decreases-numbers::asked_truth l = 16 * l.machine.now.left
 
-abbrev pub decreases-terms::eval_test : goal.decreases-terms::eval_test
-decreases-terms::eval_test l = 16 * l.machine.now.left + 3
+abbrev pub decreases-numbers::eval_test : goal.decreases-numbers::eval_test
+decreases-numbers::eval_test l = 16 * l.machine.now.left + 3
 
 abbrev pub decreases-terms::find_placed : goal.decreases-terms::find_placed
 decreases-terms::find_placed l = 16 * l.machine.now.left + 6
 
-abbrev pub decreases-terms::eval_compared : goal.decreases-terms::eval_compared
-decreases-terms::eval_compared l = 16 * l.machine.now.left
+abbrev pub decreases-numbers::eval_compared : goal.decreases-numbers::eval_compared
+decreases-numbers::eval_compared l = 16 * l.machine.now.left
 
-abbrev pub decreases-terms::eval_compared_numbers : goal.decreases-terms::eval_compared_numbers
-decreases-terms::eval_compared_numbers l = 16 * l.machine.now.left + 6
+abbrev pub decreases-numbers::eval_compared_numbers : goal.decreases-numbers::eval_compared_numbers
+decreases-numbers::eval_compared_numbers l = 16 * l.machine.now.left + 6
 
-abbrev pub decreases-terms::eval_compared_values : goal.decreases-terms::eval_compared_values
-decreases-terms::eval_compared_values l = 16 * l.machine.now.left + 6
+abbrev pub decreases-numbers::eval_compared_values : goal.decreases-numbers::eval_compared_values
+decreases-numbers::eval_compared_values l = 16 * l.machine.now.left + 6
 
 abbrev pub decreases-terms::find_compared : goal.decreases-terms::find_compared
 decreases-terms::find_compared l = 16 * l.machine.now.left + 1
@@ -64,32 +64,32 @@ decreases-terms::find_chain l = 16 * l.machine.now.left + 3
 abbrev pub decreases-terms::eval_chain : goal.decreases-terms::eval_chain
 decreases-terms::eval_chain l = 16 * l.machine.now.left + 2
 
-abbrev pub decreases-terms::number_in_chain : goal.decreases-terms::number_in_chain
-decreases-terms::number_in_chain l = 16 * l.machine.now.left + 3
+abbrev pub decreases-numbers::number_in_chain : goal.decreases-numbers::number_in_chain
+decreases-numbers::number_in_chain l = 16 * l.machine.now.left + 3
 
-abbrev pub decreases-terms::truth_in_chain : goal.decreases-terms::truth_in_chain
-decreases-terms::truth_in_chain l = 16 * l.machine.now.left + 3
+abbrev pub decreases-numbers::truth_in_chain : goal.decreases-numbers::truth_in_chain
+decreases-numbers::truth_in_chain l = 16 * l.machine.now.left + 3
 
-abbrev pub decreases-terms::number_chain : goal.decreases-terms::number_chain
-decreases-terms::number_chain l = 16 * l.machine.now.left + 1
+abbrev pub decreases-numbers::number_chain : goal.decreases-numbers::number_chain
+decreases-numbers::number_chain l = 16 * l.machine.now.left + 1
 
-abbrev pub decreases-terms::truth_chain : goal.decreases-terms::truth_chain
-decreases-terms::truth_chain l = 16 * l.machine.now.left + 1
+abbrev pub decreases-numbers::truth_chain : goal.decreases-numbers::truth_chain
+decreases-numbers::truth_chain l = 16 * l.machine.now.left + 1
 
-abbrev pub decreases-terms::number_pair : goal.decreases-terms::number_pair
-decreases-terms::number_pair l = 16 * l.machine.now.left
+abbrev pub decreases-numbers::number_pair : goal.decreases-numbers::number_pair
+decreases-numbers::number_pair l = 16 * l.machine.now.left
 
-abbrev pub decreases-terms::truth_pair : goal.decreases-terms::truth_pair
-decreases-terms::truth_pair l = 16 * l.machine.now.left
+abbrev pub decreases-numbers::truth_pair : goal.decreases-numbers::truth_pair
+decreases-numbers::truth_pair l = 16 * l.machine.now.left
 
-abbrev pub decreases-terms::choose : goal.decreases-terms::choose
-decreases-terms::choose l = 16 * l.machine.now.left + 6
+abbrev pub decreases-numbers::choose : goal.decreases-numbers::choose
+decreases-numbers::choose l = 16 * l.machine.now.left + 6
 
-abbrev pub decreases-terms::number_links : goal.decreases-terms::number_links
-decreases-terms::number_links l = 16 * l.machine.now.left + 6
+abbrev pub decreases-numbers::number_links : goal.decreases-numbers::number_links
+decreases-numbers::number_links l = 16 * l.machine.now.left + 6
 
-abbrev pub decreases-terms::truth_links : goal.decreases-terms::truth_links
-decreases-terms::truth_links l = 16 * l.machine.now.left + 7
+abbrev pub decreases-numbers::truth_links : goal.decreases-numbers::truth_links
+decreases-numbers::truth_links l = 16 * l.machine.now.left + 7
 
 abbrev pub decreases-joins::text_chain : goal.decreases-joins::text_chain
 decreases-joins::text_chain l = 16 * l.machine.now.left + 1
@@ -120,9 +120,9 @@ abbrev pub invariant-joins::write_links-links : goal.invariant-joins::write_link
 invariant-joins::write_links-links l = (linked (setting_of l.scene) (drop l.joint-index l.links) (text (string_bytes l.whole)) (state_of l.machine) ≡ linked (setting_of l.scene) l.links (text (string_bytes l.initial.whole)) (state_of l.initial.machine)) × (l.machine.left ≤ l.initial.machine.left) × (standing l.machine ≡ standing l.initial.machine) × (l.machine.names ≡ l.initial.machine.names)
 
 -- the numbers so far are joined
-abbrev pub invariant-terms::number_links-links : goal.invariant-terms::number_links-links
-invariant-terms::number_links-links l = (linked (setting_of l.scene) (drop l.joint-index l.links) (int l.x) (state_of l.machine) ≡ linked (setting_of l.scene) l.links (int l.fn.first) (state_of l.initial.machine)) × (l.machine.left ≤ l.initial.machine.left) × (standing l.machine ≡ standing l.initial.machine) × (l.machine.names ≡ l.initial.machine.names)
+abbrev pub invariant-numbers::number_links-links : goal.invariant-numbers::number_links-links
+invariant-numbers::number_links-links l = (linked (setting_of l.scene) (drop l.joint-index l.links) (int l.x) (state_of l.machine) ≡ linked (setting_of l.scene) l.links (int l.fn.first) (state_of l.initial.machine)) × (l.machine.left ≤ l.initial.machine.left) × (standing l.machine ≡ standing l.initial.machine) × (l.machine.names ≡ l.initial.machine.names)
 
 -- the truth values so far are joined
-abbrev pub invariant-terms::truth_links-links : goal.invariant-terms::truth_links-links
-invariant-terms::truth_links-links l = (linked (setting_of l.scene) (drop l.joint-index l.links) (flag l.x) (state_of l.machine) ≡ linked (setting_of l.scene) l.links (flag l.fn.first) (state_of l.initial.machine)) × (l.machine.left ≤ l.initial.machine.left) × (standing l.machine ≡ standing l.initial.machine) × (l.machine.names ≡ l.initial.machine.names)
+abbrev pub invariant-numbers::truth_links-links : goal.invariant-numbers::truth_links-links
+invariant-numbers::truth_links-links l = (linked (setting_of l.scene) (drop l.joint-index l.links) (flag l.x) (state_of l.machine) ≡ linked (setting_of l.scene) l.links (flag l.fn.first) (state_of l.initial.machine)) × (l.machine.left ≤ l.initial.machine.left) × (standing l.machine ≡ standing l.initial.machine) × (l.machine.names ≡ l.initial.machine.names)

@@ -7,7 +7,7 @@ use Rattle.script_run_machine.specs.Machines.{state_of}
 use Rattle.script_run_machine.specs.Settings.{setting_of}
 use Rattle.script_run_machine.specs.Spending.{with_units}
 use Rattle.script_run_terms.proofs.HandLemmas.{given_behind, chained_alone}
-use Rattle.script_run_terms.proofs.terms.number_chain_at_hand.Goals as goal
+use Rattle.script_run_terms.proofs.numbers.number_chain_at_hand.Goals as goal
 
 pub returns-then-try_spend-clause-agrees : goal.returns-then-try_spend-clause-agrees
 returns-then-try_spend-clause-agrees c =
