@@ -14,11 +14,10 @@ use Rattle.router_state.specs.Contexts.{is_linked}
 use Rattle.router_state.specs.Trees.{roots, tree_of}
 use Rattle.router_state.specs.declared.change.Change.{Change}
 use Rattle.router_state.specs.declared.change.Change.TheVariants as changes
-use Rattle.router_state.specs.declared.rows.Activity.{Activity}
 use Rattle.router_state.specs.declared.rows.Service.{Service}
 use Rattle.router_state.specs.declared.rows.Suspension.{Suspension}
-use Rattle.router_steps.specs.Actions.{Action, StartActivity, EndActivity, FireEvent, SetClock, ActivateService, StopService, ChangeRow}
-use Rattle.router_steps.specs.Closing.{close_root, close_roots, close_service, close_services, close_null, close_nulls, is_idle, closing, without_loose, without_stopped}
+use Rattle.router_steps.specs.Actions.{Action, StartActivity, EndActivity, FireEvent, SetClock, ActivateService, StopService, ChangeRow, change_of_row}
+use Rattle.router_steps.specs.Closing.{close_root, close_roots, close_service, close_services, close_null, close_nulls, is_idle_at, activity_numbers, closing, without_loose, without_stopped}
 use Rattle.router_steps.specs.Creating.{with_root, root_of, with_child, first_fields}
 use Rattle.router_steps.specs.Effects.{after_effect, after_effects, resolved_in, number_in, relation_at}
 use Rattle.router_steps.specs.Going.{removed, all_removed, tree_removed, changes_of_removal}
@@ -127,19 +126,19 @@ same_close_services n [] s = (refl, refl)
 same_close_services n (row ∷ rows) s =
     then_same s (close_service n row s) (close_services (n + 1) rows (close_service n row s)) (same_close_service n row s) (same_close_services (n + 1) rows (close_service n row s))
 
-same_close_null : (row : Activity) (s : State) → Same s (close_null row s)
-same_close_null row s = cond_both (is_idle row s) _ s (Same s) (λ _. (refl, refl)) (λ _. (refl, refl))
+same_close_null : (a : ℕ) (s : State) → Same s (close_null a s)
+same_close_null a s = cond_both (is_idle_at s a) _ s (Same s) (λ _. (refl, refl)) (λ _. (refl, refl))
 
-same_close_nulls : (rows : List Activity) (s : State) → Same s (close_nulls rows s)
+same_close_nulls : (all : List ℕ) (s : State) → Same s (close_nulls all s)
 same_close_nulls [] s = (refl, refl)
-same_close_nulls (row ∷ rows) s = then_same s (close_null row s) (close_nulls rows (close_null row s)) (same_close_null row s) (same_close_nulls rows (close_null row s))
+same_close_nulls (a ∷ rest) s = then_same s (close_null a s) (close_nulls rest (close_null a s)) (same_close_null a s) (same_close_nulls rest (close_null a s))
 
 same_closing : (s : State) → Same s (closing s)
 same_closing s =
     let loose = without_loose s in
     let stopped = without_stopped loose in
     then_same s loose (closing s) (same_close_roots (roots s.entities) s)
-    (then_same loose stopped (closing s) (same_close_services 0 loose.services loose) (same_close_nulls stopped.activities stopped))
+    (then_same loose stopped (closing s) (same_close_services 0 loose.services loose) (same_close_nulls (activity_numbers stopped) stopped))
 
 -- taking a line
 
@@ -171,8 +170,8 @@ same_action (FireEvent a event fields target) s = (refl, refl)
 same_action (SetClock to rows xs) s = same_clocked to rows xs s
 same_action (ActivateService n) s = (refl, refl)
 same_action (StopService n a) s = same_ended_if a (with_service s n _ a)
-same_action (ChangeRow table row event change) s =
-    let t = after_change change s in then_same s t (after_action (ChangeRow table row event change) s) (same_change change s) (refl, refl)
+same_action (ChangeRow table row change) s =
+    let t = after_change (change_of_row table row change) s in then_same s t (after_action (ChangeRow table row change) s) (same_change (change_of_row table row change) s) (refl, refl)
 
 same_taken : (x : Result Action Refusal) (s : State) → Same s (taken x s)
 same_taken (Ok x) s = then_same s (counted s) (after_action x (counted s)) (refl, refl) (same_action x (counted s))

@@ -1,15 +1,22 @@
 -- Well-formed states: a test for each list, together with the lists that it reads.
-use Rattle.std.specs.Prelude.{Bool, ◌&&◌, IsTrue}
+use Rattle.std.specs.Prelude.{nat_le, Bool, ◌&&◌, IsTrue}
 use Rattle.router_state.specs.State.{State}
 use Rattle.router_state.specs.WellEntities.{are_entities, are_root_names, are_root_names_apart, are_fields}
 use Rattle.router_state.specs.WellContexts.{are_activities, are_attributes, are_links, are_masks, are_names, are_services}
 use Rattle.router_state.specs.WellQueues.{are_events, are_services_done, are_delivered, are_suspensions}
-use Rattle.router_state.specs.WellRows.{are_timers, are_rows, are_counts}
+use Rattle.router_state.specs.Fits.{is_u64}
+use Rattle.router_state.specs.Timers.{last_moment}
+use Rattle.router_state.specs.WellRows.{are_timers, are_rows, is_next_number}
 use Rattle.router_state.specs.Closed.{are_roots_held, are_stopping_with_trees, are_nulls_in_use}
 
--- sound parts: each list passes its test
+-- sound parts: the clock, counts and next numbers are in their ranges, and each list passes its test
 pub record IsSound (s : State) : Type 0 where
-  pub counts : IsTrue (are_counts s)
+  pub clock : IsTrue (nat_le s.clock last_moment)
+  pub inputs : IsTrue (is_u64 s.inputs)
+  pub next_entity : IsTrue (is_next_number s.next_entity)
+  pub next_activity : IsTrue (is_next_number s.next_activity)
+  pub next_timer : IsTrue (is_next_number s.next_timer)
+  pub next_event : IsTrue (is_next_number s.next_event)
   pub services : IsTrue (are_services s.deployment s.activities s.services)
   pub entities : IsTrue (are_entities s.deployment s.entities s.next_entity)
   pub root_names : IsTrue (are_root_names s.deployment s.entities s.root_names s.next_activity s.next_event)
@@ -37,6 +44,14 @@ pub record IsClosed (s : State) : Type 0 where
 pub record IsWell (s : State) : Type 0 where
   pub sound : IsSound s
   pub closed : IsClosed s
+
+-- the tests of counts in one
+abbrev pub are_counts : State → Bool
+are_counts s =
+    nat_le s.clock last_moment
+    && (is_u64 s.inputs
+    && (is_next_number s.next_entity
+    && (is_next_number s.next_activity && (is_next_number s.next_timer && is_next_number s.next_event))))
 
 -- the tests of entities in one
 abbrev pub are_entities_sound : State → Bool

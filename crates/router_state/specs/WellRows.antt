@@ -1,8 +1,7 @@
--- Tests of timers, of the rows of profile tables, and of counts. Each test takes the lists that it reads.
+-- Tests of timers, of the rows of profile tables, and of next numbers. Each test takes the lists that it reads.
 use Rattle.std.specs.Prelude.{ℕ, nat_lt, nat_le, ◌==◌, Bool, ◌&&◌, ◌||◌, List, length}
 use Rattle.std.specs.List.{list_all}
 use Rattle.deploy_model.specs.Deployed.{Deployed, table_attributes}
-use Rattle.router_state.specs.State.{State}
 use Rattle.rows_sorted.specs.Orders.{rises_by, rises_in}
 use Rattle.router_state.specs.Fits.{is_drawn, is_u64, is_text, is_value, are_declared}
 use Rattle.router_state.specs.Timers.{last_moment}
@@ -41,11 +40,3 @@ are_rows d rows next_activity next_timer =
 -- a next number is a number of 64 bits from 1
 abbrev pub is_next_number : ℕ → Bool
 is_next_number n = nat_lt 0 n && is_u64 n
-
--- the clock stands at the last moment or before it, and counts and next numbers are numbers of 64 bits
-abbrev pub are_counts : State → Bool
-are_counts s =
-    nat_le s.clock last_moment
-    && (is_u64 s.inputs
-    && (is_next_number s.next_entity
-    && (is_next_number s.next_activity && (is_next_number s.next_timer && is_next_number s.next_event))))

@@ -25,6 +25,27 @@ use Rattle.router_steps.specs.declared.refusal.Refusal.TheVariants as refusals
 use Rattle.router_state.specs.Timing.{Occurrence, fired, fired_in_all, occurrence_limit, ending_suspensions}
 use Rattle.router_steps.specs.Values.{fields_given}
 
+-- How a row of a profile table changes.
+pub data RowChange : Type 0 where
+  -- it is new, with these attributes
+  RowAdded : List (List ℕ × Value) → RowChange
+  -- it has these attributes from now on
+  RowUpdated : List (List ℕ × Value) → RowChange
+  -- it is gone
+  RowRemoved : RowChange
+
+-- the change of the state by which the row of a table changes so
+abbrev pub change_of_row : ℕ → List ℕ → RowChange → Change
+change_of_row table row (RowAdded values) = changes.AddRow table row values
+change_of_row table row (RowUpdated values) = changes.UpdateRow table row values
+change_of_row table row RowRemoved = changes.RemoveRow table row
+
+-- the event that tells it (JSR 240, chapter 10)
+abbrev pub event_of_row : RowChange → List ℕ
+event_of_row (RowAdded values) = built_in_name built_in_events.ProfileAdded
+event_of_row (RowUpdated values) = built_in_name built_in_events.ProfileUpdated
+event_of_row RowRemoved = built_in_name built_in_events.ProfileRemoved
+
 -- What a line does.
 pub data Action : Type 0 where
   -- an external activity of this name starts
@@ -39,8 +60,8 @@ pub data Action : Type 0 where
   ActivateService : ℕ → Action
   -- the service of this number stops, and its activity ends, 0 being none
   StopService : ℕ → ℕ → Action
-  -- a row of the table of this number changes, which is told by an event with the row's name
-  ChangeRow : ℕ → List ℕ → List ℕ → Change → Action
+  -- the row of this name of the table of this number changes
+  ChangeRow : ℕ → List ℕ → RowChange → Action
 
 -- what was looked up, and then what follows from it; the first refusal ends it
 abbrev pub and_then : {A B : Type 0} → Result A Refusal → (A → Result B Refusal) → Result B Refusal
@@ -109,18 +130,18 @@ table_of_name s name = there_or refusals.UnknownTable (table_named s.deployment 
 abbrev pub adding : State → ℕ → List ℕ → List (List ℕ × List ℕ) → Result Action Refusal
 adding s table row words =
     if is_some (row_at s.rows table row) then Err refusals.RowExists
-    else and_then (row_values s table row words) (λ values. Ok (ChangeRow table row (built_in_name built_in_events.ProfileAdded) (changes.AddRow table row values)))
+    else and_then (row_values s table row words) (λ values. Ok (ChangeRow table row (RowAdded values)))
 
 -- other values for a row
 abbrev pub updating : State → ℕ → List ℕ → List (List ℕ × List ℕ) → Result Action Refusal
 updating s table row words =
     if is_none (row_at s.rows table row) then Err refusals.NoRow
-    else and_then (row_values s table row words) (λ values. Ok (ChangeRow table row (built_in_name built_in_events.ProfileUpdated) (changes.UpdateRow table row values)))
+    else and_then (row_values s table row words) (λ values. Ok (ChangeRow table row (RowUpdated values)))
 
 -- a row that goes
 abbrev pub removing : State → ℕ → List ℕ → Result Action Refusal
 removing s table row =
-    refused_if (is_none (row_at s.rows table row)) refusals.NoRow (ChangeRow table row (built_in_name built_in_events.ProfileRemoved) (changes.RemoveRow table row))
+    refused_if (is_none (row_at s.rows table row)) refusals.NoRow (ChangeRow table row RowRemoved)
 
 -- what the line does, or the first reason for which it is refused
 abbrev pub action_of : State → Signal → Result Action Refusal

@@ -1,8 +1,10 @@
 -- Closing a step: roots in whose trees nothing is attached go, Stopping services without a tree are Inactive, and null activities that aren't in use end.
-use Rattle.std.specs.Prelude.{ℕ, ◌+◌, Bool, if◌then◌else◌, List, [], ◌∷◌, ◌++◌, codes}
+use Rattle.std.specs.Prelude.{ℕ, ◌+◌, Bool, false, if◌then◌else◌, List, [], ◌∷◌, ◌++◌, map, codes}
+use Rattle.std.specs.Option.{option_map_or}
 use Rattle.deploy_model.specs.Deployed.{service_key}
 use Rattle.router_state.specs.State.{State}
 use Rattle.router_state.specs.Closed.{is_loose, is_stopped, is_unused}
+use Rattle.router_state.specs.Contexts.{activity_at}
 use Rattle.router_state.specs.Trees.{roots}
 use Rattle.router_state.specs.declared.rows.Activity.{Activity}
 use Rattle.router_state.specs.declared.rows.Service.{Service}
@@ -45,23 +47,35 @@ lines_of_services n (row ∷ rows) s =
     (if is_stopped s.entities n row then service_line (service_key s.deployment n) (codes "inactive") ∷ [] else [])
     ++ lines_of_services (n + 1) rows s
 
--- the activity is an Active null activity that isn't in use
-abbrev pub is_idle : Activity → State → Bool
-is_idle row s = is_unused s.links s.names s.timers s.events row
+-- the row is that of an Active null activity that isn't in use
+abbrev pub is_idle : State → Activity → Bool
+is_idle s row = is_unused s.links s.names s.timers s.events row
+
+-- the activity of this number is such a one
+abbrev pub is_idle_at : State → ℕ → Bool
+is_idle_at s a = option_map_or (is_idle s) (activity_at s.activities a) false
 
 -- an activity ends where it is (JSR 240, chapter 7)
-abbrev pub close_null : Activity → State → State
-close_null row s = if is_idle row s then ended s row.number.0 else s
+abbrev pub close_null : ℕ → State → State
+close_null a s = if is_idle_at s a then ended s a else s
 
 -- the same of several activities, the first of them first
-abbrev pub close_nulls : List Activity → State → State
+abbrev pub close_nulls : List ℕ → State → State
 close_nulls [] s = s
-close_nulls (row ∷ rows) s = close_nulls rows (close_null row s)
+close_nulls (a ∷ rest) s = close_nulls rest (close_null a s)
 
--- the lines of those that end
-abbrev pub lines_of_nulls : List Activity → State → List (List ℕ)
+-- the lines of an activity that ends
+abbrev pub lines_of_null : ℕ → State → List (List ℕ)
+lines_of_null a s = if is_idle_at s a then lines_of_ended s a else []
+
+-- the lines of several, each in the state where its turn comes
+abbrev pub lines_of_nulls : List ℕ → State → List (List ℕ)
 lines_of_nulls [] s = []
-lines_of_nulls (row ∷ rows) s = (if is_idle row s then lines_of_ended s row.number.0 else []) ++ lines_of_nulls rows (close_null row s)
+lines_of_nulls (a ∷ rest) s = lines_of_null a s ++ lines_of_nulls rest (close_null a s)
+
+-- the numbers of all activities, rising
+abbrev pub activity_numbers : State → List ℕ
+activity_numbers s = map (λ row. row.number.0) s.activities
 
 -- no root is left in whose tree nothing is attached
 abbrev pub without_loose : State → State
@@ -73,7 +87,7 @@ without_stopped s = close_services 0 s.services s
 
 -- no Active null activity is left that isn't in use
 abbrev pub without_unused : State → State
-without_unused s = close_nulls s.activities s
+without_unused s = close_nulls (activity_numbers s) s
 
 -- the state once a step is closed
 abbrev pub closing : State → State
@@ -81,7 +95,7 @@ closing s = without_unused (without_stopped (without_loose s))
 
 -- the lines of services and null activities, behind those of roots
 abbrev pub lines_behind_roots : State → List (List ℕ)
-lines_behind_roots s = lines_of_services 0 s.services s ++ lines_of_nulls s.activities (without_stopped s)
+lines_behind_roots s = lines_of_services 0 s.services s ++ lines_of_nulls (activity_numbers s) (without_stopped s)
 
 -- the lines of closing
 abbrev pub lines_of_closing : State → List (List ℕ)

@@ -23,15 +23,24 @@ changes_of_removal s e =
 abbrev pub removed : State → ℕ → State
 removed s e = after_changes (changes_of_removal s e) s
 
+-- its lines: what it says, and that it is removed
+abbrev pub lines_of_removed : State → ℕ → List (List ℕ)
+lines_of_removed s e = lines_of_parting s e ++ removed_line e ∷ []
+
 -- these entities go, the first of them first
 abbrev pub all_removed : List ℕ → State → State
 all_removed [] s = s
 all_removed (e ∷ es) s = all_removed es (removed s e)
 
--- for each of them what it says, and that it is removed
+-- the lines of each, in the state where its turn comes
 abbrev pub lines_of_all_removed : List ℕ → State → List (List ℕ)
 lines_of_all_removed [] s = []
-lines_of_all_removed (e ∷ es) s = lines_of_parting s e ++ (removed_line e ∷ lines_of_all_removed es (removed s e))
+lines_of_all_removed (e ∷ es) s = lines_of_removed s e ++ lines_of_all_removed es (removed s e)
+
+-- the changes by which these entities go, the first of them first
+abbrev pub changes_of_all_removed : List ℕ → State → List Change
+changes_of_all_removed [] s = []
+changes_of_all_removed (e ∷ es) s = changes_of_removal s e ++ changes_of_all_removed es (removed s e)
 
 -- an entity goes with its tree
 abbrev pub tree_removed : State → ℕ → State

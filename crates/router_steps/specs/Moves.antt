@@ -30,7 +30,7 @@ ended s a = queued (after_changes (changes.End (record { 0 = a }) ∷ changes.Ca
 
 -- its lines
 abbrev pub lines_of_ended : State → ℕ → List (List ℕ)
-lines_of_ended s a = ending_line a ∷ lines_of_queued s a activity_end
+lines_of_ended s a = (ending_line a ∷ []) ++ lines_of_queued s a activity_end
 
 -- the events that an entity masks where it is attached
 abbrev pub first_masks : State → ℕ → List (List ℕ)

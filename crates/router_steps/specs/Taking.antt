@@ -8,13 +8,12 @@ use Rattle.deploy_model.specs.Deployed.{service_key}
 use Rattle.router_state.specs.State.{State}
 use Rattle.router_state.specs.Changes.{after_change}
 use Rattle.router_state.specs.Initial.{table_activity}
-use Rattle.router_state.specs.declared.change.Change.{Change}
 use Rattle.router_state.specs.declared.change.Change.TheVariants as changes
 use Rattle.router_state.specs.declared.rows.AcKind.TheVariants as kinds
 use Rattle.router_state.specs.declared.rows.ServiceState.TheVariants as states
 use Rattle.router_state.specs.declared.rows.Suspension.{Suspension}
 use Rattle.router_steps.specs.declared.refusal.Refusal.{Refusal}
-use Rattle.router_steps.specs.Actions.{Action, StartActivity, EndActivity, FireEvent, SetClock, ActivateService, StopService, ChangeRow}
+use Rattle.router_steps.specs.Actions.{Action, StartActivity, EndActivity, FireEvent, SetClock, ActivateService, StopService, ChangeRow, RowChange, change_of_row, event_of_row}
 use Rattle.router_steps.specs.Lines.{refused_line, started_line, service_line}
 use Rattle.router_steps.specs.Moves.{queued, lines_of_queued, ended, lines_of_ended, resumed, lines_of_resumed, with_service}
 use Rattle.router_state.specs.Timing.{Occurrence}
@@ -68,10 +67,10 @@ ended_if a s = if a == 0 then s else ended s a
 abbrev pub lines_of_ended_if : ℕ → State → List (List ℕ)
 lines_of_ended_if a s = if a == 0 then [] else lines_of_ended s a
 
--- A row changes, and this is told on its table's activity (JSR 240, chapter 10).
-abbrev pub row_changed : ℕ → List ℕ → List ℕ → Change → State → State
-row_changed table row event change s =
-    queued (after_change change s) (table_activity table) event ((codes "row", values.Text row) ∷ []) None
+-- A row changes, and this is told on its table's activity, with the row's name (JSR 240, chapter 10).
+abbrev pub row_changed : ℕ → List ℕ → RowChange → State → State
+row_changed table row change s =
+    queued (after_change (change_of_row table row change) s) (table_activity table) (event_of_row change) ((codes "row", values.Text row) ∷ []) None
 
 -- the state after what a line does
 abbrev pub after_action : Action → State → State
@@ -81,7 +80,7 @@ after_action (FireEvent a event fields target) s = queued s a event fields targe
 after_action (SetClock to suspensions occurrences) s = clocked to suspensions occurrences s
 after_action (ActivateService n) s = activated n s
 after_action (StopService n a) s = ended_if a (with_service s n states.Stopping a)
-after_action (ChangeRow table row event change) s = row_changed table row event change s
+after_action (ChangeRow table row change) s = row_changed table row change s
 
 -- its lines
 abbrev pub lines_of_action : Action → State → List (List ℕ)
@@ -91,7 +90,7 @@ lines_of_action (FireEvent a event fields target) s = lines_of_queued s a event
 lines_of_action (SetClock to suspensions occurrences) s = lines_of_all_resumed suspensions s ++ lines_of_all_occurred occurrences s
 lines_of_action (ActivateService n) s = lines_of_activated n s
 lines_of_action (StopService n a) s = service_line (service_key s.deployment n) (codes "stopping") ∷ lines_of_ended_if a s
-lines_of_action (ChangeRow table row event change) s = lines_of_queued s (table_activity table) event
+lines_of_action (ChangeRow table row change) s = lines_of_queued s (table_activity table) (event_of_row change)
 
 -- one more line was taken
 abbrev pub counted : State → State
