@@ -110,7 +110,11 @@ pub(crate) fn check_name(alloc: Global, text: &str) -> Result<(), DeployFault>
 }
 
 /// What names item `number` and no earlier one.
-pub(crate) fn check_fresh(alloc: Global, named: Option<usize>, number: usize) -> Result<(), DeployFault>
+pub(crate) fn check_fresh(
+    alloc: Global,
+    named: Option<usize>,
+    number: usize,
+) -> Result<(), DeployFault>
     ensures { Says (fresh_so named number) result }
 {
     match named {

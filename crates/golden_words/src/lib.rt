@@ -1,4 +1,4 @@
-//! The words of the rows that `run_rows` runs: keys with their answers are read from lines, and keys and effects are written. It stands on
+//! The words of the rows that `golden_runs` runs: keys with their answers are read from lines, and keys and effects are written. It stands on
 //! none but the lowest libraries, so that what reads and writes is proved without what runs.
 #![tactic(auto)]
 

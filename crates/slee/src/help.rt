@@ -53,7 +53,7 @@ Statuses, printed last but by --help and --version, and the exit status:
   5 bad-signals LINE KIND
                    this line, from 1, is the first that is of no form: long,
                    control, utf8, empty, verb, count, name, number, field, escape
-  6 (none)         standard output failed; a front of the text is out
+  6 (none)         standard output failed; a prefix of the text is out
   7 disk-fault     a file of the journal failed; what it has, show tells
   8 bad-journal SIDE AT KIND
                    the journal is damaged: in file a or b, at this byte, by its
