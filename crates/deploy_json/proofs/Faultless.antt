@@ -7,6 +7,7 @@ use Rattle.serde_json.specs.Find.{get, as_str, as_array, as_object}
 use Rattle.script_tree.specs.Tree.{Bytes}
 use Rattle.deploy_model.specs.declared.fault.DeployBad.{DeployBad}
 use Rattle.deploy_model.specs.Faults.{Fault, unless, under, and_then}
+use Rattle.deploy_model.proofs.Faultless.{first_none, later_none, under_none, unless_none}
 use Rattle.deploy_schema.specs.Pointers.{escaped}
 use Rattle.deploy_schema.specs.Forms.{Form, Want, need, may, list_of, list_or_type, items_fault, map_of, map_or_type, entries_fault, object, object_or_type, wants_fault, others_fault, value_fault, knows}
 use Rattle.deploy_schema.specs.Texts.{TextRule, text, text_or_type}
@@ -14,22 +15,6 @@ use Rattle.deploy_schema.specs.Numbers.{items_or_none, items_of}
 use Rattle.deploy_schema.specs.Names.{members_or_none}
 use Rattle.deploy_json.specs.Values.{text_of}
 use Rattle.deploy_json.specs.Shapes.{EachItem, EachMember}
-
-pub first_none : (a b : Option Fault) → and_then a b ≡ None → a ≡ None
-first_none None b h = refl
-first_none (Some f) b h = cc
-
-pub later_none : (a b : Option Fault) → and_then a b ≡ None → b ≡ None
-later_none None b h = h
-later_none (Some f) b h = cc
-
-pub under_none : (step : Bytes) (a : Option Fault) → under step a ≡ None → a ≡ None
-under_none step None h = refl
-under_none step (Some f) h = cc
-
-pub unless_none : (b : Bool) (k : DeployBad) → unless b k ≡ None → IsTrue b
-unless_none true k h = refl
-unless_none false k h = cc
 
 -- the members that an object's table wants
 wants_of : (ws : List Want) (n : ℕ) (d : Data) (o : Option Members) → object_or_type ws n d o ≡ None → wants_fault ws n d ≡ None

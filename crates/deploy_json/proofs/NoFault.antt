@@ -35,7 +35,8 @@ use Rattle.deploy_json.specs.Values.{listed, entries, text_of, field_of, fields_
 use Rattle.deploy_json.specs.Rows.{HandlerRow, MethodRow, BlockRow, PartsRow, handler_row, method_row, block_row, parts_row}
 use Rattle.deploy_json.specs.Documents.{handler_of, method_of, block_of, parts_in}
 use Rattle.deploy_json.specs.Shapes.{EachItem, IsEventType, IsProfile, IsBlock, IsDocument}
-use Rattle.deploy_json.proofs.Faultless.{first_none, later_none, object_members, text_keeps, needed_text, list_items}
+use Rattle.deploy_model.proofs.Faultless.{first_none, later_none}
+use Rattle.deploy_json.proofs.Faultless.{object_members, text_keeps, needed_text, list_items}
 use Rattle.deploy_json.proofs.Shaped.{shaped}
 use Rattle.deploy_json.proofs.Walks.{ended, both_none, kept_none, nothing_none, items_none, array_none, list_none, fitting_list_none, map_none}
 use Rattle.deploy_json.proofs.LookUps.{HasText, text_there, each_item, same_numbers, same_ids, same_kind, same_field, block_kind, same_aliases}

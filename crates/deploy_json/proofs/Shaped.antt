@@ -27,7 +27,8 @@ use Rattle.deploy_schema.specs.Names.{Names, names_in, kind_in, kind_at, attribu
 use Rattle.deploy_schema.specs.Tables as t
 use Rattle.deploy_json.specs.Values.{text_of}
 use Rattle.deploy_json.specs.Shapes.{EachItem, EachMember, IsName, IsNameValue, IsKind, is_priority, IsField, IsEventType, IsProfile, IsNamePair, IsRelation, IsParameter, WhereThere, IsCustomRule, IsHandler, IsMethod, IsBlock, IsService, IsDocument}
-use Rattle.deploy_json.proofs.Faultless.{first_none, later_none, unless_none, object_members, text_keeps, needed_text, needed_there, list_items, may_items, may_members}
+use Rattle.deploy_model.proofs.Faultless.{first_none, later_none, unless_none}
+use Rattle.deploy_json.proofs.Faultless.{object_members, text_keeps, needed_text, needed_there, list_items, may_items, may_members}
 
 -- names
 fresh_named : (numbers : Numbering) (n : ℕ) (owner : Data) (s : Bytes) → fresh_name numbers n owner s ≡ None → IsName s

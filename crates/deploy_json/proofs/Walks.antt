@@ -13,7 +13,7 @@ use Rattle.deploy_schema.specs.Names.{members_or_none}
 use Rattle.deploy_json.specs.Values.{listed, entries as entries_in}
 use Rattle.deploy_json.specs.Shapes.{EachItem}
 use Rattle.deploy_json.proofs.Each.{any_items}
-use Rattle.deploy_json.proofs.Faultless.{first_none, later_none, under_none}
+use Rattle.deploy_model.proofs.Faultless.{first_none, later_none, under_none}
 
 -- no fault at the end of a table
 abbrev no_fault : Option Fault

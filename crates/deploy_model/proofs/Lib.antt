@@ -1,3 +1,4 @@
 mod BuiltInLemmas
 pub mod Noting
 pub mod NotingIds
+pub mod Faultless

@@ -169,6 +169,10 @@ module _ {X : Type 0} (before : X → X → Bool) (o : IsStrictWeakOrder before)
       nothing_behind [] = refl
       nothing_behind (z ∷ zs) = ap (λ rest. z ∷ rest) (nothing_behind zs)
 
+  -- a stable sort of a list in which no two different things tie needn't be turned round
+  pub sorted_apart : (xs ys : List X) → ((k : X) → reverse (filter (ties before k) xs) ≡ filter (ties before k) xs) → IsSortedBy before ys → IsStableBy before xs ys → ys ≡ sorted before xs
+  sorted_apart xs ys alike up stable = sorted_is xs ys up (λ k. stable k ∙ sym (filter_turned (ties before k) xs ∙ alike k))
+
   -- two lists with the same alike things, put in order, are one
   pub sorted_same : (xs ys : List X) → ((k : X) → filter (ties before k) xs ≡ filter (ties before k) ys) → sorted before xs ≡ sorted before ys
   sorted_same xs ys same =

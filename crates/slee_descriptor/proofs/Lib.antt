@@ -1,3 +1,4 @@
 mod Aliases
-mod HandledBlocks
 mod Numbering
+mod Counted
+mod Selected

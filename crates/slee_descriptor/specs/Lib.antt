@@ -1,5 +1,6 @@
 pub mod CodesOfParts
 pub mod Keys
-pub mod Handlers
-pub mod Handling
+pub mod ByEvents
+pub mod Counting
+pub mod Ranks
 pub mod Indexes

@@ -5,6 +5,7 @@ ghost use Rattle.slee_descriptor.specs.Indexes.{AreIndexes, AreNumbered};
 ghost use Rattle.deploy_model.specs.Deployed.{event_named as event_so, profile_named as profile_so, table_named as table_so, block_named as block_so, service_named as service_so, handlers_of};
 ghost use Rattle.deploy_model.specs.Faults.{Says};
 ghost use Rattle.deploy_model.specs.Resolving.{deployed_of};
+ghost use Rattle.deploy_model.specs.Selecting.{starters_of};
 ghost use Rattle.deploy_model.specs.Tables.{parts_fault, is_deployment};
 
 use crate::block_coding::BlockCoding;
@@ -165,6 +166,13 @@ impl Deployment {
         ensures { result.now ≡ handlers_of (deployed_of self.now.parts) event.now }
     {
         self.indexes.handlers.get(event.as_str())
+    }
+
+    /// The numbers of the services whose roots declare the event initial, in the order of selection.
+    pub fn starters(&self, event: &Text) -> &[u32]
+        ensures { result.now ≡ starters_of (deployed_of self.now.parts) event.now }
+    {
+        self.indexes.starters.get(event.as_str())
     }
 
     /// The number of the declared event of this key.

@@ -2,13 +2,14 @@
 #![tactic(auto)]
 
 mod block_coding;
+mod by_event;
 mod coding;
 mod deployment;
-mod handlers;
 mod indexes;
 mod keys;
 mod naming;
 mod part_coding;
+mod selection;
 
 pub use deploy_model::{
     Block, BlockEvent, CustomRule, DeployBad, DeployFault, EventType, LABEL_LIMIT, Method, Parts,
