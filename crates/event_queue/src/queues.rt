@@ -1,9 +1,8 @@
 //! The store of events. Contracts see it as four lists in order, and the number of rows that each of them takes without memory.
-ghost use Rattle.std.specs.Prelude.{ℕ, ◌≡◌, ◌==◌, ◌+◌, ◌≤◌, ◌<◌, [], Some, not, length, slice_get, filter, IsTrue, OnOk, option_copied, option_map};
-ghost use Rattle.std.specs.List.{list_any};
+ghost use Rattle.std.specs.Prelude.{ℕ, ◌≡◌, ◌==◌, ◌+◌, ◌≤◌, ◌<◌, [], Some, length, slice_get, filter, IsTrue, OnOk, option_copied, option_map};
 ghost use Rattle.rows_sorted.specs.Orders.{rises_by};
 ghost use Rattle.event_queue.specs.Views.{HasRoom};
-ghost use Rattle.router_state.specs.Queues.{queued_before, service_mark_before, entity_mark_before, suspension_before, queue, head_event, is_waiting, is_done, is_delivered, is_suspended, suspended_until, with_event, without_head, with_service_mark, without_service_marks, with_entity_mark, without_entity_marks, with_suspension, without_suspension};
+ghost use Rattle.router_state.specs.Queues.{queued_before, service_mark_before, entity_mark_before, suspension_before, queue, head_event, is_waiting, is_done, is_delivered, is_undelivered, is_suspended, suspended_until, with_event, without_head, with_service_mark, without_service_marks, with_entity_mark, without_entity_marks, with_suspension, without_suspension};
 
 use router_state::{EntityMark, Event, Queued, ServiceMark, Suspension};
 use rows_leaves::{Leaves, Run};
@@ -206,8 +205,9 @@ impl Queues {
     }
 
     /// Whether no entity has received the head event of the activity.
+    #[tactic(auto, using(crate::proofs::HeadLemmas::none_marked))]
     pub fn is_undelivered(&self, activity: ActivityId) -> bool
-        ensures { result ≡ not (list_any (λ m. m.activity.0 == activity.0) self.now.delivered) }
+        ensures { result ≡ is_undelivered self.now.delivered activity.0 }
     {
         !self.delivered.has_row_of(activity.0)
     }
