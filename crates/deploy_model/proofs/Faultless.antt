@@ -51,12 +51,12 @@ pub blocks_none : (p : Parts) → parts_fault p ≡ None → items (block (known
 blocks_none p h =
     let all = known_in p in
     let found = each_rule
-      (member (codes "events") (λ x. x.events) (items (event_type all.events (id_number (λ e. e.id) p.events)))
-      ∷ member (codes "profiles") (λ x. x.profiles) (items (profile_spec all.profiles (id_number (λ q. q.id) p.profiles)))
-      ∷ member (codes "tables") (λ x. x.tables) (tables all)
-      ∷ member (codes "blocks") (λ x. x.blocks) (items (block all (id_number (λ b. b.id) p.blocks)))
-      ∷ member (codes "services") (λ x. x.services) (items (service all (key_number (λ s. s.key) p.services) (id_number (λ s. s.id) p.services)))
-      ∷ []) p h in
+    (member (codes "events") (λ x. x.events) (items (event_type all.events (id_number (λ e. e.id) p.events)))
+    ∷ member (codes "profiles") (λ x. x.profiles) (items (profile_spec all.profiles (id_number (λ q. q.id) p.profiles)))
+    ∷ member (codes "tables") (λ x. x.tables) (tables all)
+    ∷ member (codes "blocks") (λ x. x.blocks) (items (block all (id_number (λ b. b.id) p.blocks)))
+    ∷ member (codes "services") (λ x. x.services) (items (service all (key_number (λ s. s.key) p.services) (id_number (λ s. s.id) p.services)))
+    ∷ []) p h in
     under_none (codes "blocks") (items (block all (id_number (λ b. b.id) p.blocks)) p.blocks) found.1.1.1.0
 
 -- the handled events of a block without fault have none
@@ -64,21 +64,21 @@ pub events_none : (all : Known) (ids : IdNumbering) (n : ℕ) (b : Block) → bl
 events_none all ids n b h =
     let parts = each_rule (component (λ x. x.key) (λ x. x.id) all.blocks ids n ∷ block_members all ∷ []) b h in
     let members = each_rule
-      (member (codes "aliases") (λ x. x.aliases) (entries (λ a. a.0) (λ a. alias (kind_of b.attributes a.0) (all.alias_kind a.1)))
-      ∷ member (codes "relations") (λ x. x.relations) (entries (λ r. r.name) (relation all))
-      ∷ member (codes "events") (λ x. x.events) (items (block_event all (key_number (λ h. h.event) b.events)))
-      ∷ member (codes "methods") (λ x. x.methods) (entries (λ m. m.name) method)
-      ∷ []) b parts.1.0 in
+    (member (codes "aliases") (λ x. x.aliases) (entries (λ a. a.0) (λ a. alias (kind_of b.attributes a.0) (all.alias_kind a.1)))
+    ∷ member (codes "relations") (λ x. x.relations) (entries (λ r. r.name) (relation all))
+    ∷ member (codes "events") (λ x. x.events) (items (block_event all (key_number (λ h. h.event) b.events)))
+    ∷ member (codes "methods") (λ x. x.methods) (entries (λ m. m.name) method)
+    ∷ []) b parts.1.0 in
     under_none (codes "events") (items (block_event all (key_number (λ h. h.event) b.events)) b.events) members.1.1.0
 
 -- the event of a handler without fault is an event, and the handler is the first for it
 pub named_none : (all : Known) (handlers : Numbering) (n : ℕ) (h : BlockEvent) → block_event all handlers n h ≡ None → event_name all handlers n h.event ≡ None
 named_none all handlers n h e =
     let members = each_rule
-      (member (codes "event") (λ x. x.event) (event_name all handlers n)
-      ∷ member (codes "initial") (λ x. x.initial) (initial h.event)
-      ∷ member (codes "custom") (λ x. x.custom) (custom all h.event (wants_custom h.initial))
-      ∷ []) h e in
+    (member (codes "event") (λ x. x.event) (event_name all handlers n)
+    ∷ member (codes "initial") (λ x. x.initial) (initial h.event)
+    ∷ member (codes "custom") (λ x. x.custom) (custom all h.event (wants_custom h.initial))
+    ∷ []) h e in
     under_none (codes "event") (event_name all handlers n h.event) members.0
 
 by_event : (b : Bool) (named : Option ℕ) (n : ℕ) → (if b then fresh named n else here bad.UnknownName) ≡ None → (b ≡ true) × (is_number n named ≡ true)
