@@ -90,4 +90,4 @@ handled numbers q [] n all = refl
 handled numbers q (b ∷ blocks) n all =
     let own = once counted.Handled n q b.events all.0 in
     let same = there (find (λ (h : Handling). bytes_eq h.event q) (map handling_of b.events)) ∙ found_same counted.Handled q b.events in
-    rw (own, handled numbers q blocks (n + 1) all.1, same) (sym (one n _ _))
+    rw (own, handled numbers q blocks (n + 1) all.1, same) (sym (one n (option_map_or (counts counted.Handled) (find (λ (h : BlockEvent). bytes_eq q h.event) b.events) false) (handlers_from (n + 1) (map (block_of numbers) blocks) q)))

@@ -24,8 +24,8 @@ returns c =
     let profiles = key_number (λ (x : ProfileSpec). x.key) p.profiles in
     let blocks = key_number (λ (b : Block). b.key) p.blocks in
     let once = each_handled_once p c.requires in
-    let keyed : (q : List ℕ) → number_in c.in_ok-blocks.keys q ≡ blocks q = λ q. c.in_ok-blocks.ensures q ∙ (λ j. key_number (λ (b : Block). b.key) (c.as_slice-2.ensures j) q) in
-    let order = c.as_slice-6.ensures ∙ c.in_ok-order.ensures ∙ (λ j. map rank_of (service_order (map (service_of (λ q. keyed q j)) (c.as_slice-4.ensures j)))) in
+    let keyed : (q : List ℕ) → number_in c.in_ok-blocks.blocks q ≡ blocks q = λ q. c.in_ok-blocks.ensures q ∙ (λ j. key_number (λ (b : Block). b.key) (c.as_slice-2.ensures j) q) in
+    let order = c.as_slice-6.ensures.value ∙ c.in_ok-order.ensures ∙ (λ j. map rank_of (service_order (map (service_of (λ q. keyed q j)) (c.as_slice-4.ensures j)))) in
     record {
       profiles = λ q. c.in_ok-profiles.ensures q ∙ (λ j. key_number (λ (x : ProfileSpec). x.key) (c.as_slice.ensures j) q) ∙ sym (placed profile_of (λ (x : DeployedProfile). x.key) q p.profiles);
       blocks = λ q. c.in_ok-blocks.ensures q ∙ (λ j. key_number (λ (b : Block). b.key) (c.as_slice-2.ensures j) q) ∙ sym (placed (block_of blocks) (λ (b : DeployedBlock). b.key) q p.blocks);
