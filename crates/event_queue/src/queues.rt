@@ -205,7 +205,6 @@ impl Queues {
     }
 
     /// Whether no entity has received the head event of the activity.
-    #[tactic(auto, using(crate::proofs::HeadLemmas::none_marked))]
     pub fn is_undelivered(&self, activity: ActivityId) -> bool
         ensures { result ≡ is_undelivered self.now.delivered activity.0 }
     {
