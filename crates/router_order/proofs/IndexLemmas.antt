@@ -1,5 +1,5 @@
 -- The first attachment of the list whose entity may receive the event is that of the first of all eligible entities.
-use Rattle.std.proofs.Common.{◌≡◌, ℕ, ◌==◌, List, Option, None, sym, ap, ◌∙◌}
+use Rattle.std.proofs.Common.{Bool, ◌≡◌, ℕ, ◌==◌, List, Option, None, sym, ap, ◌∙◌}
 use Rattle.std.specs.Prelude.{◌&&◌, option_map}
 use Rattle.std.specs.List.{filter, find}
 use Rattle.router_state.specs.declared.rows.Entity.{Entity}
