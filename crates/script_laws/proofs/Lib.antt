@@ -6,6 +6,7 @@ pub mod Likeness
 pub mod LikeTerms
 pub mod LikeSteps
 pub mod LikeMeaning
+pub mod LikeDeliveries
 pub mod OwnEffects
 pub mod KnownSets
 pub mod KnownOverlaid
@@ -34,6 +35,10 @@ pub mod SafeScripts
 pub mod SafePrograms
 pub mod SafeCalls
 pub mod SafeDeliveries
+pub mod ReadKeys
+pub mod DistinctKeys
+pub mod KnownMore
+pub mod AskedKeys
 pub mod TypedAlike
 pub mod TypedLeaves
 pub mod TypedExpressions

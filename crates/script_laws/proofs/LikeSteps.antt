@@ -33,16 +33,16 @@ effect_like m other e st =
     let new : Ending (Unit {0}) = Gave tt (record st { effects = st.effects ++ e ∷ [] }) in
     let full : Ending (Unit {0}) = break f.TooMuch st in
     like_ending {A = Unit {0}} m other st (nat_lt (length st.effects) effect_limit) (cond (nat_le (bytes_of (st.effects ++ e ∷ [])) effect_bytes_limit) new full) full (cond (nat_le (bytes_of (st.effects ++ e ∷ [])) effect_bytes_limit) new full) full
-    (like_ending {A = Unit {0}} m other st (nat_le (bytes_of (st.effects ++ e ∷ [])) effect_bytes_limit) new full new full (longer_same st.keys, λ agree. refl) (longer_same st.keys, λ agree. refl)) (longer_same st.keys, λ agree. refl)
+    (like_ending {A = Unit {0}} m other st (nat_le (bytes_of (st.effects ++ e ∷ [])) effect_bytes_limit) new full new full (longer_same st.keys, (longer_same st.keys, λ agree. refl)) (longer_same st.keys, (longer_same st.keys, λ agree. refl))) (longer_same st.keys, (longer_same st.keys, λ agree. refl))
 
 declare_like : (m : Setting) (other : Answers) (x : Variable) (st : State) → Like m other st (declare x st) (declare x st)
-declare_like m other x st = (longer_same st.keys, λ agree. refl)
+declare_like m other x st = (longer_same st.keys, (longer_same st.keys, λ agree. refl))
 
 assign_like : (m : Setting) (other : Answers) (i : ℕ) (x : Val) (st : State) → Like m other st (assign i x st) (assign i x st)
 assign_like m other i x st =
     let new : Ending (Unit {0}) = Gave tt (record st { variables = slice_set st.variables i (Holds x) }) in
     let none : Ending (Unit {0}) = Stays in
-    like_ending {A = Unit {0}} m other st (nat_lt i (length st.variables)) new none new none (longer_same st.keys, λ agree. refl) tt
+    like_ending {A = Unit {0}} m other st (nat_lt i (length st.variables)) new none new none (longer_same st.keys, (longer_same st.keys, λ agree. refl)) (tt, tt)
 
 int_of_like : (m : Setting) (other : Answers) (a : Term) (st : State) → Like m other st (doing.int_of m a st) (doing.int_of (over m other) a st)
 int_of_like m other a st = search (like_then, eval_like, like_int, like_give)
@@ -128,10 +128,10 @@ next_like : (m : Setting) (other : Answers) (x y : Run (Unit {0})) (st : State) 
 next_like m other x y st h = search (like_then, like_give, h)
 
 rollback_like : (m : Setting) (other : Answers) (st : State) → Like m other st (ask_rollback st) (ask_rollback st)
-rollback_like m other st = (longer_same st.keys, λ agree. refl)
+rollback_like m other st = (longer_same st.keys, (longer_same st.keys, λ agree. refl))
 
 throw_like : (m : Setting) (other : Answers) (t : List ℕ) (st : State) → Like m other st (throw t st) (throw t st)
-throw_like m other t st = (longer_same st.keys, λ agree. refl)
+throw_like m other t st = (longer_same st.keys, (longer_same st.keys, λ agree. refl))
 
 says_like : (m : Setting) (other : Answers) (x : Saying) (st : State) → Like m other st (says m x st) (says (over m other) x st)
 says_like m other (p.Emit a) st = search (like_then, text_of_like, next_like, effect_like)
@@ -165,7 +165,7 @@ turns_like m other (suc n) test again x y st g h =
     (λ s. like_give m other s Next))
 
 forget_like : {A : Type 0} (m : Setting) (other : Answers) (n : ℕ) (v : A) (st : State) → Like m other st (Gave v (record st { variables = take n st.variables })) (Gave v (record st { variables = take n st.variables }))
-forget_like m other n v st = (longer_same st.keys, λ agree. refl)
+forget_like m other n v st = (longer_same st.keys, (longer_same st.keys, λ agree. refl))
 
 scoped_like : {A : Type 0} (m : Setting) (other : Answers) (x y : Run A) (st : State) → Like m other st (x st) (y st) → Like m other st (scoped x st) (scoped y st)
 scoped_like m other x y st h = like_then m other st (x st) (y st) (λ v new. Gave v (record new { variables = take (length st.variables) new.variables })) (λ v new. Gave v (record new { variables = take (length st.variables) new.variables })) h (λ v mid. forget_like m other (length st.variables) v mid)

@@ -80,16 +80,16 @@ pub used_active_like : (m : Setting) (other : Answers) (a : Ref) (st : State) �
 used_active_like m other a st = search (like_then, used_like, like_tested, like_give)
 
 found_like : {A : Type 0} (m : Setting) (other : Answers) (o : Option A) (st : State) → Like m other st (found o st) (found o st)
-found_like m other None st = tt
+found_like m other None st = (tt, tt)
 found_like m other (Some x) st = like_give m other st x
 
 only_child_like : (m : Setting) (other : Answers) (x : Variable) (st : State) → Like m other st (read.only_child x st) (read.only_child x st)
 only_child_like m other (Child e) st = like_give m other st e
-only_child_like m other (Holds x) st = tt
+only_child_like m other (Holds x) st = (tt, tt)
 
 only_value_like : (m : Setting) (other : Answers) (x : Variable) (st : State) → Like m other st (read.only_value x st) (read.only_value x st)
 only_value_like m other (Holds x) st = like_give m other st x
-only_value_like m other (Child e) st = tt
+only_value_like m other (Child e) st = (tt, tt)
 
 pub child_like : (m : Setting) (other : Answers) (i : ℕ) (st : State) → Like m other st (read.child m i st) (read.child (over m other) i st)
 child_like m other i st = search (like_then, found_like, only_child_like, like_tested, like_give)

@@ -74,7 +74,7 @@ handler_by event x handlers steps true rest h go = (0, h)
 handler_by event x handlers steps false rest h go = let r = go h in (suc r.0, r.1)
 
 -- the first handler of an event stands in a place
-handler_place : (event : List ℕ) (handlers : List HandlerProgram) (steps : Steps) → steps_in (find (λ h. bytes_eq h.event event) handlers) ≡ Some steps → (place : ℕ) × (steps_of_handler (slice_get handlers place) ≡ Some steps)
+pub handler_place : (event : List ℕ) (handlers : List HandlerProgram) (steps : Steps) → steps_in (find (λ h. bytes_eq h.event event) handlers) ≡ Some steps → (place : ℕ) × (steps_of_handler (slice_get handlers place) ≡ Some steps)
 handler_place event [] steps h = cc
 handler_place event (x ∷ handlers) steps h = handler_by event x handlers steps (bytes_eq x.event event) (find (λ h. bytes_eq h.event event) handlers) h (λ g. handler_place event handlers steps g)
 

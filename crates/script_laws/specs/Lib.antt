@@ -1,4 +1,5 @@
 pub mod Dependence
+pub mod Asking
 pub mod References
 pub mod Told
 pub mod Fitting

@@ -9,7 +9,12 @@ mod references;
 mod safety;
 mod typing;
 
-pub use dependence::runs_depend_on_what_they_read;
+pub use dependence::{
+    deliveries_ask_for_few_keys, deliveries_ask_for_unknown_keys,
+    deliveries_stay_over_more_answers, lacked_keys_are_read_over_more_answers,
+    more_answers_are_kept, runs_depend_on_what_they_read, runs_stay_over_more_answers,
+    scripts_ask_for_few_keys,
+};
 pub use numbering::checked_scripts_are_numbered;
 pub use own_effects::{
     activities_of_a_run_are_read, children_of_a_run_are_read, names_and_timers_of_a_run_are_read,
