@@ -1,0 +1,9 @@
+pub mod Reading
+pub mod Growing
+pub mod Stepping
+pub mod Stepped
+pub mod FiringOrder
+pub mod HeadLemmas
+pub mod AtMostOnce
+pub mod Receiving
+pub mod Bases
