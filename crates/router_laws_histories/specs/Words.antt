@@ -2,6 +2,8 @@
 use Rattle.std.specs.Prelude.{ℕ, ◌^◌, ◌<◌, ◌≡◌, ◌==◌, false, List, [], ◌∷◌, ◌++◌, Some}
 use Rattle.std.specs.List.{All, AllByRecursion}
 use Rattle.router_state.specs.State.{State}
+use Rattle.router_state.specs.Paths.{path_before, path_of}
+use Rattle.router_state.specs.declared.rows.Entity.{Entity}
 use Rattle.router_steps.specs.Effects.{resolved_in}
 use Rattle.router_steps.specs.Steps.{Subject, Taking, Selecting, Delivering, Finishing, after, after_subject, subject_of, marked_entity}
 use Rattle.router_steps.specs.Taking.{counted}
@@ -49,6 +51,10 @@ AreTold s (e ∷ es) = IsTold s e.choice × AreTold (after s e.choice) es
 abbrev pub AreNew : List ℕ → List ℕ → Type 0
 AreNew seen [] = Unit {0}
 AreNew seen (x ∷ xs) = (IsIn x seen → ⊥) × AreNew (seen ++ x ∷ []) xs
+
+-- no entity of the list comes before the one that was found
+abbrev pub IsFirstOf : List Entity → Entity → List Entity → Type 0
+IsFirstOf rows r ys = AllByRecursion (λ y. path_before (path_of rows y) (path_of rows r) ≡ false) ys
 
 -- a step that finishes no event of the activity
 abbrev pub LeavesHead : ℕ → Subject → Type 0
