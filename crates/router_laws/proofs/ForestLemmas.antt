@@ -36,7 +36,7 @@ in_branches n rows (r ∷ rs) e z row (inl is) mine deep =
     in_left z (branch n rows e r) (flat_map (λ row. if parent_of row == e then tree n rows row.number.0 else []) rs) (rw same here)
 in_branches n rows (r ∷ rs) e z row (inr more) mine deep = in_right z (branch n rows e r) (flat_map (λ row. if parent_of row == e then tree n rows row.number.0 else []) rs) (in_branches n rows rs e z row more mine deep)
 
-from_branches : (n : ℕ) (rows some : List Entity) (e z : ℕ)
+pub from_branches : (n : ℕ) (rows some : List Entity) (e z : ℕ)
     → IsIn z (flat_map (λ row. if parent_of row == e then tree n rows row.number.0 else []) some)
     → (row : Entity) × IsIn row some × (parent_of row ≡ e) × IsIn z (tree n rows row.number.0)
 from_branches n rows [] e z none = elim none [ ]
@@ -61,7 +61,7 @@ above_child [] e row none lt = elim none [ ]
 above_child (r ∷ rs) e row (inl is) lt = let more = above_le rs e row.number.0 (omega (arith, lt)) in grind (arith, more, is)
 above_child (r ∷ rs) e row (inr there) lt = let more = above_child rs e row there lt in grind (arith, more)
 
-above_all : (rows : List Entity) (e : ℕ) → above rows e ≤ length rows
+pub above_all : (rows : List Entity) (e : ℕ) → above rows e ≤ length rows
 above_all [] e = omega arith
 above_all (r ∷ rs) e = let more = above_all rs e in grind (arith, more)
 
@@ -70,7 +70,7 @@ above_top [] row none = elim none [ ]
 above_top (r ∷ rs) row (inl is) = let more = above_all rs row.number.0 in grind (arith, more, is)
 above_top (r ∷ rs) row (inr there) = let more = above_top rs row there in grind (arith, more)
 
-closed : (n : ℕ) (rows : List Entity) (e x : ℕ) (row : Entity) → AreBelowChildren rows → above rows e < n → IsIn row rows → parent_of row ≡ x
+pub closed : (n : ℕ) (rows : List Entity) (e x : ℕ) (row : Entity) → AreBelowChildren rows → above rows e < n → IsIn row rows → parent_of row ≡ x
     → IsIn x (tree n rows e) → IsIn row.number.0 (tree n rows e)
 closed zero rows e x row rises lt there child is = absurd (omega (arith, lt))
 closed (suc n) rows e x row rises lt there child is =

@@ -1,0 +1,12 @@
+pub mod TextLemmas
+pub mod IdleLemmas
+pub mod LooseLemmas
+pub mod RootLemmas
+pub mod FreedLemmas
+pub mod AboveLemmas
+pub mod OrderLemmas
+pub mod GoingLemmas
+pub mod CandidateLemmas
+pub mod MeetingLemmas
+pub mod HeldLemmas
+pub mod ClosedLemmas

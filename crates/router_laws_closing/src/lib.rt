@@ -1,0 +1,16 @@
+//! Laws of closing: after changes of a closed state only what they touched is to be looked at. And the changes by which a tree goes fit.
+#![tactic(auto)]
+
+mod activities;
+mod candidates;
+mod closed;
+mod lists;
+mod roots;
+mod trees;
+
+pub use activities::only_released_activities_end;
+pub use candidates::{freed_roots_are_candidates, roots_stand_above_their_trees};
+pub use closed::closing_closes;
+pub use lists::rising_lists_meet;
+pub use roots::{only_freed_roots_are_loose, only_loose_roots_go};
+pub use trees::{changes_keep_entities_numbered, trees_go_by_changes_that_fit};

@@ -1,0 +1,4 @@
+pub mod OwnWrites
+pub mod GuardLemmas
+pub mod TermsKeep
+pub mod GuardedRuns

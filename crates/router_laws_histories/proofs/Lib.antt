@@ -1,0 +1,16 @@
+pub mod Reading
+pub mod Growing
+pub mod Stepping
+pub mod Stepped
+pub mod FiringOrder
+pub mod HeadLemmas
+pub mod ByPriority
+pub mod AtMostOnce
+pub mod Receiving
+pub mod Bases
+pub mod Suspending
+pub mod PlainLines
+pub mod SuspendedSteps
+pub mod Waiting
+pub mod InputLemmas
+pub mod DeliveryOrder

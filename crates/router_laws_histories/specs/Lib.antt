@@ -1,0 +1,4 @@
+pub mod Fires
+pub mod Words
+pub mod Suspended
+pub mod Restarts

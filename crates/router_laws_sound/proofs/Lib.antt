@@ -1,0 +1,6 @@
+pub mod SoundEvents
+pub mod SoundMoves
+pub mod SoundLinks
+pub mod SoundFields
+pub mod SoundRemoval
+pub mod SoundEffects
