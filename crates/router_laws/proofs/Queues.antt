@@ -61,11 +61,11 @@ pub pushed_here : (events : List Queued) (a : ℕ) (event : Event) → AreEvents
 pushed_here events a event below =
     let row = row_of a event in
     let before : filter (is_on a) (filter (λ q. queued_before q row) events) ≡ filter (is_on a) events =
-        filter_all (is_on a) (λ q. queued_before q row) events
-        (all_weaker (λ q. q.event.id.0 < event.id.0) (λ q. is_on a q ≡ true → queued_before q row ≡ true) events (λ q less is. late q.activity.0 a q.event.id.0 event.id.0 less is) below) in
+    filter_all (is_on a) (λ q. queued_before q row) events
+    (all_weaker (λ q. q.event.id.0 < event.id.0) (λ q. is_on a q ≡ true → queued_before q row ≡ true) events (λ q less is. late q.activity.0 a q.event.id.0 event.id.0 less is) below) in
     let behind : filter (is_on a) (filter (λ q. queued_before row q) events) ≡ [] =
-        filter_none (is_on a) (λ q. queued_before row q) events
-        (all_weaker (λ q. q.event.id.0 < event.id.0) (λ q. is_on a q ≡ true → queued_before row q ≡ false) events (λ q less is. late_not q.activity.0 a q.event.id.0 event.id.0 less is) below) in
+    filter_none (is_on a) (λ q. queued_before row q) events
+    (all_weaker (λ q. q.event.id.0 < event.id.0) (λ q. is_on a q ≡ true → queued_before row q ≡ false) events (λ q less is. late_not q.activity.0 a q.event.id.0 event.id.0 less is) below) in
     let rows : filter (is_on a) (with_event events a event) ≡ filter (is_on a) events ++ row ∷ [] = kept (is_on a) row events ∙ rw (before, same_eqb a, behind) refl in
     ap (map (λ q. q.event)) rows ∙ map-append (λ q. q.event) (filter (is_on a) events) (row ∷ [])
 
@@ -75,21 +75,21 @@ pushed_elsewhere events a b event other =
     elim (cases_lt b a) [
       | inl less ↦
           let before : filter (is_on b) (filter (λ q. queued_before q row) events) ≡ filter (is_on b) events =
-              filter_all (is_on b) (λ q. queued_before q row) events
-              (everywhere (λ q. is_on b q ≡ true → queued_before q row ≡ true) (λ q is. lower q.activity.0 a b q.event.id.0 event.id.0 less is) events) in
+          filter_all (is_on b) (λ q. queued_before q row) events
+          (everywhere (λ q. is_on b q ≡ true → queued_before q row ≡ true) (λ q is. lower q.activity.0 a b q.event.id.0 event.id.0 less is) events) in
           let behind : filter (is_on b) (filter (λ q. queued_before row q) events) ≡ [] =
-              filter_none (is_on b) (λ q. queued_before row q) events
-              (everywhere (λ q. is_on b q ≡ true → queued_before row q ≡ false) (λ q is. lower_not q.activity.0 a b q.event.id.0 event.id.0 less is) events) in
+          filter_none (is_on b) (λ q. queued_before row q) events
+          (everywhere (λ q. is_on b q ≡ true → queued_before row q ≡ false) (λ q is. lower_not q.activity.0 a b q.event.id.0 event.id.0 less is) events) in
           let rows : filter (is_on b) (with_event events a event) ≡ filter (is_on b) events = kept (is_on b) row events ∙ rw (before, other, behind) (append_nil _) in
           ap (map (λ q. q.event)) rows
       | inr more ↦
           let greater : a < b = apart a b more other in
           let before : filter (is_on b) (filter (λ q. queued_before q row) events) ≡ [] =
-              filter_none (is_on b) (λ q. queued_before q row) events
-              (everywhere (λ q. is_on b q ≡ true → queued_before q row ≡ false) (λ q is. higher q.activity.0 a b q.event.id.0 event.id.0 greater is) events) in
+          filter_none (is_on b) (λ q. queued_before q row) events
+          (everywhere (λ q. is_on b q ≡ true → queued_before q row ≡ false) (λ q is. higher q.activity.0 a b q.event.id.0 event.id.0 greater is) events) in
           let behind : filter (is_on b) (filter (λ q. queued_before row q) events) ≡ filter (is_on b) events =
-              filter_all (is_on b) (λ q. queued_before row q) events
-              (everywhere (λ q. is_on b q ≡ true → queued_before row q ≡ true) (λ q is. higher_is q.activity.0 a b q.event.id.0 event.id.0 greater is) events) in
+          filter_all (is_on b) (λ q. queued_before row q) events
+          (everywhere (λ q. is_on b q ≡ true → queued_before row q ≡ true) (λ q is. higher_is q.activity.0 a b q.event.id.0 event.id.0 greater is) events) in
           let rows : filter (is_on b) (with_event events a event) ≡ filter (is_on b) events = kept (is_on b) row events ∙ rw (before, other, behind) refl in
           ap (map (λ q. q.event)) rows
     ]

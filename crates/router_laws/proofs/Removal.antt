@@ -87,8 +87,10 @@ among_own e k rows there = elim (cases_Bool (k.entity.0 == e)) [
   where
     itself : (a b : ℕ) → same_pair a b a b ≡ true
     itself a b = grind (arith, nat_tests)
+
     apart : (a b c d e : ℕ) → (c == e) ≡ true → (a == e) ≡ false → same_pair a b c d ≡ false
     apart a b c d e one two = grind (arith, nat_tests)
+
     found : (rows : List Link) → IsIn k rows → (k.entity.0 == e) ≡ true → is_among (filter (λ l. l.entity.0 == e) rows) k ≡ true
     found [] there mine = elim there [ ]
     found (l ∷ rows) (inl is) mine =
@@ -102,6 +104,7 @@ among_own e k rows there = elim (cases_Bool (k.entity.0 == e)) [
       ])
       | inr not_own ↦ rw not_own (found rows more mine)
     ]
+
     none : (rows : List Link) → (k.entity.0 == e) ≡ false → is_among (filter (λ l. l.entity.0 == e) rows) k ≡ false
     none [] other = refl
     none (l ∷ rows) other = elim (cases_Bool (l.entity.0 == e)) [
@@ -121,7 +124,7 @@ left_entities [] s = sym (filter_true s.entities)
 left_entities (e ∷ es) s =
     left_entities es (removed s e)
     ∙ rw (removed_entities (filter (λ l. l.entity.0 == e) s.links) e s)
-      (out_twice (λ (row : Entity). row.number.0 == e) (λ row. in_list row.number.0 es) s.entities ∙ filter_same _ _ s.entities (λ row there. turned row.number.0 e (in_list row.number.0 es)))
+    (out_twice (λ (row : Entity). row.number.0 == e) (λ row. in_list row.number.0 es) s.entities ∙ filter_same _ _ s.entities (λ row there. turned row.number.0 e (in_list row.number.0 es)))
   where
     turned : (x e : ℕ) (b : Bool) → not ((x == e) || b) ≡ not ((e == x) || b)
     turned x e b = grind (arith, nat_tests)
@@ -131,7 +134,7 @@ left_links [] s = sym (filter_true s.links)
 left_links (e ∷ es) s =
     let own = filter (λ (l : Link). l.entity.0 == e) s.links in
     let one : (removed s e).links ≡ filter (λ l. not (l.entity.0 == e)) s.links =
-        removed_links own e s ∙ without_is own s.links ∙ filter_same _ _ s.links (λ k there. ap not (among_own e k s.links there)) in
+    removed_links own e s ∙ without_is own s.links ∙ filter_same _ _ s.links (λ k there. ap not (among_own e k s.links there)) in
     left_links es (removed s e)
     ∙ rw one (out_twice (λ (l : Link). l.entity.0 == e) (λ l. in_list l.entity.0 es) s.links ∙ filter_same _ _ s.links (λ l there. turned l.entity.0 e (in_list l.entity.0 es)))
   where

@@ -110,6 +110,7 @@ any_put {Row = Row} before p row where_it_stands xs some = elim (cases_Bool (p r
   where
     front : (xs : List Row) (x : Row) → before x row ≡ true → p x ≡ true → list_any p (x ∷ filter (λ y. before y row) xs) ≡ true
     front xs x ahead passes = or_left (p x) _ passes
+
     widen : (x : Row) (xs : List Row) → list_any p (filter (λ y. before y row) xs ++ row ∷ filter (λ y. before row y) xs) ≡ true
         → list_any p (filter (λ y. before y row) (x ∷ xs) ++ row ∷ filter (λ y. before row y) (x ∷ xs)) ≡ true
     widen x xs some = elim (any_parts p (filter (λ y. before y row) xs) (row ∷ filter (λ y. before row y) xs) some) [
@@ -119,6 +120,7 @@ any_put {Row = Row} before p row where_it_stands xs some = elim (cases_Bool (p r
         | inr later ↦ or_right (p row) _ (cond_both (before row x) (x ∷ filter (λ y. before row y) xs) (filter (λ y. before row y) xs) (λ rows. list_any p rows ≡ true) (λ _. or_right (p x) _ later) (λ _. later))
       ])
     ]
+
     parts : (xs : List Row) → list_any p xs ≡ true → p row ≡ false → list_any p (filter (λ y. before y row) xs ++ row ∷ filter (λ y. before row y) xs) ≡ true
     parts [] some isnt = absurd (cc)
     parts (x ∷ xs) some isnt = elim (or_cases (p x) (list_any p xs) some) [
