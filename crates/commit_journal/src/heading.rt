@@ -3,10 +3,10 @@ ghost use Rattle.std.specs.Prelude.{◌≡◌, ◌<◌, ◌≤◌, ◌+◌, ◌^
 ghost use Rattle.commit_journal.specs.Spelling.{FitsText, header, size};
 ghost use Rattle.commit_journal.specs.Journal.{IsTooLarge};
 
-use crate::{BeginFault, Format};
 use crate::format::MAGIC_TWO;
 use crate::gate::CLOSED_GATE;
 use crate::limits::{DEPLOYMENT_MARGIN, SIDE_FRAME, SIDE_LIMIT};
+use crate::{BeginFault, Format};
 use slee_value::{NoMemory, write_bytes, write_u64};
 use std::alloc::Global;
 

@@ -5,11 +5,11 @@ ghost use Rattle.commit_journal.specs.Reading.{payloads_of, with_records, first_
 ghost use Rattle.commit_journal.specs.Kept.{StandsFound, AreBlank};
 ghost use Rattle.commit_journal.specs.Views.{head_view, IsCause, IsRecovered, kept_found, payload_of, located, IsFresh};
 
-use crate::{Format, Stage};
 use crate::fault::{JournalBad, JournalFault};
 use crate::limits::{DEPLOYMENT_MARGIN, HEADER_FRAME};
 use crate::reading::{Heading, choose, differ, records_of};
 use crate::record::{Found, RecordsFault};
+use crate::{Format, Stage};
 use slee_disk::Side;
 use slee_value::Blob;
 use std::alloc::Global;

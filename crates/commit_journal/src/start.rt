@@ -7,11 +7,11 @@ ghost use Rattle.commit_journal.specs.Reading.{recovered, first_gate};
 ghost use Rattle.commit_journal.specs.Kept.{StandsFound, AreBlank};
 ghost use Rattle.commit_journal.specs.Views.{IsCause, IsDevice, IsRecovered, kept_found, payload_of, located, IsFresh};
 
-use crate::{Format, Stage};
 use crate::fault::JournalFault;
 use crate::limits::{DEPLOYMENT_MARGIN, HEADER_FRAME};
 use crate::record::Found;
 use crate::recovery::recover;
+use crate::{Format, Stage};
 use slee_disk::{Disk, Side};
 use std::alloc::Global;
 
