@@ -1,4 +1,5 @@
-use Rattle.std.proofs.Common.{refl}
+use Rattle.std.proofs.Common.{◌+◌, refl}
+use Rattle.commit_journal.specs.Spelling.{records_size}
 use Rattle.commit_journal.proofs.Opens.{fresh_runs, opened_sound, opened_as, opened_seen, opened_records}
 use Rattle.commit_journal.proofs.journal.Journal.open.Goals as goal
 
@@ -21,7 +22,7 @@ returns-in-Ok-find-clause-found g c told =
     let old = g.D.Disk.disk c.args.disk in
     let new = g.D.Disk.disk c.find.new.disk in
     record {
-      read = opened_as c.in-Ok-find.found c.args.deployment.now old new _ found.looks found.found found.stands found.blank c.find.new.disk c.in-Ok.batch _ c.in-Ok-find.found.records.items c.args.limit told;
+      read = opened_as c.in-Ok-find.found c.args.deployment.now old new _ found.looks found.found found.stands found.blank c.find.new.disk c.in-Ok.batch (c.in-Ok-find.found.end + 1 + records_size c.in-Ok.batch) c.in-Ok-find.found.records.items c.args.limit told;
       located_are = opened_records c.in-Ok-find.found c.args.deployment.now old new _ found.looks found.found found.stands found.blank found.records told;
       stands = opened_seen c.in-Ok-find.found c.args.deployment.now old new _ found.looks found.found found.stands found.blank found.named told;
     }
