@@ -36,11 +36,7 @@ pub(crate) struct Kept<'a> {
 
 impl<'a> Kept<'a> {
     /// What is acknowledged after calls that all succeeded.
-    pub(crate) fn after(
-        alloc: Global,
-        start: &'a Start,
-        acts: &'a [Act],
-    ) -> Result<Self, Trouble> {
+    pub(crate) fn after(alloc: Global, start: &'a Start, acts: &'a [Act]) -> Result<Self, Trouble> {
         let mut kept = Kept::with_batch(alloc, start, acts)?;
         let acknowledged = kept.acknowledged;
         kept.payloads.truncate(acknowledged);

@@ -77,7 +77,10 @@ fn print_opened(rt: &HostRuntime, opened: &Result<Opened, JournalFault>) -> Resu
     match opened {
         Ok(found) => {
             let snapshot = hex::encode(rt.alloc(), &found.snapshot)?;
-            print!(rt; "format {} snapshot {snapshot} records {}, ", found.format, found.records)?
+            print!(rt;
+                "format {} snapshot {snapshot} records {}, ",
+                found.format, found.records
+            )?
         }
         Err(JournalFault::DiskFault) => print!(rt; "disk-fault, ")?,
         Err(JournalFault::BadJournal { side, at, kind }) => {

@@ -1,7 +1,7 @@
 //! The lines of the input.
 
-use crate::row::{Row, bytes_of};
 use crate::act;
+use crate::row::{Row, bytes_of};
 use crate::stops::Stops;
 use slee_value::NoMemory;
 use std::alloc::{AllocError, AllocFailed, Global};

@@ -79,14 +79,16 @@ impl Stops<'_> {
     /// The disk after so many of the calls, some of the disk's own calls failing.
     fn played(&self, alloc: Global, fail: &[u8], count: usize) -> Result<MemoryDisk, Trouble> {
         let acts = self.acts.get(..count).unwrap_or(self.acts);
-        Ok(play(
-            alloc,
-            self.disk(alloc, fail)?,
-            self.deployment,
-            SIDE_LIMIT,
-            acts,
-        )?
-        .disk)
+        Ok(
+            play(
+                alloc,
+                self.disk(alloc, fail)?,
+                self.deployment,
+                SIDE_LIMIT,
+                acts,
+            )?
+            .disk,
+        )
     }
 
     /// How many calls of the disk were made once the journal was opened, and after each call.

@@ -53,6 +53,7 @@ const BAD_REPLAY: Wanted = Wanted {
 
 // Sides without records, of the first format and of the second.
 const EMPTY_ONE: &[u8] = b"\x01SLEEJ1\x01\0\0\0\0\0\0\0\0\0\0\0\0\0\0\0\0";
+
 const EMPTY: &[u8] = b"\x01SLEEJ2\x01\0\0\0\0\0\0\0\0\0\0\0\0\0\0\0\0";
 
 // Side A, side B, and what opening them comes to.
