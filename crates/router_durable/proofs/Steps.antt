@@ -16,6 +16,7 @@ use Rattle.commit_journal.specs.Kept.{with_more, Keeps, KeepsOrMore, Stands, Sta
 use Rattle.commit_journal.specs.Journal.{View, payloads_on, IsCounted, HasRoomFor, IsFullFor as IsTooLong, with_payload}
 use Rattle.commit_journal.proofs.Sizes.{records_size-more}
 use Rattle.router_model.specs.State.{Parts}
+use Rattle.built_in_core.specs.Plans.{PlanView, IsPlanOf}
 use Rattle.router_rules.specs.Step.{after, is_enabled, is_choice, step_entry}
 use Rattle.router_rules.specs.Payload.{payload, payloads}
 use Rattle.router_rules.specs.History.{replay, Legal}
@@ -402,3 +403,14 @@ back_sound {D} disk_of j j2 o h g s t acked stop same is_h is_s sound =
 -- a journal that takes payloads hasn't stopped
 pub running : (stage : Stage) → stage ≡ Ready → stage ≢ stages.Stopped
 running stage ready stopped = let never : Ready ≡ stages.Stopped = sym ready ∙ stopped in cc never
+
+-- a plan of a choice is one of its own choice, in the same state
+pub plan_again : (s t : Parts) (c : Choice) (plan : PlanView) → IsPlanOf s c plan → t ≡ s → IsPlanOf t plan.choice plan
+plan_again s t c plan made same = subst (λ (x : Parts). IsPlanOf x plan.choice plan) (sym same) (subst (λ (x : Choice). IsPlanOf s x plan) (sym made.choice) made)
+
+-- the entry of a plan is that of the choice
+pub entry_of : (s t : Parts) (c : Choice) (plan : PlanView) (entry : Entry) → IsPlanOf s c plan → t ≡ s → entry ≡ step_entry t plan.choice → entry ≡ step_entry s c
+entry_of s t c plan entry made same is = is ∙ ap (λ (x : Parts). step_entry x plan.choice) same ∙ ap (step_entry s) made.choice
+
+pub state_of_plan : (s t u : Parts) (c : Choice) (plan : PlanView) → IsPlanOf s c plan → t ≡ s → u ≡ after t plan.choice → u ≡ after s c
+state_of_plan s t u c plan made same is = is ∙ ap (λ (x : Parts). after x plan.choice) same ∙ ap (after s) made.choice
