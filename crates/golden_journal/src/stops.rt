@@ -101,7 +101,12 @@ impl Stops<'_> {
     }
 
     /// Each stop of calls that all succeed.
-    fn count_stops(&self, alloc: Global, start: &Start, ends: &[u64]) -> Result<Counts, Trouble> {
+    fn count_stops<'a>(
+        &'a self,
+        alloc: Global,
+        start: &'a Start,
+        ends: &[u64],
+    ) -> Result<Counts, Trouble> {
         let mut counts = Counts {
             images: 0,
             right: 0,
@@ -116,10 +121,10 @@ impl Stops<'_> {
     }
 
     /// Each call failing in turn, and a stop after that.
-    fn count_failures(
-        &self,
+    fn count_failures<'a>(
+        &'a self,
         alloc: Global,
-        start: &Start,
+        start: &'a Start,
         ends: &[u64],
     ) -> Result<Counts, Trouble> {
         let mut counts = Counts {
@@ -127,7 +132,8 @@ impl Stops<'_> {
             right: 0,
         };
         let mut fail = Vec::new(alloc);
-        for before in 0..self.played(alloc, &[], self.acts.len())?.calls() {
+        let calls = self.played(alloc, &[], self.acts.len())?.calls();
+        for before in 0..calls {
             let call = before + 1;
             fail.push(1)?;
             let disk = self.played(alloc, &fail, self.acts.len())?;
