@@ -401,7 +401,7 @@ looks_alone old new failed looks = record {
 no_fault_or : (format : Format) (first : Option Misfit) → or_format format first ≡ None → (first ≡ None) × (format ≡ Two)
 no_fault_or One None none = absurd (cc)
 no_fault_or One (Some m) none = absurd (cc)
-no_fault_or Two first none = (none, refl)
+no_fault_or Two found none = (none, refl)
 
 pub plain_of : (format : Format) (snapshot : List ℕ) (rs : List Record) → first_fault format snapshot rs ≡ None → (snapshot ≡ []) × (misfit initial rs ≡ None) × (format ≡ Two)
 plain_of format [] rs none = let both = no_fault_or format (misfit initial rs) none in (refl, both.0, both.1)
@@ -429,11 +429,11 @@ small_of_journal limit deployment (journal_faults.OtherDeployment kept_len place
 small_of_journal limit deployment journal_faults.NoMemory = tt
 
 pub small_of_replay : (limit : ℕ) (deployment : List ℕ) (side : Side) (first : Option Misfit) (fault : OpenFault) → IsReplayCause side first fault → IsSmall limit deployment fault
-small_of_replay limit deployment side first faults.DiskFault cause = tt
-small_of_replay limit deployment side first (faults.BadJournal which at kind) cause = tt
-small_of_replay limit deployment side first (faults.OtherDeployment kept_len place) cause = tt
-small_of_replay limit deployment side first (faults.Full size adding) cause = absurd cause
-small_of_replay limit deployment side first faults.NoMemory cause = tt
+small_of_replay limit deployment side found faults.DiskFault cause = tt
+small_of_replay limit deployment side found (faults.BadJournal which at kind) cause = tt
+small_of_replay limit deployment side found (faults.OtherDeployment kept_len place) cause = tt
+small_of_replay limit deployment side found (faults.Full size adding) cause = absurd cause
+small_of_replay limit deployment side found faults.NoMemory cause = tt
 
 begun_small : (limit : ℕ) (deployment : List ℕ) (stage : Stage) (head : Head) → head.deployment ≡ deployment → head.snapshot ≡ [] → limit < size_begun stage head → limit < 24 + length deployment
 begun_small limit deployment stages.Blank head named plain above = omega (arith, above, ap length named, ap length plain)

@@ -8,8 +8,8 @@ returns-in-Err-clause-bad g c =
     replay_cause kept.side c.side-side.result kept.head.format c.in-Err.fault c.refusal_of.result kept.head.snapshot c.snapshot.result.now c.args.journal.now.records c.records.result.now c.args.state.now.parts
     c.side-side.ensures.side c.refusal_of.ensures c.snapshot.ensures (sym c.is_empty.ensures ∙ c.if-not-is_empty.false) c.records.ensures c.requires c.in-Err.ensures.bad
 
-pub returns-then-format-clause-bad : goal.returns-then-format-clause-bad
-returns-then-format-clause-bad g c =
+pub returns-then-format-ne2-clause-bad : goal.returns-then-format-ne2-clause-bad
+returns-then-format-ne2-clause-bad g c =
     let kept = c.args.journal.now.kept in
     old_cause kept.side c.side-side.result kept.head.format c.format.result kept.head.snapshot c.snapshot.result.now c.args.journal.now.records c.records.result.now c.args.state.now.parts
     c.side-side.ensures.side c.format.ensures.format c.if-format-ne2.true c.snapshot.ensures (sym c.is_empty.ensures ∙ c.if-not-is_empty.false) c.records.ensures c.requires c.in-Ok.ensures.fits

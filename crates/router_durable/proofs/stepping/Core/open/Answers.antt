@@ -54,6 +54,16 @@ returns-clause-counting g c =
     λ told. ap (λ v. told_on v.kept.side (g.D.Disk.disk v.disk)) c.of-begun.ensures
     ∙ counting_by g.D.Disk.disk (g.D.Disk.disk c.args.disk) c.args.deployment.now j o both.0 both.1 both.2 c.begin.new.self begins begun told
 
+pub returns-clause-any_moment : goal.returns-clause-any_moment
+returns-clause-any_moment g c =
+    let j = c.in-Ok.found in
+    let ok = c.in-Ok.ensures in
+    let o : Opened g.D.Disk.disk (g.D.Disk.disk c.args.disk) c.args.deployment.now j = record { opened = λ told. (ok.found told).read; records = λ told. (ok.found told).located_are; named = ok.opened.named; seen = λ told. (ok.found told).stands; looks = ok.looks; leaves = λ clean. (ok.any_moment clean).leaves; rest = λ clean. (ok.any_moment clean).clean; idle = ok.opened.empty } in
+    let b = c.begin.ensures in
+    let begins : Begins g.D.Disk.disk j c.begin.new.self = record { head = b.still.head; records = b.still.records; told = b.runs.told; rising = b.runs.rising; leaves = b.any_moment } in
+    let both = plain_of j.kept.head.format j.kept.head.snapshot j.records c.in-Ok-replay.ensures.fits in
+    λ clean s is. state_leaves g.D.Disk.disk (g.D.Disk.disk c.args.disk) c.args.deployment.now j o both.0 both.1 both.2 c.begin.new.self begins clean s is
+
 pub returns-in-Err-begin-clause-any_moment_err : goal.returns-in-Err-begin-clause-any_moment_err
 returns-in-Err-begin-clause-any_moment_err g c =
     let j = c.in-Ok.found in
