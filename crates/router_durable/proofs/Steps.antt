@@ -1,5 +1,5 @@
 -- A step keeps what is true of a core.
-use Rattle.std.proofs.Common.{◌≡◌, ◌⊎◌, inl, inr, ⊎_elim, ℕ, ◌+◌, ◌≤◌, nat_le, take, List, [], ◌∷◌, ◌++◌, length, true, false, refl, sym, ◌∙◌, ap, subst, append_assoc, append-nil, length-append, Option, Some, None, Result, Ok, ◌≢◌, IsTrue, arith}
+use Rattle.std.proofs.Common.{◌≡◌, ◌⊎◌, inl, inr, ⊎_elim, ℕ, ◌+◌, ◌≤◌, nat_le, take, List, [], ◌∷◌, ◌++◌, length, true, false, refl, sym, ◌∙◌, ap, subst, append_assoc, append-nil, length-append, Option, Some, None, Ok, ◌≢◌, IsTrue, arith}
 use Rattle.std.proofs.lemmas.Bool.{cases_Bool, leb-true, leb-false}
 use Rattle.std.proofs.lemmas.List.{take_all}
 use mathlib.Core.List.{IsPrefix}
@@ -28,8 +28,7 @@ use Rattle.router_durable.specs.declared.fault.Stop.{Stop}
 use Rattle.router_durable.specs.declared.fault.Stop.TheVariants as stops
 use Rattle.router_durable.specs.Recovery.{records_of}
 use Rattle.router_durable.specs.Facts.{Origin, base_of, records_since, RestartsIn, IsCrashSafe, HasRecords, HasRecordsOrMore, size_after, size_added, HasRoom, IsFullFor}
-use Rattle.router_durable.specs.declared.fault.StepFault.{StepFault}
-use Rattle.router_durable.specs.Core.{Held, is_down, IsStopOf, IsSound, IsHeld, Stepped}
+use Rattle.router_durable.specs.Core.{Held, is_down, IsStopOf, IsSound, IsHeld}
 use Rattle.router_durable.proofs.Recovers.{restarts_in}
 
 module _ {A : Type 0} where

@@ -4,7 +4,7 @@ use Rattle.router_rules.specs.Step.{is_enabled}
 use Rattle.built_in_core.specs.Lent.{choice_of}
 use Rattle.commit_journal.specs.Journal.{HasRoomFor}
 use Rattle.trace_history.specs.declared.entry.Entry.{Entry}
-use Rattle.router_durable.proofs.Steps.{full_is, full_sound, room_for, still_refused, back_sound, same_held, plan_again, entry_of, state_of_plan, Flushed, Acknowledges, whole_leaves, whole_ok, whole_failed}
+use Rattle.router_durable.proofs.Steps.{full_is, full_sound, room_for, still_refused, same_held, plan_again, entry_of, state_of_plan, Flushed, Acknowledges, whole_leaves, whole_ok, whole_failed}
 use Rattle.router_durable.proofs.stepping.Core.make.Goals as goal
 
 -- ---- the record has no room
