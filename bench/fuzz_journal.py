@@ -12,8 +12,10 @@
 Each pair of files `journal.a` and `journal.b` lies in a folder of its own beside the deployment `deploy.json`. The
 program has to end by itself with a status that is named for such files: 0, or 8 for a damaged journal and 9 for
 another deployment, of which the last line tells; `bench_journal` has the status 1 for both. What it tells of headers,
-lengths, sides and deployments has to be what this script finds by docs/FORMATS.md, and after a fault both files are as
-they were.
+lengths, sides and deployments has to be what the definitions say (`recovered` of commit_journal, evaluated by rundefs where it
+is at hand, else as this script retells docs/FORMATS.md; where both are, they have to agree), and after a fault both files are as
+they were. Sides are of either format, also of one each. The program goes on with none of the first format: where nothing else is
+wrong with such a side, it has a fault of the header.
 """
 import argparse
 import os
@@ -24,12 +26,16 @@ import sys
 import tempfile
 import time
 
+import deployments
+
 TOP = os.path.join(os.path.dirname(os.path.abspath(__file__)), "..")
 SLEE = "slee"
 JOURNAL_BENCH = "bench_journal"
 # What may be wrong with the records themselves, of which this script knows nothing.
 DEEPER = r"status 8 bad-journal [ab] (0 snapshot|\d+ (record|replay))"
 LARGEST = 2**64 - 1
+# The names of the two formats.
+NAMES = (b"SLEEJ1", b"SLEEJ2")
 
 
 def number(value, size):
@@ -60,7 +66,7 @@ def side(chance, own):
     records = b"".join(b"\x01" + text(payload(chance)) for _ in range(chance.randrange(5)))
     gate = bytes([chance.choice([0, 0, 0, 7, 255])])
     tail = b"" if chance.randrange(4) else chance.randbytes(chance.randrange(9))
-    return b"\x01SLEEJ1" + number(generation, 8) + text(deployment) + text(snapshot) + records + gate + tail
+    return b"\x01" + chance.choice(NAMES) + number(generation, 8) + text(deployment) + text(snapshot) + records + gate + tail
 
 
 def mutated(chance, bytes_):
@@ -90,14 +96,14 @@ def text_of(bytes_):
 
 
 def front_of(bytes_):
-    """A blank side, no header, or the generation, the deployment, the snapshot's length and what follows them."""
+    """A blank side, no header, or the generation, the format, the deployment, the snapshot's length and what follows them."""
     if len(bytes_) < 2 or bytes_[0] != 1:
         return "blank"
-    deployment = text_of(bytes_[15:]) if bytes_[1:7] == b"SLEEJ1" and len(bytes_) >= 15 else None
+    deployment = text_of(bytes_[15:]) if bytes_[1:7] in NAMES and len(bytes_) >= 15 else None
     snapshot = text_of(deployment[1]) if deployment else None
     if not snapshot or not snapshot[1]:
         return "header"
-    return int.from_bytes(bytes_[7:15], "little"), deployment[0], len(snapshot[0]), snapshot[1]
+    return int.from_bytes(bytes_[7:15], "little"), NAMES.index(bytes_[1:7]) + 1, deployment[0], len(snapshot[0]), snapshot[1]
 
 
 def newer(a, b):
@@ -108,17 +114,17 @@ def newer(a, b):
 
 
 def found(pair, own):
-    """What two sides stand for: a fault as it is printed, or how many records."""
+    """What two sides stand for: a fault as it is printed, or the side that counts, its format and how many records."""
     fronts = {name[-1]: front_of(bytes_) for name, bytes_ in pair.items()}
     for name, front in fronts.items():
         if front == "header":
             return f"bad-journal {name} 0 header"
     sides = [(name, front) for name, front in fronts.items() if front != "blank"]
     if not sides:
-        return 0
+        return "a", 2, 0
     if len(sides) == 2 and sides[0][1][0] == sides[1][1][0]:
         return "bad-journal b 0 sides"
-    name, (_, deployment, snapshot, rest) = sides[0] if len(sides) == 1 or newer(sides[0][1][0], sides[1][1][0]) else sides[1]
+    name, (_, form, deployment, snapshot, rest) = sides[0] if len(sides) == 1 or newer(sides[0][1][0], sides[1][1][0]) else sides[1]
     at, records = 23 + len(deployment) + snapshot, 0
     while rest[0] == 1:
         payload = text_of(rest[1:])
@@ -127,15 +133,37 @@ def found(pair, own):
         at, records, rest = at + 5 + len(payload[0]), records + 1, payload[1]
     if deployment != own:
         return f"other-deployment {len(deployment)} {len(os.path.commonprefix([deployment, own]))}"
-    return records
+    return name, form, records
+
+
+class Definitions:
+    """The same by the definition of the repository, or None where what evaluates it isn't at hand."""
+
+    def __init__(self):
+        self.world = deployments.world()
+        self.recovered = self.world and self.world.eval("commit_journal.specs.Reading.recovered")
+
+    def found(self, pair, own):
+        from antt.values import Rec
+
+        read = self.recovered(tuple(own), Rec({name[-1]: tuple(bytes_) for name, bytes_ in pair.items()}))
+        if read.con.name == "Err":
+            wrong = read.args[0]
+            words = [str(arg.con.name).lower() if hasattr(arg, "con") else str(arg) for arg in wrong.args]
+            return ("bad-journal " if wrong.con.name == "Bad" else "other-deployment ") + " ".join(words)
+        if not read.args[0].args:
+            return "a", 2, 0
+        kept = read.args[0].args[0]
+        return kept.side.con.name.lower(), ("One", "Two").index(kept.head.format.con.name) + 1, len(kept.payloads)
 
 
 def is_right(kind, status, last, what):
     """Whether a program of this kind says so of two sides."""
     if kind == JOURNAL_BENCH:
-        return (status, last) == ((0, f"records {what}") if isinstance(what, int) else (1, what))
-    if isinstance(what, int):
-        return (status, last) == (0, "status 0 ok") or (status == 8 and re.fullmatch(DEEPER, last) is not None)
+        return (status, last) == ((1, what) if isinstance(what, str) else (0, f"format {what[1]} records {what[2]}"))
+    if not isinstance(what, str):
+        whole = (0, "status 0 ok") if what[1] == 2 else (8, f"status 8 bad-journal {what[0]} 0 header")
+        return (status, last) == whole or (status == 8 and re.fullmatch(DEEPER, last) is not None)
     code = 8 if what.startswith("bad") else 9
     return (status, last) == (code, f"status {code} {what}")
 
@@ -153,7 +181,7 @@ def read(folder, name):
         return f.read()
 
 
-def trial(kind, command, own, pair):
+def trial(kind, command, own, pair, what):
     """The last line, or why the program is wrong."""
     with tempfile.TemporaryDirectory() as folder:
         for name, bytes_ in {**pair, "deploy.json": own}.items():
@@ -161,7 +189,6 @@ def trial(kind, command, own, pair):
                 f.write(bytes_)
         done = subprocess.run(command, cwd=folder, capture_output=True, stdin=subprocess.DEVNULL, timeout=60)
         last = (done.stdout.decode("utf-8", "replace").splitlines() or [""])[-1]
-        what = found(pair, own)
         if not is_right(kind, done.returncode, last, what):
             return None, f"status {done.returncode}, last line {last!r}, {done.stderr!r}; the files stand for {what!r}"
         if done.returncode != 0 and any(read(folder, name) != bytes_ for name, bytes_ in pair.items()):
@@ -181,11 +208,15 @@ def main():
     # the deployment that is built in is kept as the empty text
     own = given.deploy.read() if given.deploy else (b"bench" if kind == JOURNAL_BENCH else b"")
     chance = random.Random(given.seed)
+    definitions = Definitions()
     seen = {}
     begun = time.perf_counter()
     for count in range(given.count):
         pair = files_of(chance, own)
-        answer, wrong = trial(kind, [program, *given.cmd[1:]], own, pair)
+        what = found(pair, own)
+        if definitions.recovered and what != definitions.found(pair, own):
+            sys.exit(f"pair {count}: by the definition {definitions.found(pair, own)!r}, and not {what!r}\n{pair}")
+        answer, wrong = trial(kind, [program, *given.cmd[1:]], own, pair, what)
         if wrong:
             sides = ", ".join(f"{name} {bytes_.hex() or '-'}" for name, bytes_ in pair.items())
             sys.exit(f"pair {count}: {wrong}\n{sides}")

@@ -49,7 +49,10 @@ fn run(rt: &HostRuntime, words: &[String]) -> ExitCode {
 /// Prints what the two files stand for.
 fn open<D: Disk + Drop>(rt: &HostRuntime, disk: D, deployment: &str) -> ExitCode {
     match Journal::open(rt.alloc(), disk, deployment.as_bytes(), SIDE_LIMIT) {
-        Ok(journal) => told(println!(rt; "records {}", journal.records().len())),
+        Ok(journal) => {
+            let records = journal.records().len();
+            told(println!(rt; "format {} records {records}", journal.format()))
+        }
         Err((fault, _disk)) => {
             let _ = print_fault(rt, fault);
             ExitCode::from(1)
@@ -84,6 +87,9 @@ fn write<D: Disk + Drop>(alloc: Global, disk: D, count: u32, size: u16) -> Optio
     let Ok(mut journal) = Journal::open(alloc, disk, b"bench", SIDE_LIMIT) else {
         return None;
     };
+    if journal.format() != 2 {
+        return None;
+    }
     let Ok(()) = journal.begin() else {
         return None;
     };

@@ -3,17 +3,19 @@ use Rattle.std.proofs.Common.{◌≡◌, ◌≢◌, ◌⊎◌, inl, inr, ℕ, �
 use Rattle.slee_disk.specs.Sides.{Sides, on, other}
 use Rattle.slee_disk.specs.Disk.{DiskState, LeavesOnly, is_clean}
 use Rattle.slee_disk.proofs.Moments.{reached_start, clean_only}
+use Rattle.commit_journal.specs.declared.format.Format.{Format}
+use Rattle.commit_journal.specs.declared.format.Format.TheVariants.{One, Two}
 use Rattle.commit_journal.specs.declared.stage.Stage.{Stage}
 use Rattle.commit_journal.specs.declared.stage.Stage.TheVariants.{Ready, Found, Stopped}
 use Rattle.commit_journal.specs.declared.stage.Stage.TheVariants as stages
 use Rattle.commit_journal.specs.declared.record.Record.{Record}
-use Rattle.commit_journal.specs.Spelling.{Head, header, FitsHead, records_size, size}
+use Rattle.commit_journal.specs.Spelling.{Head, format_number, header, FitsHead, records_size, size}
 use Rattle.commit_journal.specs.Reading.{Kept}
 use Rattle.commit_journal.specs.Gate.{IsOpened}
 use Rattle.commit_journal.specs.Blank.{IsBlankOrOpen}
 use Rattle.commit_journal.specs.Rewriting.{IsRewritten}
 use Rattle.commit_journal.specs.Kept.{StandsIn, StandsFound, IsWhole, Keeps, Stands, StandsOrBegun}
-use Rattle.commit_journal.specs.Journal.{View, payloads_on, IsSound, size_begun}
+use Rattle.commit_journal.specs.Journal.{View, payloads_on, IsSound, size_begun, IsDurable}
 use Rattle.commit_journal.proofs.Sizes.{length-header}
 use Rattle.commit_journal.proofs.Writes.{stands_keeps}
 use Rattle.commit_journal.proofs.Rewrites.{blank_here, first_stands, first_image}
@@ -25,6 +27,14 @@ idle_leaves disk P clean holds = (reached_start disk P (λ image now. subst P (s
 
 pub clean_images : (disk : DiskState) (P : Sides → Type 0) → IsTrue (is_clean disk) → P disk.seen → (image : Sides) → disk.images image → P image
 clean_images disk P clean holds image now = subst P (sym (clean_only disk clean image now)) holds
+
+-- a side whose format has the number 2 is of the second format
+format_two : (format : Format) → format_number format ≡ 2 → format ≡ Two
+format_two One is = absurd (omega (arith, is))
+format_two Two is = refl
+
+pub two_of : (head other : Head) → head ≡ other → format_number other.format ≡ 2 → head.format ≡ Two
+two_of head other same is = ap (λ (h : Head). h.format) same ∙ format_two other.format is
 
 -- a journal that isn't blank stands on a side
 pub found_in : (stage : Stage) (kept : Kept) (end : ℕ) (batch : List (List ℕ)) (limit : ℕ) (disk : DiskState) → IsSound stage kept end batch limit disk → stage ≢ Stopped → stage ≢ stages.Blank → IsTrue disk.told → StandsFound kept end disk.seen
@@ -48,10 +58,13 @@ module _ (kept : Kept) (at : ℕ) (new : DiskState) (stands : StandsIn kept at [
   pub keeps_on : Keeps (kept_on kept new) new.seen
   keeps_on = stands_keeps (kept_on kept new) at [] new.seen ready_on
 
-pub same_kept : {D : Type 0} (disk : D) (kept : Kept) (batch : List (List ℕ)) (records : List Record) (limit : ℕ) (ps : List (List ℕ)) → ps ≡ kept.payloads
-    → ◌≡◌ {A = View D} (record { disk = disk; stage = Ready; kept = record { side = kept.side; head = kept.head; payloads = ps }; batch = batch; records = records; limit = limit })
-    (record { disk = disk; stage = Ready; kept = kept; batch = batch; records = records; limit = limit })
-same_kept disk kept batch records limit ps p = λ i. record { disk = disk; stage = Ready; kept = record { side = kept.side; head = kept.head; payloads = p i }; batch = batch; records = records; limit = limit }
+  pub durable_on : IsTrue (is_clean new) → IsDurable (kept_on kept new) new
+  durable_on clean = record { whole = whole_on; seen = keeps_on; images = clean_images new (Keeps (kept_on kept new)) clean keeps_on; clean = clean }
+
+pub same_kept : {D : Type 0} (disk : D) (kept : Kept) (batch : List (List ℕ)) (count : ℕ) (records : List Record) (limit : ℕ) (ps : List (List ℕ)) → ps ≡ kept.payloads
+    → ◌≡◌ {A = View D} (record { disk = disk; stage = Ready; kept = record { side = kept.side; head = kept.head; payloads = ps }; batch = batch; length = count; records = records; limit = limit })
+    (record { disk = disk; stage = Ready; kept = kept; batch = batch; length = count; records = records; limit = limit })
+same_kept disk kept batch count records limit ps p = λ i. record { disk = disk; stage = Ready; kept = record { side = kept.side; head = kept.head; payloads = p i }; batch = batch; length = count; records = records; limit = limit }
 
 -- ---- what stands behind the last gate is cut
 
@@ -59,14 +72,15 @@ pub ready_idle : (batch : List (List ℕ)) → (Ready ≡ Found) ⊎ (Ready ≡ 
 ready_idle batch (inl is) = absurd cc
 ready_idle batch (inr is) = absurd cc
 
-pub cut_sound : (stage : Stage) (kept : Kept) (end : ℕ) (batch : List (List ℕ)) (limit : ℕ) (old new : DiskState) → IsSound stage kept end batch limit old → stage ≢ stages.Blank → new.told ≡ old.told
+pub cut_sound : (stage : Stage) (kept : Kept) (end : ℕ) (batch : List (List ℕ)) (limit : ℕ) (old new : DiskState) → IsSound stage kept end batch limit old → stage ≢ stages.Blank → kept.head.format ≡ Two → new.told ≡ old.told
     → (IsTrue old.told → StandsIn kept end [] new.seen) → IsSound Ready (kept_on kept new) end batch limit new
-cut_sound stage kept end batch limit old new sound not_blank is_told cut = record {
+cut_sound stage kept end batch limit old new sound not_blank format is_told cut = record {
   ready = λ _ told. ready_on kept end new (cut (subst IsTrue is_told told));
   found = λ is. absurd cc;
   blank = λ is. absurd cc;
   idle = ready_idle batch;
   first = λ is. absurd cc;
+  current = λ _. format;
   short = λ _. sound.short not_blank;
   sized = sound.sized;
   room = sound.room;
@@ -89,12 +103,15 @@ pub stands_begun : (stage : Stage) (kept : Kept) (image : Sides) → stage ≡ s
 stands_begun stage kept image blank either = subst (λ (s : Stage). StandsOrBegun s kept image) (sym blank) either
 
 module _ (kept : Kept) (end : ℕ) (batch : List (List ℕ)) (limit : ℕ) (old : DiskState) (sound : IsSound stages.Blank kept end batch limit old) (fits : size kept.head [] ≤ limit) (generation : kept.head.generation < 2 ^ 64)
-    (behind : List ℕ) (is : behind ≡ header (record { generation = kept.head.generation; deployment = kept.head.deployment; snapshot = [] }) ++ 0 ∷ []) where
+    (behind : List ℕ) (is : behind ≡ header (record { format = Two; generation = kept.head.generation; deployment = kept.head.deployment; snapshot = [] }) ++ 0 ∷ []) where
   abbrev first : Kept
   first = record { side = kept.side; head = kept.head; payloads = [] }
 
   pub is_header : behind ≡ header kept.head ++ 0 ∷ []
-  is_header = is ∙ ap (λ (l : List ℕ). header (record { generation = kept.head.generation; deployment = kept.head.deployment; snapshot = l }) ++ 0 ∷ []) (sym (sound.first refl))
+  is_header =
+      is
+      ∙ ap (λ (f : Format). header (record { format = f; generation = kept.head.generation; deployment = kept.head.deployment; snapshot = [] }) ++ 0 ∷ []) (sym (sound.current (inr refl)))
+      ∙ ap (λ (l : List ℕ). header (record { format = kept.head.format; generation = kept.head.generation; deployment = kept.head.deployment; snapshot = l }) ++ 0 ∷ []) (sym (sound.first refl))
 
   pub head_fits : FitsHead kept.head
   head_fits = record { generation = generation; deployment = omega (arith, fits, sound.limited); snapshot = omega (arith, fits, sound.limited) }
@@ -122,6 +139,7 @@ module _ (kept : Kept) (end : ℕ) (batch : List (List ℕ)) (limit : ℕ) (old 
         blank = λ is. absurd cc;
         idle = ready_idle batch;
         first = λ is. absurd cc;
+        current = λ _. sound.current (inr refl);
         short = λ _. head_fits.deployment;
         sized = sound.sized;
         room = omega (arith, none, size, length-behind kept.head behind is_header, fits, sound.limited);

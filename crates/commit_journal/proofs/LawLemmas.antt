@@ -15,16 +15,15 @@ use Rattle.commit_journal.specs.Reading.{payload_at, then_more, if_some, payload
 use Rattle.commit_journal.specs.Kept.{StandsFound}
 use Rattle.commit_journal.specs.Laws.{IsBytes, BeginsWith, AreRecords, AreShort}
 use Rattle.commit_journal.proofs.Sizes.{length-spelled}
-use Rattle.commit_journal.proofs.Spelled.{payload_again, header_again, payloads_again}
+use Rattle.commit_journal.proofs.Spelled.{payload_again, header_again, front_open, payloads_again}
 use Rattle.commit_journal.proofs.Spelt.{payload_takes, front_takes, payloads_take}
 use Rattle.commit_journal.proofs.Recovers.{records_ok, stands_in, on_front}
 
 -- ---- what is spelled is read
 
 pub headers_read : (head : Head) (rest bytes : List ℕ) → BeginsWith head rest bytes → front bytes ≡ Header head rest
-unfolding front
 headers_read head [] bytes begins = absurd (begins.some refl)
-headers_read head (gate ∷ rest) bytes begins = ap front begins.parts ∙ ap header_or_not (header_again head gate rest begins.fits)
+headers_read head (gate ∷ rest) bytes begins = ap front begins.parts ∙ front_open head (gate ∷ rest) ∙ ap header_or_not (header_again head gate rest begins.fits)
 
 pub records_read : (ps : List (List ℕ)) (bytes : List ℕ) → AreRecords ps bytes → payloads_of bytes ≡ Ok ps
 records_read ps bytes are = ap payloads_of are.parts ∙ payloads_again (length (flat_map recorded ps ++ are.gate ∷ are.tail)) ps are.gate are.tail are.fits are.shut (omega arith)

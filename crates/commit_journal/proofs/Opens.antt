@@ -6,6 +6,7 @@ use Rattle.slee_disk.specs.Sides.{Sides, on}
 use Rattle.slee_disk.specs.Disk.{DiskState, Looks}
 use Rattle.commit_journal.specs.declared.stage.Stage.{Stage}
 use Rattle.commit_journal.specs.declared.stage.Stage.TheVariants as stages
+use Rattle.commit_journal.specs.declared.format.Format.TheVariants.{Two}
 use Rattle.commit_journal.specs.declared.record.Record.{Record}
 use Rattle.commit_journal.specs.declared.record.Found.{Found}
 use Rattle.commit_journal.specs.Spelling.{FitsText, records_size}
@@ -42,10 +43,10 @@ module _ (f : Found) (deployment : List ℕ) (old new : DiskState) (failed : Typ
     (found : IsTrue old.told → IsRecovered deployment f (recovered deployment old.seen)) (stands : IsTrue old.told → f.stage ≡ stages.Found → StandsFound (kept_found f) f.end old.seen)
     (blank : IsTrue old.told → f.stage ≡ stages.Blank → AreBlank old.seen) where
   abbrev kept : Kept
-  kept = kept_by f.side f.generation f.deployment f.snapshot new
+  kept = kept_by f.side f.format f.generation f.deployment f.snapshot new
 
   with_payloads : (ps : List (List ℕ)) → payloads_on (on f.side new.seen) ≡ ps → map payload_of f.records.items ≡ ps → kept_found f ≡ kept
-  with_payloads ps p q = λ i. record { side = f.side; head = record { generation = f.generation; deployment = f.deployment; snapshot = f.snapshot }; payloads = (q ∙ sym p) i }
+  with_payloads ps p q = λ i. record { side = f.side; head = record { format = f.format; generation = f.generation; deployment = f.deployment; snapshot = f.snapshot }; payloads = (q ∙ sym p) i }
 
   kept_is_found : IsTrue old.told → f.stage ≡ stages.Found → kept_found f ≡ kept
   kept_is_found told stage =
@@ -62,7 +63,7 @@ module _ (f : Found) (deployment : List ℕ) (old new : DiskState) (failed : Typ
   told_old : IsTrue new.told → IsTrue old.told
   told_old told = subst IsTrue looks.passes.told told
 
-  pub opened_sound : (batch : List (List ℕ)) (limit : ℕ) → batch ≡ [] → limit ≤ 268435456 → f.end < 2 ^ 63 + 23 → IsFresh f.stage → (f.stage ≡ stages.Found → FitsText f.deployment) → length f.deployment + 64 < 2 ^ 63 → (f.stage ≡ stages.Blank → (f.snapshot ≡ []) × (f.records.items ≡ []))
+  pub opened_sound : (batch : List (List ℕ)) (limit : ℕ) → batch ≡ [] → limit ≤ 268435456 → f.end < 2 ^ 63 + 23 → IsFresh f.stage → (f.stage ≡ stages.Found → FitsText f.deployment) → length f.deployment + 64 < 2 ^ 63 → (f.stage ≡ stages.Blank → (f.snapshot ≡ []) × (f.format ≡ Two) × (f.records.items ≡ []))
       → IsSound f.stage kept f.end batch limit new
   opened_sound batch limit none limited small fresh short sized first = record {
     ready = λ stage told. absurd (fresh_not_ready f.stage fresh stage);
@@ -70,16 +71,17 @@ module _ (f : Found) (deployment : List ℕ) (old new : DiskState) (failed : Typ
     blank = λ stage told. subst AreBlank (sym looks.seen) (blank (told_old told) stage);
     idle = λ _. none;
     first = λ stage. (first stage).0;
+    current = ⊎_elim (λ stage. absurd (fresh_not_ready f.stage fresh stage)) (λ stage. (first stage).1);
     short = λ not_blank. short (fresh_found f.stage fresh not_blank);
     sized = sized;
     room = omega (arith, ap records_size none, small);
     limited = limited;
   }
 
-  pub opened_as : {D : Type 0} (disk : D) (batch : List (List ℕ)) (records : List Record) (limit : ℕ) → IsTrue old.told
-      → IsOpenedAs deployment (recovered deployment old.seen) (record { disk = disk; stage = f.stage; kept = kept; batch = batch; records = records; limit = limit })
-  opened_as {D = D} disk batch records limit told =
-      let v : View D = record { disk = disk; stage = f.stage; kept = kept; batch = batch; records = records; limit = limit } in
+  pub opened_as : {D : Type 0} (disk : D) (batch : List (List ℕ)) (count : ℕ) (records : List Record) (limit : ℕ) → IsTrue old.told
+      → IsOpenedAs deployment (recovered deployment old.seen) (record { disk = disk; stage = f.stage; kept = kept; batch = batch; length = count; records = records; limit = limit })
+  opened_as {D = D} disk batch count records limit told =
+      let v : View D = record { disk = disk; stage = f.stage; kept = kept; batch = batch; length = count; records = records; limit = limit } in
       let of_found : (f.stage ≡ stages.Found) × (recovered deployment old.seen ≡ Ok (Some (kept_found f))) → IsOpenedAs deployment (recovered deployment old.seen) v = λ x.
       inl (x.0, x.1 ∙ ap (λ (k : Kept). Ok (Some k)) (kept_is told)) in
       let of_blank : (f.stage ≡ stages.Blank) × (recovered deployment old.seen ≡ Ok None) × (kept_found f ≡ kept_first deployment) → IsOpenedAs deployment (recovered deployment old.seen) v = λ x.

@@ -5,15 +5,15 @@ use Rattle.std.specs.List.{flat_map}
 use Rattle.slee_disk.specs.declared.side.Side.{Side}
 use Rattle.slee_disk.specs.declared.side.Side.TheVariants.{A, B}
 use Rattle.slee_disk.specs.Sides.{Sides, on}
+use Rattle.commit_journal.specs.declared.format.Format.TheVariants.{Two}
 use Rattle.commit_journal.specs.declared.fault.JournalBad.{JournalBad}
 use Rattle.commit_journal.specs.declared.fault.JournalBad.TheVariants as kinds
-use Rattle.slee_value.specs.Bytes.{spelled_bytes}
 use Rattle.commit_journal.specs.Spelling.{Head, FitsHead, recorded, header, spelled, records_size}
 use Rattle.commit_journal.specs.Reading.{payloads, payloads_of, first_difference, first_gate, Front, Blank, NoHeader, Header, next, by_generations, front, Neither, Counts, NotOne, counting, Bad, Other, Kept, with_records, with_front, with_counting, recovered}
 use Rattle.commit_journal.specs.Kept.{StandsIn, StandsFound}
 use Rattle.commit_journal.specs.Views.{front_on, kept_first}
 use Rattle.commit_journal.proofs.Counting.{chosen}
-use Rattle.commit_journal.proofs.Sizes.{length-spelled}
+use Rattle.commit_journal.proofs.Sizes.{length-header, length-spelled}
 use Rattle.commit_journal.specs.Laws.{IsBytes}
 use Rattle.commit_journal.proofs.Spelt.{front_takes, payloads_take}
 
@@ -71,7 +71,7 @@ stands_in deployment sides side head gates k end fits counts begins kept place =
 pub header_fits : (sides : Sides) (side : Side) (head : Head) (gates : List ℕ) → IsBytes (on side sides) → front_on side (front sides.a) (front sides.b) ≡ Header head gates → length head.deployment + length head.snapshot + length gates ≤ length (on side sides)
 header_fits sides side head gates fits begins =
     let f = front_takes (on side sides) head gates fits (sym (on_front side sides) ∙ begins) in
-    omega (arith, ap length f.0, length-append (header head) gates, length-append (spelled_bytes head.deployment) (spelled_bytes head.snapshot))
+    omega (arith, ap length f.0, length-append (header head) gates, length-header head)
 
 pub bytes_on : (side : Side) (a b : List ℕ) → IsBytes a → IsBytes b → IsBytes (on side (record { a = a; b = b }))
 bytes_on A a b p q = p
@@ -81,8 +81,8 @@ pub short_on : (side : Side) (a b : List ℕ) → length a < 2 ^ 63 → length b
 short_on A a b p q = p
 short_on B a b p q = q
 
-pub same_first : (d e s : List ℕ) (ps : List (List ℕ)) → d ≡ e → s ≡ [] → ps ≡ [] → ◌≡◌ {A = Kept} (record { side = A; head = record { generation = 1; deployment = d; snapshot = s }; payloads = ps }) (kept_first e)
-same_first d e s ps p q r = λ i. record { side = A; head = record { generation = 1; deployment = p i; snapshot = q i }; payloads = r i }
+pub same_first : (d e s : List ℕ) (ps : List (List ℕ)) → d ≡ e → s ≡ [] → ps ≡ [] → ◌≡◌ {A = Kept} (record { side = A; head = record { format = Two; generation = 1; deployment = d; snapshot = s }; payloads = ps }) (kept_first e)
+same_first d e s ps p q r = λ i. record { side = A; head = record { format = Two; generation = 1; deployment = p i; snapshot = q i }; payloads = r i }
 
 no_neither : (x y z w : Bool) → cond x (NotOne B kinds.Sides) (cond y (Counts A) (cond z (Counts B) (cond w (Counts A) (Counts B)))) ≡ Neither → ⊥
 no_neither true y z w e = cc

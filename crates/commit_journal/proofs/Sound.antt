@@ -91,10 +91,10 @@ only_error (Err x) e P is p = subst P (sym is) p
 
 -- ---- an empty batch
 
-pub idle_view : {D : Type 0} (v : View D) → v.batch ≡ [] → v ≡ record { disk = v.disk; stage = v.stage; kept = with_more v.kept v.batch; batch = []; records = v.records; limit = v.limit }
+pub idle_view : {D : Type 0} (v : View D) → v.batch ≡ [] → v ≡ record { disk = v.disk; stage = v.stage; kept = with_more v.kept v.batch; batch = []; length = v.length; records = v.records; limit = v.limit }
 idle_view v none =
     let p : v.kept.payloads ≡ v.kept.payloads ++ v.batch = sym (ap (λ (l : List (List ℕ)). v.kept.payloads ++ l) none ∙ append-nil v.kept.payloads) in
-    λ i. record { disk = v.disk; stage = v.stage; kept = record { side = v.kept.side; head = v.kept.head; payloads = p i }; batch = none i; records = v.records; limit = v.limit }
+    λ i. record { disk = v.disk; stage = v.stage; kept = record { side = v.kept.side; head = v.kept.head; payloads = p i }; batch = none i; length = v.length; records = v.records; limit = v.limit }
 
 -- ---- a batch is written
 
@@ -127,17 +127,18 @@ module _ (stage : Stage) (kept : Kept) (end : ℕ) (batch : List (List ℕ)) (li
     blank = λ is_blank. absurd (cc (sym is_ready ∙ is_blank));
     idle = λ _. none;
     first = λ is_blank. absurd (cc (sym is_ready ∙ is_blank));
+    current = λ _. sound.current (inl is_ready);
     short = sound.short;
     sized = sound.sized;
     room = omega (arith, ap records_size none, sound.room, size);
     limited = sound.limited;
   }
 
--- two views that differ in payloads and batch alone
-pub same_view : {D : Type 0} (disk : D) (stage : Stage) (kept : Kept) (records : List Record) (limit : ℕ) (more b c : List (List ℕ)) (ps : List (List ℕ)) → ps ≡ kept.payloads ++ more → b ≡ c
-    → ◌≡◌ {A = View D} (record { disk = disk; stage = stage; kept = record { side = kept.side; head = kept.head; payloads = ps }; batch = b; records = records; limit = limit })
-    (record { disk = disk; stage = stage; kept = with_more kept more; batch = c; records = records; limit = limit })
-same_view disk stage kept records limit more b c ps p q = λ i. record { disk = disk; stage = stage; kept = record { side = kept.side; head = kept.head; payloads = p i }; batch = q i; records = records; limit = limit }
+-- two views that differ in payloads and batch alone, the length being counted in two ways
+pub same_view : {D : Type 0} (disk : D) (stage : Stage) (kept : Kept) (records : List Record) (limit : ℕ) (more b c : List (List ℕ)) (ps : List (List ℕ)) (m n : ℕ) → ps ≡ kept.payloads ++ more → b ≡ c → m ≡ n
+    → ◌≡◌ {A = View D} (record { disk = disk; stage = stage; kept = record { side = kept.side; head = kept.head; payloads = ps }; batch = b; length = m; records = records; limit = limit })
+    (record { disk = disk; stage = stage; kept = with_more kept more; batch = c; length = n; records = records; limit = limit })
+same_view disk stage kept records limit more b c ps m n p q r = λ i. record { disk = disk; stage = stage; kept = record { side = kept.side; head = kept.head; payloads = p i }; batch = q i; length = r i; records = records; limit = limit }
 
 -- ---- a payload is added
 
@@ -151,6 +152,7 @@ sound_more stage kept end batch limit disk sound is_ready payload new is room =
       blank = sound.blank;
       idle = elim_ready;
       first = sound.first;
+      current = sound.current;
       short = sound.short;
       sized = sound.sized;
       room = omega (arith, size, room, sound.limited);
@@ -160,3 +162,11 @@ sound_more stage kept end batch limit disk sound is_ready payload new is room =
     elim_ready : (stage ≡ Found) ⊎ (stage ≡ stages.Blank) → new ≡ []
     elim_ready (inl is_found) = absurd (cc (sym is_ready ∙ is_found))
     elim_ready (inr is_blank) = absurd (cc (sym is_ready ∙ is_blank))
+
+-- the view with the payload
+pub more_view : {D : Type 0} (disk : D) (stage : Stage) (kept : Kept) (records : List Record) (limit end : ℕ) (batch new : List (List ℕ)) (payload : List ℕ) → new ≡ batch ++ payload ∷ []
+    → ◌≡◌ {A = View D} (record { disk = disk; stage = stage; kept = kept; batch = new; length = end + 1 + records_size new; records = records; limit = limit })
+    (record { disk = disk; stage = stage; kept = kept; batch = batch ++ payload ∷ []; length = end + 1 + records_size batch + (5 + length payload); records = records; limit = limit })
+more_view disk stage kept records limit end batch new payload is =
+    let count : end + 1 + records_size new ≡ end + 1 + records_size batch + (5 + length payload) = omega (arith, ap records_size is, records_size-more batch (payload ∷ [])) in
+    λ i. record { disk = disk; stage = stage; kept = kept; batch = is i; length = count i; records = records; limit = limit }

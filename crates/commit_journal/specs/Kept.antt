@@ -3,6 +3,7 @@ use Rattle.std.specs.Prelude.{◌≡◌, ◌≢◌, ◌⊎◌, ℕ, List, [], �
 use Rattle.std.specs.List.{flat_map, AllByRecursion}
 use Rattle.slee_disk.specs.declared.side.Side.{Side}
 use Rattle.slee_disk.specs.Sides.{Sides, on, other}
+use Rattle.commit_journal.specs.declared.format.Format.TheVariants.{Two}
 use Rattle.commit_journal.specs.declared.gate.TheConstants.{OPEN_GATE, CLOSED_GATE}
 use Rattle.commit_journal.specs.declared.stage.Stage.{Stage}
 use Rattle.commit_journal.specs.declared.stage.Stage.TheVariants as stages
@@ -73,11 +74,11 @@ generation_renewed stages.Found generation = next generation
 generation_renewed stages.Ready generation = next generation
 generation_renewed stages.Stopped generation = next generation
 
--- what is kept once a journal is renewed: a snapshot, and no payload
+-- what is kept once a journal is renewed: a snapshot, and no payload, in the second format
 abbrev pub renewed : Stage → Kept → List ℕ → Kept
 renewed stage kept snapshot = record {
   side = side_renewed stage kept.side;
-  head = record { generation = generation_renewed stage kept.head.generation; deployment = kept.head.deployment; snapshot = snapshot };
+  head = record { format = Two; generation = generation_renewed stage kept.head.generation; deployment = kept.head.deployment; snapshot = snapshot };
   payloads = [];
 }
 

@@ -9,6 +9,7 @@ pub mod Batch
 pub mod Journal
 pub mod Rewriting
 pub mod Settling
+pub mod Running
 pub mod Renewal
 pub mod Written
 pub mod Laws

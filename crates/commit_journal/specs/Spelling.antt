@@ -3,15 +3,24 @@
 use Rattle.std.specs.Prelude.{ℕ, ◌+◌, ◌<◌, ◌^◌, List, [], ◌∷◌, ◌++◌, length, codes}
 use Rattle.std.specs.List.{flat_map}
 use Rattle.slee_value.specs.Bytes.{spelled_u64, spelled_bytes}
+use Rattle.commit_journal.specs.declared.format.Format.{Format}
+use Rattle.commit_journal.specs.declared.format.Format.TheVariants.{One, Two}
 use Rattle.commit_journal.specs.declared.gate.TheConstants.{OPEN_GATE}
 use Rattle.commit_journal.specs.declared.limits.TheConstants.{RECORD_FRAME, SIDE_FRAME}
 
--- the name of the format
-abbrev pub magic : List ℕ
-magic = codes "SLEEJ1"
+-- the name of a format
+abbrev pub magic : Format → List ℕ
+magic One = codes "SLEEJ1"
+magic Two = codes "SLEEJ2"
+
+-- its number
+abbrev pub format_number : Format → ℕ
+format_number One = 1
+format_number Two = 2
 
 -- what stands before the records
 pub record Head : Type 0 where
+  pub format : Format
   pub generation : ℕ
   pub deployment : List ℕ
   -- empty for the initial state
@@ -23,7 +32,7 @@ recorded payload = OPEN_GATE ∷ spelled_bytes payload
 
 -- what stands between the first gate and the first record's
 abbrev pub header : Head → List ℕ
-header head = magic ++ (spelled_u64 head.generation ++ (spelled_bytes head.deployment ++ spelled_bytes head.snapshot))
+header head = magic head.format ++ (spelled_u64 head.generation ++ (spelled_bytes head.deployment ++ spelled_bytes head.snapshot))
 
 -- a side as far as its last gate
 abbrev pub spelled : Head → List (List ℕ) → List ℕ

@@ -5,6 +5,7 @@ use denote.Ref.{Bor}
 use Rattle.slee_value.specs.declared.reading.TheConstants.{COUNT_LEN}
 use Rattle.slee_disk.specs.declared.side.Side.{Side}
 use Rattle.slee_disk.specs.declared.side.Side.TheVariants.{A, B}
+use Rattle.commit_journal.specs.declared.format.Format.TheVariants.{Two}
 use Rattle.commit_journal.specs.declared.gate.TheConstants.{OPEN_GATE}
 use Rattle.commit_journal.specs.declared.fault.JournalBad.{JournalBad}
 use Rattle.commit_journal.specs.declared.fault.JournalBad.TheVariants as kinds
@@ -32,7 +33,7 @@ Reads view None read = read ≡ None
 
 -- what the structs of the reader stand for in the definitions
 abbrev pub head_view : Heading → Head
-head_view h = record { generation = h.generation; deployment = h.deployment.now; snapshot = h.snapshot.now }
+head_view h = record { format = h.format; generation = h.generation; deployment = h.deployment.now; snapshot = h.snapshot.now }
 
 abbrev pub front_view : Begins → Front
 front_view begins.Blank = Blank
@@ -80,11 +81,11 @@ Chooses (Err x) a b = counting a b ≡ NotOne x.0 x.1
 
 -- what was found, as what a journal keeps
 abbrev pub kept_found : Found → Kept
-kept_found f = record { side = f.side; head = record { generation = f.generation; deployment = f.deployment; snapshot = f.snapshot }; payloads = map payload_of f.records.items }
+kept_found f = record { side = f.side; head = record { format = f.format; generation = f.generation; deployment = f.deployment; snapshot = f.snapshot }; payloads = map payload_of f.records.items }
 
 -- what a journal is that doesn't yet stand anywhere
 abbrev pub kept_first : List ℕ → Kept
-kept_first deployment = record { side = A; head = record { generation = 1; deployment = deployment; snapshot = [] }; payloads = [] }
+kept_first deployment = record { side = A; head = record { format = Two; generation = 1; deployment = deployment; snapshot = [] }; payloads = [] }
 
 -- a fault is the one that the bytes have
 abbrev pub IsCause : JournalFault → Result (Option Kept) Wrong → Type 0

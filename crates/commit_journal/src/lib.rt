@@ -4,6 +4,7 @@
 mod batch;
 mod blank;
 mod fault;
+mod format;
 mod gate;
 mod heading;
 mod journal;
@@ -17,6 +18,7 @@ mod start;
 mod writing;
 
 pub use fault::{AppendFault, BeginFault, JournalBad, JournalFault, SideFull};
+pub use format::Format;
 pub use journal::Journal;
 pub use limits::{
     DEPLOYMENT_MARGIN, HEADER_FRAME, PAYLOAD_LIMIT, RECORD_FRAME, SIDE_FRAME, SIDE_LIMIT,

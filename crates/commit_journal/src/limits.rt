@@ -4,7 +4,7 @@
 pub const SIDE_LIMIT: u64 = 268_435_456;
 
 /// The most that a payload has.
-pub const PAYLOAD_LIMIT: usize = 65_536;
+pub const PAYLOAD_LIMIT: usize = 131_072;
 
 /// How far below the most bytes that memory can hold a deployment stays, so that the size of its side is a number.
 pub const DEPLOYMENT_MARGIN: usize = 64;

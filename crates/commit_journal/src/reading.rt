@@ -5,15 +5,13 @@ ghost use Rattle.commit_journal.specs.Reading.{magic_at, header_at, payload_at, 
 ghost use Rattle.commit_journal.specs.Views.{Reads, head_view, front_view, GivesRecords, AtGate, Chooses, Picks};
 
 use crate::fault::JournalBad;
+use crate::format::{Format, MAGIC_ONE, MAGIC_TWO};
 use crate::gate::OPEN_GATE;
 use crate::limits::RECORD_FRAME;
 use crate::record::{Record, RecordsFault};
 use slee_disk::Side;
 use slee_value::{Blob, COUNT_LEN, read_bytes, read_u64};
 use std::alloc::Global;
-
-/// The name of the format.
-pub(crate) const MAGIC: [u8; 6] = *b"SLEEJ1";
 
 /// How a side begins.
 #[derive(Drop)]
@@ -27,16 +25,23 @@ pub(crate) enum Begins<'a> {
 /// What stands before the records of a side.
 #[derive(Clone, Copy)]
 pub(crate) struct Heading<'a> {
+    pub format: Format,
     pub generation: u64,
     pub deployment: &'a [u8],
     pub snapshot: &'a [u8],
 }
 
 #[tactic(auto, unfolding(crate::specs::Reading::magic_at))]
-fn named(bytes: &[u8]) -> Option<&[u8]>
-    ensures { Reads (λ x. x.now) result (magic_at bytes.now) }
+fn named(bytes: &[u8]) -> Option<(Format, &[u8])>
+    ensures { Reads (λ x. (x.0, x.1.now)) result (magic_at bytes.now) }
 {
-    bytes.strip_prefix(&MAGIC)
+    match bytes.strip_prefix(&MAGIC_ONE) {
+        Some(rest) => Some((Format::One, rest)),
+        None => match bytes.strip_prefix(&MAGIC_TWO) {
+            Some(rest) => Some((Format::Two, rest)),
+            None => None,
+        },
+    }
 }
 
 #[tactic(auto, unfolding(crate::specs::Reading::payload_at))]
@@ -55,11 +60,12 @@ fn payload_of(bytes: &[u8]) -> Option<(&[u8], &[u8])>
 fn header_of(bytes: &[u8]) -> Option<(Heading<'_>, &[u8])>
     ensures { Reads (λ x. (head_view x.0, x.1.now)) result (header_at bytes.now) }
 {
-    let rest = named(bytes)?;
+    let (format, rest) = named(bytes)?;
     let (generation, rest) = read_u64(rest).ok()?;
     let (deployment, rest) = read_bytes(rest).ok()?;
     let (snapshot, rest) = read_bytes(rest).ok()?;
     let heading = Heading {
+        format,
         generation,
         deployment,
         snapshot,

@@ -1,6 +1,6 @@
 //! Records that were found on a side.
 
-use crate::Stage;
+use crate::{Format, Stage};
 use slee_disk::Side;
 use slee_value::Blob;
 
@@ -24,6 +24,7 @@ pub(crate) enum RecordsFault {
 pub(crate) struct Found {
     pub stage: Stage,
     pub side: Side,
+    pub format: Format,
     pub generation: u64,
     pub deployment: Blob,
     pub snapshot: Blob,

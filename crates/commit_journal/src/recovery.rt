@@ -5,11 +5,11 @@ ghost use Rattle.commit_journal.specs.Reading.{payloads_of, with_records, first_
 ghost use Rattle.commit_journal.specs.Kept.{StandsFound, AreBlank};
 ghost use Rattle.commit_journal.specs.Views.{head_view, IsCause, IsRecovered, kept_found, payload_of, located, IsFresh};
 
-use crate::Stage;
 use crate::fault::{JournalBad, JournalFault};
 use crate::limits::{DEPLOYMENT_MARGIN, HEADER_FRAME};
 use crate::reading::{Heading, choose, differ, records_of};
 use crate::record::{Found, RecordsFault};
+use crate::{Format, Stage};
 use slee_disk::Side;
 use slee_value::Blob;
 use std::alloc::Global;
@@ -57,6 +57,7 @@ fn keep(
     Ok(Found {
         stage: Stage::Found,
         side,
+        format: heading.format,
         generation: heading.generation,
         deployment: kept,
         snapshot,
@@ -81,7 +82,7 @@ pub(crate) fn recover(
     ensures short { IfOk result (λ f. f.stage ≡ Stage.Found → FitsText f.deployment) }
     ensures sized { IfOk result (λ f. length f.deployment + DEPLOYMENT_MARGIN < 2 ^ 63) }
     ensures blank { IfOk result (λ f. f.stage ≡ Stage.Blank → AreBlank (record { a = a.now; b = b.now })) }
-    ensures first { IfOk result (λ f. f.stage ≡ Stage.Blank → (f.snapshot ≡ []) × (f.records.items ≡ [])) }
+    ensures first { IfOk result (λ f. f.stage ≡ Stage.Blank → (f.snapshot ≡ []) × (f.format ≡ Format.Two) × (f.records.items ≡ [])) }
     ensures cause { IfErr result (λ e. IsCause e (recovered deployment.now (record { a = a.now; b = b.now }))) }
     ensures no_fault { IsErrOf result JournalFault.DiskFault → ⊥ }
     ensures small { IfOk result (λ f. f.end < 2 ^ 63 + HEADER_FRAME) }
@@ -97,6 +98,7 @@ pub(crate) fn recover(
             Ok(Found {
                 stage: Stage::Blank,
                 side: Side::A,
+                format: Format::Two,
                 generation: 1,
                 deployment: kept,
                 snapshot: Blob::new(alloc),

@@ -7,11 +7,11 @@ ghost use Rattle.commit_journal.specs.Reading.{recovered, first_gate};
 ghost use Rattle.commit_journal.specs.Kept.{StandsFound, AreBlank};
 ghost use Rattle.commit_journal.specs.Views.{IsCause, IsDevice, IsRecovered, kept_found, payload_of, located, IsFresh};
 
-use crate::Stage;
 use crate::fault::JournalFault;
 use crate::limits::{DEPLOYMENT_MARGIN, HEADER_FRAME};
 use crate::record::Found;
 use crate::recovery::recover;
+use crate::{Format, Stage};
 use slee_disk::{Disk, Side};
 use std::alloc::Global;
 
@@ -45,7 +45,7 @@ pub(crate) fn find<D: Disk>(
     ensures short { IfOk result (λ f. f.stage ≡ Stage.Found → FitsText f.deployment) }
     ensures sized { IfOk result (λ f. length f.deployment + DEPLOYMENT_MARGIN < 2 ^ 63) }
     ensures blank { IsTrue (D.disk disk.old).told → IfOk result (λ f. f.stage ≡ Stage.Blank → AreBlank (D.disk disk.old).seen) }
-    ensures first { IfOk result (λ f. f.stage ≡ Stage.Blank → (f.snapshot ≡ []) × (f.records.items ≡ [])) }
+    ensures first { IfOk result (λ f. f.stage ≡ Stage.Blank → (f.snapshot ≡ []) × (f.format ≡ Format.Two) × (f.records.items ≡ [])) }
     ensures cause { IsTrue (D.disk disk.old).told → IfErr result (λ e. IsCause e (recovered deployment.now (D.disk disk.old).seen)) }
     ensures looks { Looks (D.disk disk.old) (D.disk disk.new) (IsErrOf result JournalFault.DiskFault) }
     ensures small { IfOk result (λ f. f.end < 2 ^ 63 + HEADER_FRAME) }

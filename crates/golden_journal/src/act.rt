@@ -13,6 +13,7 @@ use std::alloc::Global;
 pub(crate) enum Act {
     Begin,
     Append(Vec<u8>),
+    Batch,
     Flush,
     Renew(Vec<u8>),
 }
@@ -21,10 +22,12 @@ pub(crate) enum Act {
 #[derive(Clone, Copy, Debug, PartialEq, Eq)]
 pub(crate) enum Answer {
     Done,
+    Bytes(u64),
     Renewed(u64),
     Full { length: u64, adding: u64 },
     NoMemory,
     NotBegun,
+    FirstFormat,
 }
 
 /// The calls that words name.
@@ -42,13 +45,14 @@ fn act_of(alloc: Global, word: &str) -> Result<Act, Trouble> {
         Some((name, bytes)) if name == "renew" => Ok(Act::Renew(bytes_of(alloc, bytes)?)),
         Some(_) => Err(Trouble::Row),
         None if word == "begin" => Ok(Act::Begin),
+        None if word == "batch" => Ok(Act::Batch),
         None if word == "flush" => Ok(Act::Flush),
         None => Err(Trouble::Row),
     }
 }
 
 impl Act {
-    /// Makes the call. A payload is only taken by a journal that was begun.
+    /// Makes the call. A payload is only taken by a journal that was begun, and none of the first format is begun.
     pub(crate) fn call<D: Disk>(
         &self,
         journal: &mut Journal<D>,
@@ -63,6 +67,7 @@ impl Act {
             Act::Begin => begin(journal, begun),
             Act::Append(payload) if *begun => Ok(append(journal, payload)),
             Act::Append(_) => Ok(Answer::NotBegun),
+            Act::Batch => Ok(Answer::Bytes(journal.batch())),
             Act::Flush => journal.flush().map(|_| Answer::Done),
             Act::Renew(snapshot) => renew(journal, begun, snapshot),
         }
@@ -75,6 +80,9 @@ fn begin<D: Disk>(journal: &mut Journal<D>, begun: &mut bool) -> Result<Answer, 
     ensures running { OnOk result (journal.new.stage ≢ Stopped) }
     ensures ready { OnOk result (IsTrue begun.new → journal.new.stage ≡ Ready) }
 {
+    if journal.format() != 2 {
+        return Ok(Answer::FirstFormat);
+    }
     match journal.begin() {
         Ok(()) => {
             *begun = true;

@@ -6,6 +6,25 @@ use commit_journal::Journal;
 use slee_disk::Disk;
 use std::alloc::Global;
 
+/// What two sides keep at first.
+#[derive(Debug, Drop)]
+pub(crate) struct Start {
+    snapshot: Vec<u8>,
+    payloads: Vec<Vec<u8>>,
+}
+
+impl Start {
+    /// What a journal was opened with.
+    pub(crate) fn of<D: Disk>(alloc: Global, journal: &Journal<D>) -> Result<Self, Trouble> {
+        let snapshot = Vec::from_slice(alloc, journal.snapshot())?;
+        let mut payloads = Vec::new(alloc);
+        for record in journal.records() {
+            payloads.push(Vec::from_slice(alloc, record.payload.as_slice())?)?;
+        }
+        Ok(Start { snapshot, payloads })
+    }
+}
+
 /// A snapshot and the payloads after it.
 #[derive(Debug, Drop)]
 pub(crate) struct Kept<'a> {
@@ -17,20 +36,27 @@ pub(crate) struct Kept<'a> {
 
 impl<'a> Kept<'a> {
     /// What is acknowledged after calls that all succeeded.
-    pub(crate) fn after(alloc: Global, acts: &'a [Act]) -> Result<Self, Trouble> {
-        let mut kept = Kept::with_batch(alloc, acts)?;
+    pub(crate) fn after(alloc: Global, start: &'a Start, acts: &'a [Act]) -> Result<Self, Trouble> {
+        let mut kept = Kept::with_batch(alloc, start, acts)?;
         let acknowledged = kept.acknowledged;
         kept.payloads.truncate(acknowledged);
         Ok(kept)
     }
 
     /// The same with the batch that isn't written yet.
-    pub(crate) fn with_batch(alloc: Global, acts: &'a [Act]) -> Result<Self, Trouble> {
+    pub(crate) fn with_batch(
+        alloc: Global,
+        start: &'a Start,
+        acts: &'a [Act],
+    ) -> Result<Self, Trouble> {
         let mut kept = Kept {
-            snapshot: &[],
+            snapshot: start.snapshot.as_slice(),
             payloads: Vec::new(alloc),
-            acknowledged: 0,
+            acknowledged: start.payloads.len(),
         };
+        for payload in start.payloads.iter() {
+            kept.payloads.push(payload.as_slice())?;
+        }
         for act in acts {
             kept.add(act)?;
         }
@@ -39,7 +65,7 @@ impl<'a> Kept<'a> {
 
     fn add(&mut self, act: &'a Act) -> Result<(), Trouble> {
         match act {
-            Act::Begin => {}
+            Act::Begin | Act::Batch => {}
             Act::Append(payload) => self.payloads.push(payload.as_slice())?,
             Act::Flush => self.acknowledged = self.payloads.len(),
             Act::Renew(snapshot) => {

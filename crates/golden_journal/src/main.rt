@@ -1,7 +1,7 @@
 //! Plays the rows of standard input over a disk in memory, and prints what each leaves.
 //!
 //! `row DEPLOYMENT LIMIT A B CALL..` opens a journal over two sides and makes some calls; it prints their answers, and
-//! the two sides. `stops DEPLOYMENT CALL..` makes the calls over an empty disk, and tries each stop and each failure: it
+//! the two sides. `stops DEPLOYMENT A B CALL..` makes the calls over two sides, and tries each stop and each failure: it
 //! prints how many calls of the disk the opening and each call made, and how many of the images open to what was
 //! acknowledged before, with the batch or without, or to what the call makes. Bytes are hexadecimal, none are `-`.
 #![tactic(auto)]

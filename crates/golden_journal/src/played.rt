@@ -8,10 +8,18 @@ use commit_journal::{Journal, JournalFault, SIDE_LIMIT};
 use slee_disk::Disk;
 use std::alloc::Global;
 
-/// What was played: why it wasn't opened, or the records that were found and the answers, up to a fault of the disk.
+/// What was found at opening: the format, the snapshot, and how many records.
+#[derive(Drop)]
+pub(crate) struct Opened {
+    pub(crate) format: u8,
+    pub(crate) snapshot: Vec<u8>,
+    pub(crate) records: usize,
+}
+
+/// What was played: why it wasn't opened, or what was found and the answers, up to a fault of the disk.
 #[derive(Drop)]
 pub(crate) struct Played<D: Disk> {
-    pub(crate) opened: Result<usize, JournalFault>,
+    pub(crate) opened: Result<Opened, JournalFault>,
     pub(crate) answers: Vec<Answer>,
     pub(crate) disk: D,
 }
@@ -33,7 +41,11 @@ pub(crate) fn play<D: Disk + Drop>(
             disk,
         }),
         Ok(mut journal) => {
-            let found = journal.records().len();
+            let found = Opened {
+                format: journal.format(),
+                snapshot: Vec::from_slice(alloc, journal.snapshot())?,
+                records: journal.records().len(),
+            };
             let answers = call_all(alloc, &mut journal, acts)?;
             Ok(Played {
                 opened: Ok(found),

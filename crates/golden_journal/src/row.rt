@@ -2,7 +2,7 @@
 ghost use Rattle.std.specs.Prelude.{◌≤◌};
 
 use crate::act::{Act, Answer};
-use crate::played::play;
+use crate::played::{Opened, play};
 use crate::rows::Trouble;
 use commit_journal::{JournalFault, SIDE_LIMIT};
 use slee_disk::{MemoryDisk, Side};
@@ -62,7 +62,7 @@ impl Row {
             Blob::new(alloc),
         )?;
         let played = play(alloc, disk, &self.deployment, self.limit, acts)?;
-        print_opened(rt, played.opened)?;
+        print_opened(rt, &played.opened)?;
         for answer in played.answers.iter() {
             print_answer(rt, *answer)?;
         }
@@ -73,9 +73,15 @@ impl Row {
     }
 }
 
-fn print_opened(rt: &HostRuntime, opened: Result<usize, JournalFault>) -> Result<(), Trouble> {
+fn print_opened(rt: &HostRuntime, opened: &Result<Opened, JournalFault>) -> Result<(), Trouble> {
     match opened {
-        Ok(count) => print!(rt; "records {count}, ")?,
+        Ok(found) => {
+            let snapshot = hex::encode(rt.alloc(), &found.snapshot)?;
+            print!(rt;
+                "format {} snapshot {snapshot} records {}, ",
+                found.format, found.records
+            )?
+        }
         Err(JournalFault::DiskFault) => print!(rt; "disk-fault, ")?,
         Err(JournalFault::BadJournal { side, at, kind }) => {
             print!(rt; "bad-journal {} {at} {}, ", side.word(), kind.word())?
@@ -94,10 +100,12 @@ fn print_opened(rt: &HostRuntime, opened: Result<usize, JournalFault>) -> Result
 fn print_answer(rt: &HostRuntime, answer: Answer) -> Result<(), Trouble> {
     match answer {
         Answer::Done => print!(rt; "done, ")?,
+        Answer::Bytes(count) => print!(rt; "batch {count}, ")?,
         Answer::Renewed(generation) => print!(rt; "generation {generation}, ")?,
         Answer::Full { length, adding } => print!(rt; "full {length} {adding}, ")?,
         Answer::NoMemory => print!(rt; "no-memory, ")?,
         Answer::NotBegun => print!(rt; "not-begun, ")?,
+        Answer::FirstFormat => print!(rt; "first-format, ")?,
     }
     Ok(())
 }

@@ -1,7 +1,8 @@
 //! The lines of the input.
 
+use crate::act;
 use crate::row::{Row, bytes_of};
-use crate::{act, stops};
+use crate::stops::Stops;
 use slee_value::NoMemory;
 use std::alloc::{AllocError, AllocFailed, Global};
 use std::io;
@@ -57,10 +58,18 @@ fn play_line(rt: &HostRuntime, line: &str) -> Result<(), Trouble> {
             let acts = act::acts_of(rt.alloc(), calls)?;
             row.print(rt, &acts)
         }
-        [kind, deployment, calls @ ..] if *kind == "stops" => {
+        [kind, deployment, a, b, calls @ ..] if *kind == "stops" => {
             let acts = act::acts_of(rt.alloc(), calls)?;
             let deployment = bytes_of(rt.alloc(), deployment)?;
-            stops::print(rt, &deployment, &acts)
+            let a = bytes_of(rt.alloc(), a)?;
+            let b = bytes_of(rt.alloc(), b)?;
+            let stops = Stops {
+                deployment: &deployment,
+                a: &a,
+                b: &b,
+                acts: &acts,
+            };
+            stops.print(rt)
         }
         _ => Err(Trouble::Row),
     }

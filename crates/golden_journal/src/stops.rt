@@ -1,8 +1,8 @@
-//! Every stop and every failure of some calls over an empty disk.
+//! Every stop and every failure of some calls over two sides.
 ghost use Rattle.std.specs.Prelude.{◌≤◌, length};
 
 use crate::act::Act;
-use crate::kept::Kept;
+use crate::kept::{Kept, Start};
 use crate::played::play;
 use crate::rows::Trouble;
 use commit_journal::{Journal, SIDE_LIMIT};
@@ -33,46 +33,145 @@ struct Counts {
     right: u64,
 }
 
-/// Prints how many calls of the disk each call made, and how many images of each stop and each failure are right.
-pub(crate) fn print(rt: &HostRuntime, deployment: &[u8], acts: &[Act]) -> Result<(), Trouble> {
-    let alloc = rt.alloc();
-    let ends = ends_of(alloc, deployment, acts)?;
-    print_calls(rt, &ends)?;
-    let whole = played_on(alloc, &[], deployment, acts)?;
-    let stops = count_stops(alloc, &whole, deployment, acts, &ends)?;
-    println!(rt; "stops: {} images, {} right", stops.images, stops.right)?;
-    let failures = count_failures(alloc, whole.calls(), deployment, acts, &ends)?;
-    println!(rt;
-        "failures: {} images, {} right",
-        failures.images, failures.right
-    )?;
-    Ok(())
+/// The sides at first, and the calls.
+#[derive(Drop)]
+pub(crate) struct Stops<'a> {
+    pub(crate) deployment: &'a [u8],
+    pub(crate) a: &'a [u8],
+    pub(crate) b: &'a [u8],
+    pub(crate) acts: &'a [Act],
 }
 
-/// The disk after the calls, some of whose own calls fail.
-fn played_on(
-    alloc: Global,
-    fail: &[u8],
-    deployment: &[u8],
-    acts: &[Act],
-) -> Result<MemoryDisk, Trouble> {
-    let disk = MemoryDisk::new(
-        alloc,
-        Blob::new(alloc),
-        Blob::new(alloc),
-        Blob::from_slice(alloc, fail)?,
-    )?;
-    Ok(play(alloc, disk, deployment, SIDE_LIMIT, acts)?.disk)
-}
-
-/// How many calls of the disk were made once the journal was opened, and after each call.
-fn ends_of(alloc: Global, deployment: &[u8], acts: &[Act]) -> Result<Vec<u64>, Trouble> {
-    let mut ends = Vec::new(alloc);
-    for count in 0..=acts.len() {
-        let disk = played_on(alloc, &[], deployment, &acts[..count])?;
-        ends.push(disk.calls())?;
+impl Stops<'_> {
+    /// Prints how many calls of the disk each call made, and how many images of each stop and each failure are right.
+    pub(crate) fn print(&self, rt: &HostRuntime) -> Result<(), Trouble> {
+        let alloc = rt.alloc();
+        let start = self.start(alloc)?;
+        let ends = self.ends(alloc)?;
+        print_calls(rt, &ends)?;
+        let stops = self.count_stops(alloc, &start, &ends)?;
+        println!(rt; "stops: {} images, {} right", stops.images, stops.right)?;
+        let failures = self.count_failures(alloc, &start, &ends)?;
+        println!(rt;
+            "failures: {} images, {} right",
+            failures.images, failures.right
+        )?;
+        Ok(())
     }
-    Ok(ends)
+
+    fn disk(&self, alloc: Global, fail: &[u8]) -> Result<MemoryDisk, Trouble> {
+        Ok(MemoryDisk::new(
+            alloc,
+            Blob::from_slice(alloc, self.a)?,
+            Blob::from_slice(alloc, self.b)?,
+            Blob::from_slice(alloc, fail)?,
+        )?)
+    }
+
+    /// What the sides keep.
+    fn start(&self, alloc: Global) -> Result<Start, Trouble> {
+        match Journal::open(alloc, self.disk(alloc, &[])?, self.deployment, SIDE_LIMIT) {
+            Ok(journal) => Start::of(alloc, &journal),
+            Err(_) => Err(Trouble::Row),
+        }
+    }
+
+    /// The disk after so many of the calls, some of the disk's own calls failing.
+    fn played(&self, alloc: Global, fail: &[u8], count: usize) -> Result<MemoryDisk, Trouble> {
+        let acts = self.acts.get(..count).unwrap_or(self.acts);
+        Ok(
+            play(
+                alloc,
+                self.disk(alloc, fail)?,
+                self.deployment,
+                SIDE_LIMIT,
+                acts,
+            )?
+            .disk,
+        )
+    }
+
+    /// How many calls of the disk were made once the journal was opened, and after each call.
+    fn ends(&self, alloc: Global) -> Result<Vec<u64>, Trouble> {
+        let mut ends = Vec::new(alloc);
+        for count in 0..=self.acts.len() {
+            ends.push(self.played(alloc, &[], count)?.calls())?;
+        }
+        Ok(ends)
+    }
+
+    /// Each stop of calls that all succeed.
+    fn count_stops<'a>(
+        &'a self,
+        alloc: Global,
+        start: &'a Start,
+        ends: &[u64],
+    ) -> Result<Counts, Trouble> {
+        let mut counts = Counts {
+            images: 0,
+            right: 0,
+        };
+        let disk = self.played(alloc, &[], self.acts.len())?;
+        for before in 0..disk.calls() {
+            let call = before + 1;
+            let allowed = self.allowed_in(alloc, start, ends, call, ends.contains(&call))?;
+            count_images(alloc, &disk, call, self.deployment, &allowed, &mut counts)?;
+        }
+        Ok(counts)
+    }
+
+    /// Each call failing in turn, and a stop after that.
+    fn count_failures<'a>(
+        &'a self,
+        alloc: Global,
+        start: &'a Start,
+        ends: &[u64],
+    ) -> Result<Counts, Trouble> {
+        let mut counts = Counts {
+            images: 0,
+            right: 0,
+        };
+        let mut fail = Vec::new(alloc);
+        let calls = self.played(alloc, &[], self.acts.len())?.calls();
+        for before in 0..calls {
+            let call = before + 1;
+            fail.push(1)?;
+            let disk = self.played(alloc, &fail, self.acts.len())?;
+            let allowed = self.allowed_in(alloc, start, ends, call, false)?;
+            if disk.calls() == call {
+                count_images(alloc, &disk, call, self.deployment, &allowed, &mut counts)?;
+            }
+            if let Some(mark) = fail.last_mut() {
+                *mark = 0;
+            }
+        }
+        Ok(counts)
+    }
+
+    /// What may be kept after a stop in some call of the disk: what was acknowledged before, this and the batch, or what
+    /// the call in which it is makes. Where that one is `done`, only the last.
+    fn allowed_in<'a>(
+        &'a self,
+        alloc: Global,
+        start: &'a Start,
+        ends: &[u64],
+        call: u64,
+        done: bool,
+    ) -> Result<Vec<Kept<'a>>, Trouble> {
+        let count = ends
+            .iter()
+            .filter(|end| **end < call)
+            .count()
+            .min(self.acts.len());
+        let before = &self.acts[..count.saturating_sub(1)];
+        let mut allowed = Vec::new(alloc);
+        allowed.push(Kept::after(alloc, start, &self.acts[..count])?)?;
+        if !done {
+            allowed.push(Kept::after(alloc, start, before)?)?;
+            allowed.push(Kept::with_batch(alloc, start, before)?)?;
+        }
+        Ok(allowed)
+    }
 }
 
 fn print_calls(rt: &HostRuntime, ends: &[u64]) -> Result<(), Trouble> {
@@ -84,78 +183,6 @@ fn print_calls(rt: &HostRuntime, ends: &[u64]) -> Result<(), Trouble> {
     }
     println!(rt; "")?;
     Ok(())
-}
-
-/// Each stop of calls that all succeed.
-fn count_stops(
-    alloc: Global,
-    disk: &MemoryDisk,
-    deployment: &[u8],
-    acts: &[Act],
-    ends: &[u64],
-) -> Result<Counts, Trouble> {
-    let mut counts = Counts {
-        images: 0,
-        right: 0,
-    };
-    for before in 0..disk.calls() {
-        let call = before + 1;
-        let allowed = allowed_in(alloc, acts, ends, call, ends.contains(&call))?;
-        count_images(alloc, disk, call, deployment, &allowed, &mut counts)?;
-    }
-    Ok(counts)
-}
-
-/// Each call failing in turn, and a stop after that.
-fn count_failures(
-    alloc: Global,
-    calls: u64,
-    deployment: &[u8],
-    acts: &[Act],
-    ends: &[u64],
-) -> Result<Counts, Trouble> {
-    let mut counts = Counts {
-        images: 0,
-        right: 0,
-    };
-    let mut fail = Vec::new(alloc);
-    for before in 0..calls {
-        let call = before + 1;
-        fail.push(1)?;
-        let disk = played_on(alloc, &fail, deployment, acts)?;
-        let allowed = allowed_in(alloc, acts, ends, call, false)?;
-        if disk.calls() == call {
-            count_images(alloc, &disk, call, deployment, &allowed, &mut counts)?;
-        }
-        if let Some(mark) = fail.last_mut() {
-            *mark = 0;
-        }
-    }
-    Ok(counts)
-}
-
-/// What may be kept after a stop in some call of the disk: what was acknowledged before, this and the batch, or what the
-/// call in which it is makes. Where that one is `done`, only the last.
-fn allowed_in<'a>(
-    alloc: Global,
-    acts: &'a [Act],
-    ends: &[u64],
-    call: u64,
-    done: bool,
-) -> Result<Vec<Kept<'a>>, Trouble> {
-    let count = ends
-        .iter()
-        .filter(|end| **end < call)
-        .count()
-        .min(acts.len());
-    let before = &acts[..count.saturating_sub(1)];
-    let mut allowed = Vec::new(alloc);
-    allowed.push(Kept::after(alloc, &acts[..count])?)?;
-    if !done {
-        allowed.push(Kept::after(alloc, before)?)?;
-        allowed.push(Kept::with_batch(alloc, before)?)?;
-    }
-    Ok(allowed)
 }
 
 /// Opens what a stop in some call may leave.

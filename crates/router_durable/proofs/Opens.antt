@@ -1,5 +1,5 @@
 -- A core that was just opened.
-use Rattle.std.proofs.Common.{◌≡◌, ⊎_elim, inl, ℕ, ◌+◌, ◌==◌, ◌<◌, ◌≤◌, List, [], ◌∷◌, ◌++◌, length, map, get_or, drop, drop-cons, add-one, Bool, true, false, ◌&&◌, if◌then◌else◌, refl, sym, ◌∙◌, ap, subst, append-nil, Option, Some, None, Result, Ok, Err, IsTrue, arith}
+use Rattle.std.proofs.Common.{◌≡◌, ◌≢◌, ⊎_elim, inl, ℕ, ◌+◌, ◌==◌, ◌<◌, ◌≤◌, List, [], ◌∷◌, ◌++◌, length, map, get_or, drop, drop-cons, add-one, Bool, true, false, ◌&&◌, if◌then◌else◌, refl, sym, ◌∙◌, ap, subst, append-nil, Option, Some, None, Result, Ok, Err, IsTrue, arith}
 use Rattle.std.specs.Str.{bytes_eq}
 use Rattle.std.proofs.lemmas.Bool.{and_parts, eqb-true}
 use Rattle.std.proofs.lemmas.Slice.Eq.{bytes_eq-Decides}
@@ -10,10 +10,13 @@ use Rattle.slee_disk.proofs.Moments.{leaves_then, leaves_what, leaves_call, clea
 use Rattle.commit_journal.specs.declared.stage.Stage.{Stage}
 use Rattle.commit_journal.specs.declared.stage.Stage.TheVariants.{Ready, Found}
 use Rattle.commit_journal.specs.declared.stage.Stage.TheVariants as stages
+use Rattle.commit_journal.specs.declared.format.Format.{Format}
+use Rattle.commit_journal.specs.declared.format.Format.TheVariants.{One, Two}
 use Rattle.commit_journal.specs.declared.record.Record.{Record}
 use Rattle.commit_journal.specs.declared.fault.JournalBad.{JournalBad}
+use Rattle.commit_journal.specs.declared.fault.JournalBad.TheVariants as kinds
 use Rattle.commit_journal.specs.Reading.{Kept, Wrong, Bad, recovered, first_gate}
-use Rattle.commit_journal.specs.Spelling.{Head, spelled, size}
+use Rattle.commit_journal.specs.Spelling.{Head, format_number, spelled, size}
 use Rattle.commit_journal.proofs.Sizes.{length-stands}
 use Rattle.commit_journal.proofs.Sound.{payloads_on_stands}
 use Rattle.commit_journal.specs.Kept.{IsWhole, Keeps, Stands, StandsOrBegun}
@@ -32,7 +35,7 @@ use Rattle.router_rules.specs.Payload.{payload, payloads, choice_in}
 use Rattle.router_rules.specs.History.{after_all, replay, AreEnabled, AreChoices}
 use Rattle.trace_history.specs.declared.choice.Choice.{Choice}
 use Rattle.trace_history.specs.declared.entry.Entry.{Entry}
-use Rattle.router_durable.specs.Recovery.{fits_here, wrong_by, wrong_at, after_if, Misfit, first_wrong, misfit, with_choice, choices_in, if_fits, by_snapshot, past_of, past, state_of, restart, records_of, records, side_of, counting_side}
+use Rattle.router_durable.specs.Recovery.{fits_here, wrong_by, wrong_at, after_if, Misfit, first_wrong, misfit, with_choice, choices_in, if_fits, or_format, by_snapshot, past_of, past, state_of, restart, records_of, records, side_of, counting_side}
 use Rattle.router_durable.specs.Facts.{Origin, origin_of, told_on, base_of, records_since, RestartsIn}
 use Rattle.router_durable.specs.Opening.{first_fault, fault_of, begin_fault_of, IsReplayCause, IsSmall, IsUntouched, IsLeftAlone, StandsFor}
 use Rattle.router_durable.specs.declared.replaying.PayloadFault.{PayloadFault}
@@ -136,19 +139,56 @@ missed records i r bytes s start lt is paid fault wrong before =
     (subst (λ (p : List ℕ). IsWrong fault (wrong_at s p)) paid wrong)
     (sym (ap (misfit s) (record_at records i r lt is)) ∙ before)
 
-cause_by : (side : Side) (fault : ReplayFault) (first : Option Misfit) → IsMisfit fault first → IsReplayCause side first (refusal_of side fault)
-cause_by side (replay_faults.Misfit at kind) first is = (refl, is)
-cause_by side replay_faults.NoMemory first is = tt
+-- what is wrong with a record is told before the format
+or_some : (format : Format) (first : Option Misfit) (m : Misfit) → first ≡ Some m → or_format format first ≡ Some m
+or_some One first m is = ap (or_format One) is
+or_some Two first m is = is
+
+cause_by : (side : Side) (fault : ReplayFault) (format : Format) (first : Option Misfit) → IsMisfit fault first → IsReplayCause side (or_format format first) (refusal_of side fault)
+cause_by side (replay_faults.Misfit at kind) format first is = (refl, or_some format first (record { at = at; kind = kind }) is)
+cause_by side replay_faults.NoMemory format first is = tt
+
+no_bytes : (bytes : List ℕ) → (length bytes == 0) ≡ true → bytes ≡ []
+no_bytes [] none = refl
+no_bytes (b ∷ bs) none = absurd (omega (arith, eqb-true (length (b ∷ bs)) 0 none))
+
+-- what is wrong with records that follow on no snapshot
+first_plain : (format : Format) (snapshot read : List ℕ) (records list : List Record) (s : Parts) → read ≡ snapshot → (length read == 0) ≡ true → list ≡ records → s ≡ initial
+    → first_fault format snapshot records ≡ or_format format (misfit s list)
+first_plain format snapshot read records list s is_read none is_list start =
+    ap (λ (b : List ℕ). first_fault format b records) (sym is_read ∙ no_bytes read none)
+    ∙ ap (λ (rs : List Record). or_format format (misfit initial rs)) (sym is_list)
+    ∙ ap (λ (t : Parts). or_format format (misfit t list)) (sym start)
+
+format_one : (format : Format) (n : ℕ) → n ≡ format_number format → n ≢ 2 → format ≡ One
+format_one One n is other = refl
+format_one Two n is other = absurd (other is)
+
+format_two : (format : Format) (n : ℕ) → n ≡ format_number format → n ≡ 2 → format ≡ Two
+format_two One n is two = absurd (omega (arith, is, two))
+format_two Two n is two = refl
+
+-- a side of the first format, with which nothing else is wrong
+pub old_cause : (side which : Side) (format : Format) (number : ℕ) (snapshot read : List ℕ) (records list : List Record) (s : Parts) → which ≡ side → number ≡ format_number format → number ≢ 2
+    → read ≡ snapshot → (length read == 0) ≡ true → list ≡ records → s ≡ initial → misfit s list ≡ None → IsReplayCause side (first_fault format snapshot records) (faults.BadJournal which 0 kinds.Header)
+old_cause side which format number snapshot read records list s is_side is_number other is_read none is_list start fits = (
+  is_side,
+  first_plain format snapshot read records list s is_read none is_list start ∙ ap (or_format format) fits ∙ ap (λ (f : Format). or_format f None) (format_one format number is_number other),
+)
+
+-- nothing is wrong
+pub none_wrong : (format : Format) (number : ℕ) (snapshot read : List ℕ) (records list : List Record) (s : Parts) → number ≡ format_number format → number ≡ 2
+    → read ≡ snapshot → (length read == 0) ≡ true → list ≡ records → s ≡ initial → misfit s list ≡ None → first_fault format snapshot records ≡ None
+none_wrong format number snapshot read records list s is_number two is_read none is_list start fits =
+    first_plain format snapshot read records list s is_read none is_list start ∙ ap (or_format format) fits ∙ ap (λ (f : Format). or_format f None) (format_two format number is_number two)
 
 -- why records that follow on no snapshot aren't replayed
-pub replay_cause : (side which : Side) (fault : ReplayFault) (e : OpenFault) (snapshot read : List ℕ) (records list : List Record) (s : Parts)
+pub replay_cause : (side which : Side) (format : Format) (fault : ReplayFault) (e : OpenFault) (snapshot read : List ℕ) (records list : List Record) (s : Parts)
     → which ≡ side → e ≡ refusal_of which fault → read ≡ snapshot → (length read == 0) ≡ true → list ≡ records → s ≡ initial
-    → IsMisfit fault (misfit s list) → IsReplayCause side (first_fault snapshot records) e
-replay_cause side which fault e snapshot [] records list s is_side is_fault is_read none is_list start is =
-    subst (λ (x : OpenFault). IsReplayCause side (first_fault snapshot records) x) (sym (is_fault ∙ ap (λ (x : Side). refusal_of x fault) is_side))
-    (subst (λ (b : List ℕ). IsReplayCause side (first_fault b records) (refusal_of side fault)) is_read
-    (cause_by side fault (misfit initial records) (subst (λ (t : Parts). IsMisfit fault (misfit t records)) start (subst (λ (l : List Record). IsMisfit fault (misfit s l)) is_list is))))
-replay_cause side which fault e snapshot (b ∷ bs) records list s is_side is_fault is_read none is_list start is = absurd (omega (arith, eqb-true (length (b ∷ bs)) 0 none))
+    → IsMisfit fault (misfit s list) → IsReplayCause side (first_fault format snapshot records) e
+replay_cause side which format fault e snapshot read records list s is_side is_fault is_read none is_list start is =
+    subst (λ (x : OpenFault). IsReplayCause side (first_fault format snapshot records) x) (sym (is_fault ∙ ap (λ (x : Side). refusal_of x fault) is_side))
+    (subst (λ (x : Option Misfit). IsReplayCause side x (refusal_of side fault)) (sym (first_plain format snapshot read records list s is_read none is_list start)) (cause_by side fault format (misfit s list) is))
 
 -- ---- what the bytes of a disk stand for, by the journal that was opened
 
@@ -156,7 +196,7 @@ payloads_located : (n : ℕ) (ps : List (List ℕ)) → map payload_of (located 
 payloads_located n [] = refl
 payloads_located n (p ∷ ps) = ap (λ (l : List (List ℕ)). p ∷ l) (payloads_located (n + (5 + length p)) ps)
 
-by_first : (kept : Kept) (snapshot : List ℕ) → by_snapshot kept snapshot ≡ if_fits kept.side (first_fault snapshot (located (first_gate kept.head) kept.payloads)) (choices_in kept.payloads)
+by_first : (kept : Kept) (snapshot : List ℕ) → by_snapshot kept snapshot ≡ if_fits kept.side (first_fault kept.head.format snapshot (located (first_gate kept.head) kept.payloads)) (choices_in kept.payloads)
 by_first kept [] = refl
 by_first kept (b ∷ bs) = refl
 
@@ -169,13 +209,13 @@ module _ {D : Type 0} (deployment : List ℕ) (sides : Sides) (v : View D) (open
   none_of first = are ∙ ap (λ (k : Kept). located (first_gate k.head) k.payloads) first
 
   abbrev answer : Kept → List Record → Result (List Choice) Wrong
-  answer k rs = if_fits k.side (first_fault k.head.snapshot rs) (choices_in (map payload_of rs))
+  answer k rs = if_fits k.side (first_fault k.head.format k.head.snapshot rs) (choices_in (map payload_of rs))
 
-  pub past_by : past deployment sides ≡ if_fits v.kept.side (first_fault v.kept.head.snapshot v.records) (choices_in (map payload_of v.records))
+  pub past_by : past deployment sides ≡ if_fits v.kept.side (first_fault v.kept.head.format v.kept.head.snapshot v.records) (choices_in (map payload_of v.records))
   past_by = ⊎_elim
       (λ x. ap past_of x.1 ∙ by_first v.kept v.kept.head.snapshot
-      ∙ ap (λ (rs : List Record). if_fits v.kept.side (first_fault v.kept.head.snapshot rs) (choices_in v.kept.payloads)) (sym are)
-      ∙ ap (λ (ps : List (List ℕ)). if_fits v.kept.side (first_fault v.kept.head.snapshot v.records) (choices_in ps)) (sym payloads_are))
+      ∙ ap (λ (rs : List Record). if_fits v.kept.side (first_fault v.kept.head.format v.kept.head.snapshot rs) (choices_in v.kept.payloads)) (sym are)
+      ∙ ap (λ (ps : List (List ℕ)). if_fits v.kept.side (first_fault v.kept.head.format v.kept.head.snapshot v.records) (choices_in ps)) (sym payloads_are))
       (λ x. ap past_of x.1 ∙ sym (ap (λ (k : Kept). answer k v.records) x.2 ∙ ap (answer (kept_first deployment)) (none_of x.2)))
       opened
 
@@ -185,13 +225,14 @@ module _ {D : Type 0} (deployment : List ℕ) (sides : Sides) (v : View D) (open
       (λ x. ap records_of x.1 ∙ sym (ap (map payload_of) (none_of x.2)))
       opened
 
-  pub state_by : v.kept.head.snapshot ≡ [] → misfit initial v.records ≡ None → restart deployment sides ≡ Ok (after_all initial (choices_in (map payload_of v.records)))
-  state_by plain fits =
+  pub state_by : v.kept.head.snapshot ≡ [] → v.kept.head.format ≡ Two → misfit initial v.records ≡ None → restart deployment sides ≡ Ok (after_all initial (choices_in (map payload_of v.records)))
+  state_by plain format fits =
       ap state_of past_by
-      ∙ ap (λ (snapshot : List ℕ). state_of (if_fits v.kept.side (first_fault snapshot v.records) (choices_in (map payload_of v.records)))) plain
+      ∙ ap (λ (snapshot : List ℕ). state_of (if_fits v.kept.side (first_fault v.kept.head.format snapshot v.records) (choices_in (map payload_of v.records)))) plain
+      ∙ ap (λ (f : Format). state_of (if_fits v.kept.side (or_format f (misfit initial v.records)) (choices_in (map payload_of v.records)))) format
       ∙ ap (λ (x : Option Misfit). state_of (if_fits v.kept.side x (choices_in (map payload_of v.records)))) fits
 
-  pub fault_by : (at : ℕ) (kind : JournalBad) → first_fault v.kept.head.snapshot v.records ≡ Some (record { at = at; kind = kind }) → past deployment sides ≡ Err (Bad v.kept.side at kind)
+  pub fault_by : (at : ℕ) (kind : JournalBad) → first_fault v.kept.head.format v.kept.head.snapshot v.records ≡ Some (record { at = at; kind = kind }) → past deployment sides ≡ Err (Bad v.kept.side at kind)
   fault_by at kind is = past_by ∙ ap (λ (x : Option Misfit). if_fits v.kept.side x (choices_in (map payload_of v.records))) is
 
 -- ---- a crash in the opening
@@ -239,7 +280,7 @@ pub restart_left : (old new : DiskState) (deployment : List ℕ) (s : Parts) →
 restart_left old new deployment s leaves is = leaves_what old new _ _ leaves (λ image same. record { state = ap (restart deployment) same ∙ is; records = ap (records deployment) same })
 
 module _ {D : Type 0} (disk_of : D → DiskState) (old : DiskState) (deployment : List ℕ) (j : View D) (o : Opened disk_of old deployment j)
-    (plain : j.kept.head.snapshot ≡ []) (fits : misfit initial j.records ≡ None) where
+    (plain : j.kept.head.snapshot ≡ []) (fits : misfit initial j.records ≡ None) (format : j.kept.head.format ≡ Two) where
   told_there : IsTrue old.told → IsTrue (disk_of j.disk).told
   told_there told = subst IsTrue (sym o.looks.passes.told) told
 
@@ -252,7 +293,7 @@ module _ {D : Type 0} (disk_of : D → DiskState) (old : DiskState) (deployment 
 
     pub keeps_restarts : IsTrue old.told → (image : Sides) → Keeps j.kept image → RestartsIn first [] 0 image
     keeps_restarts told image keeps =
-        restarts_in first [] [] 0 j.kept image read.valid read.enabled read.spelled o.named plain keeps
+        restarts_in first [] [] 0 j.kept image read.valid read.enabled read.spelled o.named plain format keeps
         (sym (payloads_are deployment old.seen j (o.opened told) (o.records told)) ∙ sym (append-nil (map payload_of j.records))) tt (prefix_refl []) (omega arith)
 
     stands_restarts : IsTrue old.told → (image : Sides) → Stands j.stage j.kept image → RestartsIn first [] 0 image
@@ -297,7 +338,7 @@ module _ {D : Type 0} (disk_of : D → DiskState) (old : DiskState) (deployment 
   -- what is begun has a restart
   pub no_fault : IsTrue old.told → (w : Wrong) → restart deployment old.seen ≡ Err w → ⊥
   no_fault told w is =
-      let never : Ok (after_all initial (choices_in (map payload_of j.records))) ≡ Err w = sym (state_by deployment old.seen j (o.opened told) (o.records told) plain fits) ∙ is in
+      let never : Ok (after_all initial (choices_in (map payload_of j.records))) ≡ Err w = sym (state_by deployment old.seen j (o.opened told) (o.records told) plain format fits) ∙ is in
       cc never
 
   pub opened_sound : (j2 : View D) → Begins disk_of j j2 → IsBegun disk_of j j2
@@ -316,6 +357,7 @@ module _ {D : Type 0} (disk_of : D → DiskState) (old : DiskState) (deployment 
         read = read.spelled;
         named = ap (λ (h : Head). h.deployment) begins.head ∙ o.named;
         plain = ap (λ (h : Head). h.snapshot) begins.head ∙ plain;
+        format = ap (λ (h : Head). h.format) begins.head ∙ format;
         stage = λ up. begun.stage;
         batch = λ up. begun.batch ∙ o.idle;
         whole = λ up. refl;
@@ -356,9 +398,14 @@ looks_alone old new failed looks = record {
 
 -- ---- what the fields of the core are then
 
-pub plain_of : (snapshot : List ℕ) (rs : List Record) → first_fault snapshot rs ≡ None → (snapshot ≡ []) × (misfit initial rs ≡ None)
-plain_of [] rs none = (refl, none)
-plain_of (b ∷ bs) rs none = absurd (cc)
+no_fault_or : (format : Format) (first : Option Misfit) → or_format format first ≡ None → (first ≡ None) × (format ≡ Two)
+no_fault_or One None none = absurd (cc)
+no_fault_or One (Some m) none = absurd (cc)
+no_fault_or Two found none = (none, refl)
+
+pub plain_of : (format : Format) (snapshot : List ℕ) (rs : List Record) → first_fault format snapshot rs ≡ None → (snapshot ≡ []) × (misfit initial rs ≡ None) × (format ≡ Two)
+plain_of format [] rs none = let both = no_fault_or format (misfit initial rs) none in (refl, both.0, both.1)
+plain_of format (b ∷ bs) rs none = absurd (cc)
 
 pub same_origin : {D : Type 0} (disk_of : D → DiskState) (deployment : List ℕ) (rs : List Record) (x y : D) (k l : View D) → k ≡ l → l.records ≡ rs → x ≡ y
     → origin_of deployment k.records (disk_of x) (told_on k.kept.side (disk_of k.disk)) ≡ origin_of deployment rs (disk_of y) (told_on l.kept.side (disk_of l.disk))
@@ -382,11 +429,11 @@ small_of_journal limit deployment (journal_faults.OtherDeployment kept_len place
 small_of_journal limit deployment journal_faults.NoMemory = tt
 
 pub small_of_replay : (limit : ℕ) (deployment : List ℕ) (side : Side) (first : Option Misfit) (fault : OpenFault) → IsReplayCause side first fault → IsSmall limit deployment fault
-small_of_replay limit deployment side first faults.DiskFault cause = tt
-small_of_replay limit deployment side first (faults.BadJournal which at kind) cause = tt
-small_of_replay limit deployment side first (faults.OtherDeployment kept_len place) cause = tt
-small_of_replay limit deployment side first (faults.Full size adding) cause = absurd cause
-small_of_replay limit deployment side first faults.NoMemory cause = tt
+small_of_replay limit deployment side found faults.DiskFault cause = tt
+small_of_replay limit deployment side found (faults.BadJournal which at kind) cause = tt
+small_of_replay limit deployment side found (faults.OtherDeployment kept_len place) cause = tt
+small_of_replay limit deployment side found (faults.Full size adding) cause = absurd cause
+small_of_replay limit deployment side found faults.NoMemory cause = tt
 
 begun_small : (limit : ℕ) (deployment : List ℕ) (stage : Stage) (head : Head) → head.deployment ≡ deployment → head.snapshot ≡ [] → limit < size_begun stage head → limit < 24 + length deployment
 begun_small limit deployment stages.Blank head named plain above = omega (arith, above, ap length named, ap length plain)

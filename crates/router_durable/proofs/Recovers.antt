@@ -12,6 +12,8 @@ use mathlib.Core.List.{IsPrefix}
 use Rattle.slee_disk.specs.Sides.{Sides}
 use Rattle.commit_journal.specs.Reading.{Kept, recovered, first_gate}
 use Rattle.commit_journal.specs.Kept.{Keeps}
+use Rattle.commit_journal.specs.declared.format.Format.{Format}
+use Rattle.commit_journal.specs.declared.format.Format.TheVariants.{Two}
 use Rattle.commit_journal.specs.declared.fault.JournalBad.TheVariants as kinds
 use Rattle.commit_journal.specs.Views.{located}
 use Rattle.router_model.specs.State.{Parts, initial}
@@ -25,7 +27,7 @@ use Rattle.trace_history.specs.Histories.{choices_of}
 use Rattle.trace_history.specs.declared.choice.Choice.{Choice}
 use Rattle.trace_history.specs.declared.choice.Choice.TheVariants as choices
 use Rattle.trace_history.specs.declared.entry.Entry.{Entry}
-use Rattle.router_durable.specs.Recovery.{wrong_by, wrong_at, after_if, first_wrong, misfit, with_choice, choices_in, if_fits, by_snapshot, past_of, past, state_of, records_of}
+use Rattle.router_durable.specs.Recovery.{wrong_by, wrong_at, after_if, first_wrong, misfit, with_choice, choices_in, if_fits, or_format, by_snapshot, past_of, past, state_of, records_of}
 use Rattle.router_durable.specs.Facts.{Origin, base_of, records_since, RestartsIn}
 
 pub choices_again : (s : Parts) (cs : List Choice) → IsWell s → AreChoices cs → AreEnabled s cs → choices_in (payloads s cs) ≡ cs
@@ -48,11 +50,12 @@ no_misfit s (c ∷ cs) n well valid enabled =
     ∙ no_misfit (after s c) cs (n + (5 + length (payload s c))) (after_well s c valid.0 enabled.0 well) valid.1 enabled.1
 
 -- the records of choices that may be made
-pub past_again : (deployment : List ℕ) (sides : Sides) (kept : Kept) (cs : List Choice) → recovered deployment sides ≡ Ok (Some kept) → kept.head.snapshot ≡ [] → kept.payloads ≡ payloads initial cs
+pub past_again : (deployment : List ℕ) (sides : Sides) (kept : Kept) (cs : List Choice) → recovered deployment sides ≡ Ok (Some kept) → kept.head.snapshot ≡ [] → kept.head.format ≡ Two → kept.payloads ≡ payloads initial cs
     → AreChoices cs → AreEnabled initial cs → past deployment sides ≡ Ok cs
-past_again deployment sides kept cs is plain spelled valid enabled =
+past_again deployment sides kept cs is plain format spelled valid enabled =
     ap past_of is
     ∙ ap (by_snapshot kept) plain
+    ∙ ap (λ (f : Format). if_fits kept.side (or_format f (misfit initial (located (first_gate kept.head) kept.payloads))) (choices_in kept.payloads)) format
     ∙ ap (λ (ps : List (List ℕ)). if_fits kept.side (misfit initial (located (first_gate kept.head) ps)) (choices_in ps)) spelled
     ∙ ap (λ x. if_fits kept.side x (choices_in (payloads initial cs))) (no_misfit initial cs (first_gate kept.head) initial_well valid enabled)
     ∙ ap (λ (l : List Choice). Ok l) (choices_again initial cs initial_well valid enabled)
@@ -123,10 +126,10 @@ valid-append (c ∷ cs) k a b = (a.0, valid-append cs k a.1 b)
 -- sides that keep the records found and those of some entries
 pub restarts_in : (o : Origin) (history part : List Entry) (least : ℕ) (kept : Kept) (image : Sides)
     → AreChoices (choices_in o.found) → AreEnabled initial (choices_in o.found) → o.found ≡ payloads initial (choices_in o.found)
-    → kept.head.deployment ≡ o.deployment → kept.head.snapshot ≡ []
+    → kept.head.deployment ≡ o.deployment → kept.head.snapshot ≡ [] → kept.head.format ≡ Two
     → Keeps kept image → kept.payloads ≡ o.found ++ records_since o part → Legal (base_of o) part
     → IsPrefix part history → least ≤ length part → RestartsIn o history least image
-restarts_in o history part least kept image valid found read named plain keeps are legal front some =
+restarts_in o history part least kept image valid found read named plain format keeps are legal front some =
     let first = choices_in o.found in
     let is : recovered o.deployment image ≡ Ok (Some kept) = subst (λ (d : List ℕ). recovered d image ≡ Ok (Some kept)) named keeps in
     let spelled : kept.payloads ≡ payloads initial (first ++ choices_of part) = are ∙ ap (λ (ps : List (List ℕ)). ps ++ records_since o part) read ∙ sym (payloads-append initial first (choices_of part)) in
@@ -136,7 +139,7 @@ restarts_in o history part least kept image valid found read named plain keeps a
       part = part;
       front = front;
       some = some;
-      state = ap state_of (past_again o.deployment image kept (first ++ choices_of part) is plain spelled all_valid enabled) ∙ ap (λ (s : Parts). Ok s) (replayed part);
+      state = ap state_of (past_again o.deployment image kept (first ++ choices_of part) is plain format spelled all_valid enabled) ∙ ap (λ (s : Parts). Ok s) (replayed part);
       records = ap records_of is ∙ are;
     }
   where

@@ -1,5 +1,5 @@
 -- A step keeps what is true of a core.
-use Rattle.std.proofs.Common.{◌≡◌, ◌⊎◌, inl, inr, ⊎_elim, ℕ, ◌+◌, ◌≤◌, nat_le, take, List, [], ◌∷◌, ◌++◌, length, true, false, refl, sym, ◌∙◌, ap, subst, append_assoc, append-nil, length-append, Option, Some, None, Result, Ok, ◌≢◌, IsTrue, arith}
+use Rattle.std.proofs.Common.{◌≡◌, ◌⊎◌, inl, inr, ⊎_elim, ℕ, ◌+◌, ◌≤◌, nat_le, take, List, [], ◌∷◌, ◌++◌, length, true, false, refl, sym, ◌∙◌, ap, subst, append_assoc, append-nil, length-append, Option, Some, None, Ok, ◌≢◌, IsTrue, arith}
 use Rattle.std.proofs.lemmas.Bool.{cases_Bool, leb-true, leb-false}
 use Rattle.std.proofs.lemmas.List.{take_all}
 use mathlib.Core.List.{IsPrefix}
@@ -10,13 +10,13 @@ use Rattle.slee_disk.proofs.Moments.{leaves_what, leaves_start, now_since, clean
 use Rattle.commit_journal.specs.declared.stage.Stage.{Stage}
 use Rattle.commit_journal.specs.declared.stage.Stage.TheVariants.{Ready}
 use Rattle.commit_journal.specs.declared.stage.Stage.TheVariants as stages
-use Rattle.commit_journal.specs.declared.fault.AppendFault.TheVariants as append_faults
 use Rattle.commit_journal.specs.Reading.{Kept, recovered}
 use Rattle.commit_journal.specs.Spelling.{Head, records_size, size}
 use Rattle.commit_journal.specs.Kept.{with_more, Keeps, KeepsOrMore, Stands, StandsOrMore}
-use Rattle.commit_journal.specs.Journal.{View, payloads_on, Refuses}
+use Rattle.commit_journal.specs.Journal.{View, payloads_on, IsCounted, HasRoomFor, IsFullFor as IsTooLong, with_payload}
 use Rattle.commit_journal.proofs.Sizes.{records_size-more}
 use Rattle.router_model.specs.State.{Parts}
+use Rattle.built_in_core.specs.Plans.{PlanView, IsPlanOf}
 use Rattle.router_rules.specs.Step.{after, is_enabled, is_choice, step_entry}
 use Rattle.router_rules.specs.Payload.{payload, payloads}
 use Rattle.router_rules.specs.History.{replay, Legal}
@@ -28,8 +28,7 @@ use Rattle.router_durable.specs.declared.fault.Stop.{Stop}
 use Rattle.router_durable.specs.declared.fault.Stop.TheVariants as stops
 use Rattle.router_durable.specs.Recovery.{records_of}
 use Rattle.router_durable.specs.Facts.{Origin, base_of, records_since, RestartsIn, IsCrashSafe, HasRecords, HasRecordsOrMore, size_after, size_added, HasRoom, IsFullFor}
-use Rattle.router_durable.specs.declared.fault.StepFault.{StepFault}
-use Rattle.router_durable.specs.Core.{Held, is_down, IsStopOf, IsSound, IsHeld, Stepped}
+use Rattle.router_durable.specs.Core.{Held, is_down, IsStopOf, IsSound, IsHeld}
 use Rattle.router_durable.proofs.Recovers.{restarts_in}
 
 module _ {A : Type 0} where
@@ -94,11 +93,11 @@ module _ {D : Type 0} (j : View D) (old : DiskState) (o : Origin) (history : Lis
 
   pub with_step : IsTrue o.told → (image : Sides) → Keeps (with_more j.kept more) image → RestartsIn o grown (length grown) image
   with_step clean image keeps =
-      restarts_in o grown grown (length grown) (with_more j.kept more) image sound.given sound.found sound.read sound.named sound.plain keeps (kept_grown clean) legal_grown (prefix_refl grown) (omega arith)
+      restarts_in o grown grown (length grown) (with_more j.kept more) image sound.given sound.found sound.read sound.named sound.plain sound.format keeps (kept_grown clean) legal_grown (prefix_refl grown) (omega arith)
 
   without_step : IsTrue o.told → (image : Sides) → Keeps j.kept image → RestartsIn o grown acked image
   without_step clean image keeps =
-      restarts_in o grown history acked j.kept image sound.given sound.found sound.read sound.named sound.plain keeps (sound.kept clean refl) sound.legal front sound.within
+      restarts_in o grown history acked j.kept image sound.given sound.found sound.read sound.named sound.plain sound.format keeps (sound.kept clean refl) sound.legal front sound.within
 
   pub either : IsTrue o.told → (image : Sides) → KeepsOrMore j.kept more image → RestartsIn o grown acked image
   either clean image keeps =
@@ -124,22 +123,20 @@ module _ {D : Type 0} (j : View D) (old : DiskState) (o : Origin) (history : Lis
   adds_now = ap (λ (s : Parts). 5 + length (payload s c)) sound.state
 
   -- a payload that doesn't fit
-  pub is_full : (length_of adding : ℕ) → Refuses old.told (size j.kept.head (j.kept.payloads ++ j.batch)) (5 + length (payload parts c)) j.limit (append_faults.Full length_of adding)
-      → IsFullFor o j.limit history c length_of adding
-  is_full length_of adding refused = record {
+  pub is_full : (IsTrue old.told → j.length ≡ size j.kept.head (j.kept.payloads ++ j.batch)) → (length_of adding : ℕ) → IsTooLong j (length (payload parts c)) length_of adding → IsFullFor o j.limit history c length_of adding
+  is_full counted length_of adding refused = record {
     enabled = subst (λ (s : Parts). is_enabled s c ≡ true) sound.state enabled;
     given = valid;
-    stands = λ clean. refused.0 (was_told clean) ∙ size_now clean;
+    stands = λ clean. refused.0 ∙ counted (was_told clean) ∙ size_now clean;
     adds = refused.1 ∙ adds_now;
-    above = omega (arith, refused.1, refused.2);
+    above = refused.2;
   }
 
   -- a payload that fits
-  pub has_room : (IsTrue old.told → size j.kept.head (j.kept.payloads ++ j.batch) + (5 + length (payload parts c)) ≤ j.limit) → HasRoom o j.limit history c
-  has_room fits clean =
-      let within = fits (was_told clean) in
-      let whole : size j.kept.head (j.kept.payloads ++ j.batch) + (5 + length (payload parts c)) ≡ size_after o history + size_added o history c =
-      ap (λ n. n + (5 + length (payload parts c))) (size_now clean) ∙ ap (λ n. size_after o history + n) adds_now in
+  pub has_room : (IsTrue old.told → j.length ≡ size j.kept.head (j.kept.payloads ++ j.batch)) → HasRoomFor j (length (payload parts c)) → HasRoom o j.limit history c
+  has_room counted within clean =
+      let whole : j.length + (5 + length (payload parts c)) ≡ size_after o history + size_added o history c =
+      ap (λ n. n + (5 + length (payload parts c))) (counted (was_told clean) ∙ size_now clean) ∙ ap (λ n. size_after o history + n) adds_now in
       subst (λ n. n ≤ j.limit) whole within
 
   module _ (j2 : View D) (new : DiskState) (head : j2.kept.head ≡ j.kept.head) (told : new.told ≡ old.told) (rising : old.faults ≤ new.faults)
@@ -158,6 +155,7 @@ module _ {D : Type 0} (j : View D) (old : DiskState) (o : Origin) (history : Lis
       read = sound.read;
       named = ap (λ (h : Head). h.deployment) head ∙ sound.named;
       plain = ap (λ (h : Head). h.snapshot) head ∙ sound.plain;
+      format = ap (λ (h : Head). h.format) head ∙ sound.format;
       stage = λ up. stage;
       batch = λ up. batch;
       whole = λ up. refl;
@@ -184,6 +182,7 @@ module _ {D : Type 0} (j : View D) (old : DiskState) (o : Origin) (history : Lis
       read = sound.read;
       named = ap (λ (h : Head). h.deployment) head ∙ sound.named;
       plain = ap (λ (h : Head). h.snapshot) head ∙ sound.plain;
+      format = ap (λ (h : Head). h.format) head ∙ sound.format;
       stage = λ up. absurd cc;
       batch = λ up. absurd cc;
       whole = λ up. absurd cc;
@@ -212,6 +211,7 @@ sound_stopped j disk o history parts acked stop up cause sound = record {
   read = sound.read;
   named = sound.named;
   plain = sound.plain;
+  format = sound.format;
   stage = λ u. sound.stage refl;
   batch = λ u. sound.batch refl;
   whole = λ u. sound.whole refl;
@@ -254,7 +254,7 @@ moved j disk o h g s t m n p q a b c d sound =
 -- what the steps of a core have in common: a payload is added to the journal, which is flushed
 module _ {D : Type 0} (disk_of : D → DiskState) (j j1 j2 : View D) (b : List ℕ) (o : Origin) (history : List Entry) (parts : Parts) (acked : ℕ) (stop : Option Stop)
     (sound : IsSound j (disk_of j.disk) o history parts acked stop) (live : stop ≡ None)
-    (appended : j1 ≡ record { disk = j.disk; stage = j.stage; kept = j.kept; batch = j.batch ++ b ∷ []; records = j.records; limit = j.limit })
+    (appended : j1 ≡ with_payload j b)
     (c : Choice) (valid : is_choice c ≡ true) (enabled : is_enabled parts c ≡ true) (is_payload : b ≡ payload parts c)
     (flushed : Flushed disk_of j1 j2) (entries : List Entry) (is_entries : entries ≡ history ++ step_entry parts c ∷ []) where
   up : IsSound j (disk_of j.disk) o history parts acked None
@@ -264,7 +264,7 @@ module _ {D : Type 0} (disk_of : D → DiskState) (j j1 j2 : View D) (b : List �
   one = ap (λ (l : List (List ℕ)). l ++ b ∷ []) (up.batch refl) ∙ ap (λ (l : List ℕ). l ∷ []) is_payload
 
   abbrev added : Stage → List (List ℕ) → View D
-  added stage batch = record { disk = j.disk; stage = stage; kept = j.kept; batch = batch; records = j.records; limit = j.limit }
+  added stage batch = record { disk = j.disk; stage = stage; kept = j.kept; batch = batch; length = j.length + (5 + length b); records = j.records; limit = j.limit }
 
   same : j1 ≡ added Ready (payload parts c ∷ [])
   same = appended ∙ ap (added j.stage) one ∙ ap (λ (x : Stage). added x (payload parts c ∷ [])) (up.stage refl)
@@ -340,7 +340,7 @@ module _ {D : Type 0} (j : View D) (disk : DiskState) (o : Origin) (history : Li
     sized = λ told. omega (arith, sound.sized told, ap length sound.named, ap length sound.plain);
     rest = sound.rest;
     records = records_now;
-    again = λ told up. restarts_in o history history acked j.kept disk.seen sound.given sound.found sound.read sound.named sound.plain (sound.seen told up) (sound.kept told up) sound.legal (prefix_refl history) sound.within;
+    again = λ told up. restarts_in o history history acked j.kept disk.seen sound.given sound.found sound.read sound.named sound.plain sound.format (sound.seen told up) (sound.kept told up) sound.legal (prefix_refl history) sound.within;
     batch = batch_now;
   }
 
@@ -360,13 +360,12 @@ same_held {D} o j j1 h g s t acked stop p q r =
 module _ {D : Type 0} (disk_of : D → DiskState) (j j1 : View D) (n : ℕ) (o : Origin) (history : List Entry) (parts : Parts) (acked : ℕ) (stop : Option Stop)
     (sound : IsSound j (disk_of j.disk) o history parts acked stop) (live : stop ≡ None)
     (c : Choice) (valid : is_choice c ≡ true) (enabled : is_enabled parts c ≡ true) (is_length : n ≡ length (payload parts c))
-    (length_of adding : ℕ) (refused : Refuses (disk_of j.disk).told (size j.kept.head (j.kept.payloads ++ j.batch)) (5 + n) j.limit (append_faults.Full length_of adding)) where
+    (counted : IsCounted disk_of j) (length_of adding : ℕ) (refused : IsTooLong j n length_of adding) where
   live_sound : IsSound j (disk_of j.disk) o history parts acked None
   live_sound = subst (λ (x : Option Stop). IsSound j (disk_of j.disk) o history parts acked x) live sound
 
   pub full_is : IsFullFor o j.limit history c length_of adding
-  full_is = is_full j (disk_of j.disk) o history parts acked live_sound c valid enabled length_of adding
-      (subst (λ m. Refuses (disk_of j.disk).told (size j.kept.head (j.kept.payloads ++ j.batch)) (5 + m) j.limit (append_faults.Full length_of adding)) is_length refused)
+  full_is = is_full j (disk_of j.disk) o history parts acked live_sound c valid enabled counted length_of adding (subst (λ m. IsTooLong j m length_of adding) is_length refused)
 
   pub full_sound : j1 ≡ j → (h : List Entry) (s : Parts) → h ≡ history → s ≡ parts → IsSound j1 (disk_of j1.disk) o h s acked (Some (stops.Full length_of adding))
   full_sound same h s is_h is_s =
@@ -388,18 +387,10 @@ still_refused {D} disk_of j j1 o history entries acked safe same is told =
 -- a record that isn't refused for its size has room
 pub room_for : {D : Type 0} (disk_of : D → DiskState) (j : View D) (n : ℕ) (o : Origin) (history : List Entry) (parts : Parts) (acked : ℕ) (stop : Option Stop)
     → IsSound j (disk_of j.disk) o history parts acked stop → stop ≡ None → (c : Choice) → is_choice c ≡ true → is_enabled parts c ≡ true → n ≡ length (payload parts c)
-    → (IsTrue (disk_of j.disk).told → size j.kept.head (j.kept.payloads ++ j.batch) + (5 + n) ≤ j.limit) → HasRoom o j.limit history c
-room_for disk_of j n o history parts acked stop sound live c valid enabled is_length fits =
+    → IsCounted disk_of j → HasRoomFor j n → HasRoom o j.limit history c
+room_for disk_of j n o history parts acked stop sound live c valid enabled is_length counted fits =
     has_room j (disk_of j.disk) o history parts acked (subst (λ (x : Option Stop). IsSound j (disk_of j.disk) o history parts acked x) live sound) c valid enabled
-    (λ told. subst (λ m. size j.kept.head (j.kept.payloads ++ j.batch) + (5 + m) ≤ j.limit) is_length (fits told))
-
--- a payload that was added is let go
-pub taken_back : {D : Type 0} (j j1 j2 : View D) (b : List ℕ) → j.batch ≡ [] → j1 ≡ record { disk = j.disk; stage = j.stage; kept = j.kept; batch = j.batch ++ b ∷ []; records = j.records; limit = j.limit }
-    → j2 ≡ record j1 { batch = [] } → j2 ≡ j
-taken_back {D} j j1 j2 b idle appended discarded =
-    discarded
-    ∙ ap (λ (v : View D). record v { batch = [] }) appended
-    ∙ sym (ap (λ (batch : List (List ℕ)). record { disk = j.disk; stage = j.stage; kept = j.kept; batch = batch; records = j.records; limit = j.limit }) idle)
+    counted (subst (HasRoomFor j) is_length fits)
 
 -- the same journal, and the same lists
 pub back_sound : {D : Type 0} (disk_of : D → DiskState) (j j2 : View D) (o : Origin) (h g : List Entry) (s t : Parts) (acked : ℕ) (stop : Option Stop) → j2 ≡ j → h ≡ g → s ≡ t
@@ -412,6 +403,13 @@ back_sound {D} disk_of j j2 o h g s t acked stop same is_h is_s sound =
 pub running : (stage : Stage) → stage ≡ Ready → stage ≢ stages.Stopped
 running stage ready stopped = let never : Ready ≡ stages.Stopped = sym ready ∙ stopped in cc never
 
--- the step of a plan is that of its choice
-pub step_of : {D : Type 0} (old new : Held D) (planned c : Choice) (r : Result ℕ StepFault) → planned ≡ c → Stepped old planned r new → Stepped old c r new
-step_of old new planned c r is step = subst (λ (x : Choice). Stepped old x r new) is step
+-- a plan of a choice is one of its own choice, in the same state
+pub plan_again : (s t : Parts) (c : Choice) (plan : PlanView) → IsPlanOf s c plan → t ≡ s → IsPlanOf t plan.choice plan
+plan_again s t c plan made same = subst (λ (x : Parts). IsPlanOf x plan.choice plan) (sym same) (subst (λ (x : Choice). IsPlanOf s x plan) (sym made.choice) made)
+
+-- the entry of a plan is that of the choice
+pub entry_of : (s t : Parts) (c : Choice) (plan : PlanView) (entry : Entry) → IsPlanOf s c plan → t ≡ s → entry ≡ step_entry t plan.choice → entry ≡ step_entry s c
+entry_of s t c plan entry made same is = is ∙ ap (λ (x : Parts). step_entry x plan.choice) same ∙ ap (step_entry s) made.choice
+
+pub state_of_plan : (s t u : Parts) (c : Choice) (plan : PlanView) → IsPlanOf s c plan → t ≡ s → u ≡ after t plan.choice → u ≡ after s c
+state_of_plan s t u c plan made same is = is ∙ ap (λ (x : Parts). after x plan.choice) same ∙ ap (after s) made.choice

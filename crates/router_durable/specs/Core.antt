@@ -3,6 +3,7 @@ use Rattle.std.specs.Prelude.{◌≡◌, ℕ, ◌+◌, ◌≤◌, List, [], ◌�
 use Rattle.slee_disk.specs.Causes.{Rose}
 use Rattle.slee_disk.specs.Sides.{Sides}
 use Rattle.slee_disk.specs.Disk.{DiskState, is_clean}
+use Rattle.commit_journal.specs.declared.format.Format.TheVariants.{Two}
 use Rattle.commit_journal.specs.declared.limits.TheConstants.{SIDE_FRAME}
 use Rattle.commit_journal.specs.declared.stage.Stage.TheVariants.{Ready}
 use Rattle.commit_journal.specs.Journal.{View, payloads_on}
@@ -56,6 +57,7 @@ pub record IsSound {D : Type 0} (j : View D) (disk : DiskState) (o : Origin) (hi
   pub read : o.found ≡ payloads initial (choices_in o.found)
   pub named : j.kept.head.deployment ≡ o.deployment
   pub plain : j.kept.head.snapshot ≡ []
+  pub format : j.kept.head.format ≡ Two
   pub stage : is_down stop ≡ false → j.stage ≡ Ready
   pub batch : is_down stop ≡ false → j.batch ≡ []
   -- each step is flushed by itself

@@ -3,6 +3,7 @@ use Rattle.std.specs.Prelude.{◌≡◌, ℕ, ◌+◌, ◌<◌, List, [], ◌∷
 use Rattle.slee_disk.specs.declared.side.Side.{Side}
 use Rattle.slee_disk.specs.Sides.{Sides}
 use Rattle.slee_disk.specs.Disk.{DiskState, LeavesOnly}
+use Rattle.commit_journal.specs.declared.format.Format.{Format}
 use Rattle.commit_journal.specs.declared.record.Record.{Record}
 use Rattle.commit_journal.specs.declared.limits.TheConstants.{SIDE_FRAME}
 use Rattle.commit_journal.specs.declared.fault.JournalBad.TheVariants as kinds
@@ -14,7 +15,7 @@ use Rattle.commit_journal.specs.Reading.{Bad, Other, recovered}
 use Rattle.router_model.specs.State.{Parts, initial}
 use Rattle.router_durable.specs.declared.fault.OpenFault.{OpenFault}
 use Rattle.router_durable.specs.declared.fault.OpenFault.TheVariants as faults
-use Rattle.router_durable.specs.Recovery.{Misfit, misfit, past, restart, records}
+use Rattle.router_durable.specs.Recovery.{Misfit, misfit, or_format, past, restart, records}
 
 -- a fault of the journal, as one of opening
 abbrev pub fault_of : JournalFault → OpenFault
@@ -70,10 +71,10 @@ IsUntouchedFor (faults.Full size adding) old new = IsUntouched old new
 IsUntouchedFor faults.NoMemory old new = IsUntouched old new
 IsUntouchedFor faults.DiskFault old new = Unit {0}
 
--- what is wrong with what was found: a snapshot, or the first record that doesn't fit
-abbrev pub first_fault : List ℕ → List Record → Option Misfit
-first_fault [] records = misfit initial records
-first_fault (b ∷ bs) records = Some (record { at = 0; kind = kinds.Snapshot })
+-- what is wrong with what was found: a snapshot, or the first record that doesn't fit, or the first format
+abbrev pub first_fault : Format → List ℕ → List Record → Option Misfit
+first_fault format [] records = or_format format (misfit initial records)
+first_fault format (b ∷ bs) records = Some (record { at = 0; kind = kinds.Snapshot })
 
 -- why what was found isn't replayed
 abbrev pub IsReplayCause : Side → Option Misfit → OpenFault → Type 0

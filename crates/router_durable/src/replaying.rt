@@ -162,16 +162,17 @@ fn replay_all(alloc: Global, records: &[Record], state: &mut State) -> Result<()
     Ok(())
 }
 
-/// Makes the steps of all records that a journal was opened with. It may have no snapshot.
+/// Makes the steps of all records that a journal was opened with. It may have no snapshot. A side of the first format is
+/// only read: nothing may be added to it, and no snapshot can yet be written that would stand for its records.
 pub(crate) fn replay<D: Disk>(
     alloc: Global,
     journal: &Journal<D>,
     state: &mut State,
 ) -> Result<(), OpenFault>
     requires { state.old.parts ≡ initial }
-    ensures fits { OnOk result (first_fault journal.now.kept.head.snapshot journal.now.records ≡ None) }
+    ensures fits { OnOk result (first_fault journal.now.kept.head.format journal.now.kept.head.snapshot journal.now.records ≡ None) }
     ensures state { OnOk result (state.new.parts ≡ after_all initial (choices_in (map payload_of journal.now.records))) }
-    ensures bad { IfErr result (λ e. IsReplayCause journal.now.kept.side (first_fault journal.now.kept.head.snapshot journal.now.records) e) }
+    ensures bad { IfErr result (λ e. IsReplayCause journal.now.kept.side (first_fault journal.now.kept.head.format journal.now.kept.head.snapshot journal.now.records) e) }
 {
     let side = journal.side();
     if !journal.snapshot().is_empty() {
@@ -182,7 +183,15 @@ pub(crate) fn replay<D: Disk>(
         });
     }
     match replay_all(alloc, journal.records(), state) {
-        Ok(()) => Ok(()),
-        Err(fault) => Err(refusal_of(side, fault)),
+        Ok(()) => {}
+        Err(fault) => return Err(refusal_of(side, fault)),
     }
+    if journal.format() != 2 {
+        return Err(OpenFault::BadJournal {
+            side,
+            at: 0,
+            kind: JournalBad::Header,
+        });
+    }
+    Ok(())
 }

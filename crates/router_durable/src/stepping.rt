@@ -10,7 +10,7 @@ ghost use Rattle.std.specs.Prelude.{◌≡◌, ◌≤◌, ◌<◌, ◌+◌, [], 
 use crate::replaying::replay;
 use crate::{OpenFault, StepFault, Stop};
 use built_in_core::{ChoiceRef, Plan, State};
-use commit_journal::{AppendFault, BeginFault, Journal, JournalFault, SideFull};
+use commit_journal::{BeginFault, Journal, JournalFault, SideFull};
 use slee_disk::{Disk, Failed};
 use slee_value::NoMemory;
 use std::alloc::Global;
@@ -126,13 +126,13 @@ impl<'d, D: Disk> Core<'d, D> {
         })
     }
 
-    /// Makes the step of a plan, first in the journal. Whether its record has room is tested before memory is taken for it,
-    /// and all memory is taken before the journal is written.
-    pub fn step(&mut self, plan: Plan) -> Result<u64, StepFault>
+    /// Makes the step of a choice, first in the journal. Whether its record has room is tested before memory is taken, and
+    /// all memory is taken before the journal is written.
+    pub fn make(&mut self, choice: &ChoiceRef<'_>) -> Result<u64, StepFault>
         requires live { self.old.stop ≡ None }
-        requires made { IsPlanOf self.old.state plan.choice plan }
-        requires short { length plan.payload ≤ PAYLOAD_LIMIT }
-        ensures step { Stepped self.old plan.choice result self.new }
+        requires valid { IsTrue (is_choice (choice_of choice.now)) }
+        requires enabled { IsTrue (is_enabled self.old.state (choice_of choice.now)) }
+        ensures step { Stepped self.old (choice_of choice.now) result self.new }
         ensures acked { Acknowledges self.old.acked result self.new.history self.new.acked }
         ensures origin { self.new.origin ≡ self.old.origin }
         ensures limit { self.new.limit ≡ self.old.limit }
@@ -142,16 +142,20 @@ impl<'d, D: Disk> Core<'d, D> {
         ensures any_moment { IsTrue self.old.origin.told → LeavesOnly (D.disk self.old.disk) (D.disk self.new.disk)
             (RestartsIn self.old.origin self.new.history self.old.acked) }
     {
-        match self.journal.append(plan.payload()) {
+        match self.journal.check_room(self.state.payload_len(choice)) {
             Ok(()) => {}
-            Err(AppendFault::Full { length, adding }) => {
+            Err(SideFull { length, adding }) => {
                 self.stop = Some(Stop::Full { length, adding });
                 return Err(StepFault::Full { length, adding });
             }
-            Err(AppendFault::NoMemory) => return Err(StepFault::NoMemory),
         }
+        let Ok(plan) = plan_of(self.alloc, &self.state, choice) else {
+            return Err(StepFault::NoMemory);
+        };
         let Ok(()) = reserve(&mut self.state, &mut self.history, &plan) else {
-            self.journal.discard();
+            return Err(StepFault::NoMemory);
+        };
+        let Ok(()) = self.journal.push(plan.payload()) else {
             return Err(StepFault::NoMemory);
         };
         let flushed = self.journal.flush();
@@ -168,33 +172,6 @@ impl<'d, D: Disk> Core<'d, D> {
                 Err(StepFault::DiskFault)
             }
         }
-    }
-
-    /// Makes the step of a choice. Whether its record has room is tested before memory is taken.
-    #[tactic(auto, using(crate::proofs::Steps::step_of))]
-    pub fn make(&mut self, choice: &ChoiceRef<'_>) -> Result<u64, StepFault>
-        requires live { self.old.stop ≡ None }
-        requires valid { IsTrue (is_choice (choice_of choice.now)) }
-        requires enabled { IsTrue (is_enabled self.old.state (choice_of choice.now)) }
-        ensures step { Stepped self.old (choice_of choice.now) result self.new }
-        ensures acked { Acknowledges self.old.acked result self.new.history self.new.acked }
-        ensures origin { self.new.origin ≡ self.old.origin }
-        ensures limit { self.new.limit ≡ self.old.limit }
-        ensures failed { IsErrOf result StepFault.DiskFault → Rose (D.disk self.old.disk).faults (D.disk self.new.disk).faults }
-        ensures any_moment { IsTrue self.old.origin.told → LeavesOnly (D.disk self.old.disk) (D.disk self.new.disk)
-            (RestartsIn self.old.origin self.new.history self.old.acked) }
-    {
-        match self.journal.check_room(self.state.payload_len(choice)) {
-            Ok(()) => {}
-            Err(SideFull { length, adding }) => {
-                self.stop = Some(Stop::Full { length, adding });
-                return Err(StepFault::Full { length, adding });
-            }
-        }
-        let Ok(plan) = plan_of(self.alloc, &self.state, choice) else {
-            return Err(StepFault::NoMemory);
-        };
-        self.step(plan)
     }
 
     /// Writes what isn't acknowledged yet. There is nothing, since each step is flushed by itself: the batch is empty.

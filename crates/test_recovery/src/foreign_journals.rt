@@ -51,7 +51,10 @@ const BAD_REPLAY: Wanted = Wanted {
     printed: "status 8 bad-journal a 23 replay\n",
 };
 
-const EMPTY: &[u8] = b"\x01SLEEJ1\x01\0\0\0\0\0\0\0\0\0\0\0\0\0\0\0\0";
+// Sides without records, of the first format and of the second.
+const EMPTY_ONE: &[u8] = b"\x01SLEEJ1\x01\0\0\0\0\0\0\0\0\0\0\0\0\0\0\0\0";
+
+const EMPTY: &[u8] = b"\x01SLEEJ2\x01\0\0\0\0\0\0\0\0\0\0\0\0\0\0\0\0";
 
 // Side A, side B, and what opening them comes to.
 const ROWS: &[(&[u8], &[u8], Wanted)] = &[
@@ -83,6 +86,14 @@ const ROWS: &[(&[u8], &[u8], Wanted)] = &[
         BAD_HEADER,
     ),
     (EMPTY, EMPTY, BAD_SIDES),
+    (EMPTY_ONE, EMPTY, BAD_SIDES),
+    // A side of the first format is only read: what is wrong with its records is told before that.
+    (EMPTY_ONE, b"", BAD_HEADER),
+    (
+        b"\x01SLEEJ1\x01\0\0\0\0\0\0\0\0\0\0\0\0\0\0\0\x01\x0d\0\0\0\x01\x08\0\0\0start c1\0",
+        b"",
+        BAD_HEADER,
+    ),
     (
         b"\x01SLEEJ1\x01\0\0\0\0\0\0\0\x02\0\0\0ab\0\0\0\0\x01\x64\0\0\0",
         b"",
@@ -115,6 +126,31 @@ const ROWS: &[(&[u8], &[u8], Wanted)] = &[
     ),
     (
         b"\x01SLEEJ1\x01\0\0\0\0\0\0\0\0\0\0\0\0\0\0\0\x01\x09\0\0\0\x04\x01\0\0\0\0\0\0\0\0",
+        b"",
+        BAD_REPLAY,
+    ),
+    (
+        b"\x01SLEEJ2\x01\0\0\0\0\0\0\0\x02\0\0\0ab\0\0\0\0\0",
+        b"",
+        OTHER_DEPLOYMENT,
+    ),
+    (
+        b"\x01SLEEJ2\x01\0\0\0\0\0\0\0\0\0\0\0\x01\0\0\0\0\0",
+        b"",
+        BAD_SNAPSHOT,
+    ),
+    (
+        b"\x01SLEEJ2\x01\0\0\0\0\0\0\0\0\0\0\0\0\0\0\0\x01\xff\xff\xff\xff\0",
+        b"",
+        BAD_LENGTH,
+    ),
+    (
+        b"\x01SLEEJ2\x01\0\0\0\0\0\0\0\0\0\0\0\0\0\0\0\x01\x01\0\0\0\x09\0",
+        b"",
+        BAD_RECORD,
+    ),
+    (
+        b"\x01SLEEJ2\x01\0\0\0\0\0\0\0\0\0\0\0\0\0\0\0\x01\x09\0\0\0\x04\x01\0\0\0\0\0\0\0\0",
         b"",
         BAD_REPLAY,
     ),
@@ -169,7 +205,7 @@ const BLANK: &[(&[u8], &[u8])] = &[
     (b"", b""),
     (b"\x01", b""),
     (b"\0", b"\x01"),
-    (b"\0SLEEJ1\xff\xff", b"\0\x01\x02\x03"),
+    (b"\0SLEEJ1\xff\xff", b"\0SLEEJ2\x01\x02\x03"),
     (EMPTY, b"\0what another program left"),
     (b"\0SLEE", EMPTY),
 ];

@@ -103,7 +103,7 @@ const ONE_START: &[Step] = &[(
 
 // A header of 24 bytes without a deployment, a record of 5 and 13 bytes, and the closed gate.
 const ONE_START_KEPT: &[u8] =
-    b"\x01SLEEJ1\x01\0\0\0\0\0\0\0\0\0\0\0\0\0\0\0\x01\x0d\0\0\0\x01\x08\0\0\0start c1\0";
+    b"\x01SLEEJ2\x01\0\0\0\0\0\0\0\0\0\0\0\0\0\0\0\x01\x0d\0\0\0\x01\x08\0\0\0start c1\0";
 
 #[test]
 fn bytes_of_a_journal_with_one_record(rt: HostRuntime) -> Result<(), Fail> {

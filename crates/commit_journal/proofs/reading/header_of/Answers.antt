@@ -12,7 +12,7 @@ part_is view (Err e) read x is gives = absurd cc
 
 pub returns-in-len1-up : goal.returns-in-len1-up
 returns-in-len1-up c =
-    header_found c.args.bytes.now c.in_ok-rest.rest.now _ c.in_ok-generation.rest.now c.in_ok-deployment.rest.now c.in_ok-snapshot.rest.now c.in_ok-rest.ensures
+    header_found c.args.bytes.now c.in_ok-format.rest.now _ c.in_ok-generation.rest.now c.in_ok-deployment.rest.now c.in_ok-snapshot.rest.now c.in_ok-format.ensures
     (part_is _ c.read_u64.result _ _ c.in_ok-generation.ensures.value c.read_u64.ensures.part)
     (part_is _ c.read_bytes.result _ _ c.in_ok-deployment.ensures.value c.read_bytes.ensures.part)
     (part_is _ c.read_bytes-2.result _ _ c.in_ok-snapshot.ensures.value c.read_bytes-2.ensures.part) c.in-len1-up.len_at_least
