@@ -1,0 +1,4 @@
+pub mod SelectLemmas
+pub mod HandlerLemmas
+pub mod NextLemmas
+pub mod LeastLemmas

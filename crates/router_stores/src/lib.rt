@@ -1,0 +1,16 @@
+//! The state of a service container in its stores: one change of one list at a time, in room that was made before.
+#![tactic(auto)]
+
+mod changing;
+mod laws;
+mod ready;
+mod services;
+mod stores;
+mod table_specs;
+mod tables;
+mod widths;
+
+pub use changing::change_each;
+pub use laws::fitting_changes_can_be_made;
+pub use ready::Ready;
+pub use stores::Stores;

@@ -1,0 +1,25 @@
+//! For how many rows room is made before changes.
+ghost use Rattle.std.specs.Prelude.{◌≡◌, IfSome};
+ghost use Rattle.router_stores.specs.Views.{width, widths};
+
+use router_state::Change;
+
+fn width(change: &Change) -> u64
+    ensures { result ≡ width change.now }
+{
+    match change {
+        Change::MaskOnAttach { names, .. } => names.len() as u64,
+        _ => 1,
+    }
+}
+
+/// The sum of the changes' widths, if it is a number of 64 bits.
+pub fn rows_for(changes: &[Change]) -> Option<u64>
+    ensures { IfSome result (λ n. n ≡ widths changes.now) }
+{
+    let mut all: u64 = 0;
+    'each: for change in changes {
+        all = all.checked_add(width(change))?;
+    }
+    Some(all)
+}
