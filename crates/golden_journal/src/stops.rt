@@ -49,9 +49,9 @@ impl Stops<'_> {
         let start = self.start(alloc)?;
         let ends = self.ends(alloc)?;
         print_calls(rt, &ends)?;
-        let stops = self.count_stops(alloc, &start, &ends)?;
+        let stops = (&*self).count_stops(alloc, &start, &ends)?;
         println!(rt; "stops: {} images, {} right", stops.images, stops.right)?;
-        let failures = self.count_failures(alloc, &start, &ends)?;
+        let failures = (&*self).count_failures(alloc, &start, &ends)?;
         println!(rt;
             "failures: {} images, {} right",
             failures.images, failures.right
