@@ -7,7 +7,7 @@ use Rattle.slee_value.specs.declared.convergence.ConvName.{ConvName}
 use Rattle.slee_value.specs.declared.value.Value.{Value}
 use Rattle.slee_value.specs.declared.value.Value.TheVariants as values
 use Rattle.script_meaning.specs.Same.{same_name}
-use Rattle.deploy_model.specs.Deployed.{DeployedService, Handling, CustomChoice, block_event, service_at}
+use Rattle.deploy_model.specs.Deployed.{Deployed, DeployedService, Handling, CustomChoice, block_event, service_at}
 use Rattle.deploy_model.specs.declared.choice.SelectRule.{SelectRule}
 use Rattle.deploy_model.specs.declared.choice.SelectRule.TheVariants as rules
 use Rattle.deploy_model.specs.declared.choice.Variable.{Variable}
@@ -41,42 +41,57 @@ text_of (values.Bool b) = []
 text_of (values.Activity a) = []
 text_of (values.Timer t) = []
 
+-- What a selection goes by: an activity, and an event with its number, name and fields.
+pub record Candidate : Type 0 where
+  pub activity : ℕ
+  pub event : ℕ
+  pub name : List ℕ
+  pub fields : List (List ℕ × Value)
+
 -- the text of an event's field, and the empty text where there is none
-abbrev pub text_field : Event → List ℕ → List ℕ
-text_field v name = option_map_or text_of (value_of v.fields name) []
+abbrev pub text_field : List (List ℕ × Value) → List ℕ → List ℕ
+text_field fields name = option_map_or text_of (value_of fields name) []
 
 -- the name of no variable
 abbrev pub no_variable : ConvName
 no_variable = record { activity = None; address = None; event_type = None; event = None; custom = None }
 
 -- the name with one more variable
-abbrev pub with_variable : ℕ → Event → List ℕ → ConvName → Variable → ConvName
-with_variable a v custom name variables.Activity = record name { activity = Some (record { 0 = a }) }
-with_variable a v custom name variables.Address = record name { address = Some (text_field v (codes "addr")) }
-with_variable a v custom name variables.EventType = record name { event_type = Some v.name }
-with_variable a v custom name variables.Event = record name { event = Some v.id }
-with_variable a v custom name variables.Custom = record name { custom = Some custom }
+abbrev pub with_variable : Candidate → List ℕ → ConvName → Variable → ConvName
+with_variable x custom name variables.Activity = record name { activity = Some (record { 0 = x.activity }) }
+with_variable x custom name variables.Address = record name { address = Some (text_field x.fields (codes "addr")) }
+with_variable x custom name variables.EventType = record name { event_type = Some x.name }
+with_variable x custom name variables.Event = record name { event = Some (record { 0 = x.event }) }
+with_variable x custom name variables.Custom = record name { custom = Some custom }
 
 -- the name of the variables that the root's block declares for the event
-abbrev pub name_by_variables : Handling → ℕ → Event → List ℕ → ConvName
-name_by_variables handling a v custom = fold (with_variable a v custom) no_variable (unwrap_or handling.initial [])
+abbrev pub name_by_variables : Handling → Candidate → List ℕ → ConvName
+name_by_variables handling x custom = fold (with_variable x custom) no_variable (unwrap_or handling.initial [])
 
 -- the text that a custom choice gives, none where the event isn't initial by it
-abbrev pub custom_text : CustomChoice → Event → Option (List ℕ)
-custom_text custom v = custom_name custom.rule (text_field v custom.field)
+abbrev pub custom_text : CustomChoice → Candidate → Option (List ℕ)
+custom_text custom x = custom_name custom.rule (text_field x.fields custom.field)
 
--- the name, with the text of a custom choice where there is one
-abbrev pub name_by_choice : Handling → ℕ → Event → Option CustomChoice → Option ConvName
-name_by_choice handling a v None = Some (name_by_variables handling a v [])
-name_by_choice handling a v (Some custom) = option_map (name_by_variables handling a v) (custom_text custom v)
+-- the text of a custom choice, and the empty text where a block has none
+abbrev pub text_by_choice : Option CustomChoice → Candidate → Option (List ℕ)
+text_by_choice None x = Some []
+text_by_choice (Some custom) x = custom_text custom x
 
--- the convergence name of an event on an activity for the roots of a block, none where the event isn't initial for them
-abbrev pub name_for_block : State → ℕ → ℕ → Event → Option ConvName
-name_for_block s block a v = option_and_then (λ handling. name_by_choice handling a v handling.custom) (block_event s.deployment block v.name)
+-- the convergence name for roots that handle the event so, none where the event isn't initial for them
+abbrev pub name_by_handling : Handling → Candidate → Option ConvName
+name_by_handling handling x = option_map (name_by_variables handling x) (text_by_choice handling.custom x)
+
+-- how the block of a service's root handles the event
+abbrev pub root_handling : Deployed → ℕ → List ℕ → Option Handling
+root_handling d service event = option_and_then (λ (row : DeployedService). block_event d row.root event) (service_at d service)
+
+-- the convergence name for a service of a deployment
+abbrev pub selected : Deployed → ℕ → Candidate → Option ConvName
+selected d service x = option_and_then (λ handling. name_by_handling handling x) (root_handling d service x.name)
 
 -- the convergence name of an event on an activity for a service
 abbrev pub selection : State → ℕ → ℕ → Event → Option ConvName
-selection s service a v = option_and_then (λ (row : DeployedService). name_for_block s row.root a v) (service_at s.deployment service)
+selection s service a v = selected s.deployment service (record { activity = a; event = v.id.0; name = v.name; fields = v.fields })
 
 -- the convergence name is this one, of a root of the service
 abbrev pub is_root_named : State → ℕ → ConvName → RootName → Bool

@@ -1,0 +1,4 @@
+mod Finding
+mod Picking
+mod Handling
+mod DigitLemmas

@@ -1,0 +1,4 @@
+pub mod Customs
+pub mod Selections
+pub mod Candidates
+pub mod Digits
