@@ -1,0 +1,15 @@
+pub mod ListLemmas
+pub mod ChangeLemmas
+pub mod LinkLemmas
+pub mod NextLemmas
+pub mod FitLemmas
+pub mod EntityLemmas
+pub mod FieldLemmas
+pub mod RisingLemmas
+pub mod ActivityLemmas
+pub mod ParentLemmas
+pub mod PairLemmas
+pub mod QueueLemmas
+pub mod ChildLemmas
+pub mod TreeLemmas
+pub mod TouchLemmas

@@ -1,0 +1,121 @@
+-- Parents of entities after changes.
+use Rattle.std.proofs.Common.{◌≡◌, ℕ, zero, suc, ◌+◌, ◌-◌, ◌<◌, ◌==◌, Bool, true, false, List, [], ◌∷◌, ◌++◌, refl, arith, inl, inr, ◌∙◌, ap}
+use Rattle.std.specs.Prelude.{not, ◌&&◌, filter, find, map, is_none, option_map, if◌then◌else◌, Option, Some, None}
+use Rattle.std.specs.List.{fold}
+use Rattle.std.specs.Option.{option_or, option_map_or}
+use Rattle.std.proofs.lemmas.Bool.{cases_Bool}
+use Rattle.std.proofs.lemmas.Bool.Decides.{nat_tests}
+use Rattle.std.proofs.lemmas.List.Folds.{find-append}
+use Rattle.router_state.specs.State.{State}
+use Rattle.router_state.specs.Trees.{parent_in, parent_of, entity_at, has_priority, with_entity, with_priority, without_entity}
+use Rattle.router_state.specs.Changes.{after_change, after_changes}
+use Rattle.router_state.specs.declared.change.Change.{Change}
+use Rattle.router_state.specs.declared.change.Change.TheVariants as changes
+use Rattle.router_state.specs.declared.rows.Entity.{Entity}
+use Rattle.router_state.specs.declared.rows.Stem.{Stem}
+use Rattle.router_state.specs.declared.rows.Stem.TheVariants as stems
+use Rattle.router_draft.proofs.ListLemmas.{find_kept, find_lost}
+use Rattle.router_draft.proofs.ChangeLemmas.{through}
+use Rattle.router_draft.specs.After.{parent_after, created_block}
+use Rattle.router_draft.specs.Drafts.{top}
+
+abbrev pub parent_at : List Entity → ℕ → Option ℕ
+parent_at rows e = option_map (λ row. parent_of row) (entity_at rows e)
+
+abbrev pub seen_parent : ℕ → State → ℕ × Option ℕ
+seen_parent e s = (e + 1 - s.next_entity, parent_at s.entities e)
+
+made : (e n block : ℕ) (stem : Stem) (priority : _) (rows : List Entity) → parent_at (with_entity rows n block stem priority) e ≡ (if ((e + 1 - n) == 1) && is_none (parent_at rows e) then Some (parent_in stem) else parent_at rows e)
+made e n block stem priority rows =
+    let new : Entity = record { number = record { 0 = n }; block = block; stem = stem; priority = priority } in
+    ap (option_map (λ (row : Entity). parent_of row)) (find-append (λ (row : Entity). row.number.0 == e) rows (new ∷ [])) ∙ by (entity_at rows e)
+  where
+    by : (o : Option Entity) → option_map (λ (row : Entity). parent_of row) (option_or o (find (λ (row : Entity). row.number.0 == e) (record { number = record { 0 = n }; block = block; stem = stem; priority = priority } ∷ [])))
+        ≡ (if ((e + 1 - n) == 1) && is_none (option_map (λ (row : Entity). parent_of row) o) then Some (parent_in stem) else option_map (λ (row : Entity). parent_of row) o)
+    by (Some x) = elim (cases_Bool ((e + 1 - n) == 1)) [
+      | inl one ↦ rw one refl
+      | inr other ↦ rw other refl
+    ]
+    by None = elim (cases_Bool (n == e)) [
+      | inl same ↦ let one : ((e + 1 - n) == 1) ≡ true = grind (arith, nat_tests) in rw (same, one) refl
+      | inr other ↦ let one : ((e + 1 - n) == 1) ≡ false = grind (arith, nat_tests) in rw (other, one) refl
+    ]
+
+created : (e block : ℕ) (stem : Stem) (priority : _) (s : State)
+    → (e + 1 - (s.next_entity + 1), parent_at (with_entity s.entities s.next_entity block stem priority) e) ≡ created_block (seen_parent e s) (parent_in stem)
+created e block stem priority s =
+    let gap : e + 1 - (s.next_entity + 1) ≡ (e + 1 - s.next_entity) - 1 = omega arith in
+    rw (gap, made e s.next_entity block stem priority s.entities) refl
+
+removed_seen : (e e' : ℕ) (rows : List Entity) → parent_at (without_entity rows e') e ≡ (if e' == e then None else parent_at rows e)
+removed_seen e e' rows = elim (cases_Bool (e' == e)) [
+  | inl same ↦ ap (option_map (λ (row : Entity). parent_of row)) (find_lost (λ (row : Entity). row.number.0 == e) (λ row. not (row.number.0 == e')) (λ (row : Entity) mine. lost row.number.0 e e' same mine) rows) ∙ (rw same refl)
+  | inr other ↦ ap (option_map (λ (row : Entity). parent_of row)) (find_kept (λ (row : Entity). row.number.0 == e) (λ row. not (row.number.0 == e')) (λ (row : Entity) mine. kept row.number.0 e e' other mine) rows) ∙ (rw other refl)
+]
+  where
+    lost : (n e e' : ℕ) → (e' == e) ≡ true → (n == e) ≡ true → not (n == e') ≡ false
+    lost n e e' same mine = grind (arith, nat_tests)
+
+    kept : (n e e' : ℕ) → (e' == e) ≡ false → (n == e) ≡ true → not (n == e') ≡ true
+    kept n e e' other mine = grind (arith, nat_tests)
+
+priority_seen : (e e' : ℕ) (priority : _) (rows : List Entity) → parent_at (with_priority rows e' priority) e ≡ parent_at rows e
+priority_seen e e' priority [] = refl
+priority_seen e e' priority (x ∷ xs) = elim (cases_Bool (x.number.0 == e')) [
+  | inl own ↦ (elim (cases_Bool (x.number.0 == e)) [
+    | inl mine ↦ rw (own, mine) refl
+    | inr other ↦ rw (own, other) (priority_seen e e' priority xs)
+  ])
+  | inr foreign ↦ (elim (cases_Bool (x.number.0 == e)) [
+    | inl mine ↦ rw (foreign, mine) refl
+    | inr other ↦ rw (foreign, other) (priority_seen e e' priority xs)
+  ])
+]
+
+parent_is : (e : ℕ) (c : Change) (s : State) → seen_parent e (after_change c s) ≡ parent_after c e (seen_parent e s)
+parent_is e (changes.CreateRoot block service priority) s = created e block (stems.Root service) priority s
+parent_is e (changes.CreateChild parent relation block priority) s = created e block (stems.Child parent relation) priority s
+parent_is e (changes.Remove e') s = elim (cases_Bool (e'.0 == e)) [
+  | inl same ↦ rw (removed_seen e e'.0 s.entities, same) refl
+  | inr other ↦ rw (removed_seen e e'.0 s.entities, other) refl
+]
+parent_is e (changes.SetPriority e' priority) s = ap (λ b. (e + 1 - s.next_entity, b)) (priority_seen e e'.0 priority s.entities)
+parent_is e _ s = refl
+
+pub parent_laid : (cs : List Change) (s : State) (e : ℕ) → parent_at (after_changes cs s).entities e ≡ (fold (λ seen c. parent_after c e seen) (e + 1 - s.next_entity, parent_at s.entities e) cs).1
+parent_laid cs s e = ap (λ (x : ℕ × Option ℕ). x.1) (through (seen_parent e) (λ seen c. parent_after c e seen) (parent_is e) cs s)
+
+-- steps up
+
+top_by : (n m : ℕ) (rows : List Entity) (o : Option Entity) → entity_at rows m ≡ o → top (suc n) rows m ≡ option_map_or (λ (row : Entity). if parent_of row == 0 then m else top n rows (parent_of row)) o m
+top_by n m rows o is = ap (λ found. option_map_or (λ (row : Entity). if parent_of row == 0 then m else top n rows (parent_of row)) found m) is
+
+one_less : (n k : ℕ) → k < n → n - k ≡ suc (n - (k + 1))
+one_less n k less = omega arith
+
+pub top_none : (n k m : ℕ) (rows : List Entity) → k < n → option_map (λ (row : Entity). parent_of row) (entity_at rows m) ≡ None → top (n - k) rows m ≡ m
+top_none n k m rows less is = ap (λ j. top j rows m) (one_less n k less) ∙ by (entity_at rows m) refl is
+  where
+    by : (o : Option Entity) → entity_at rows m ≡ o → option_map (λ (row : Entity). parent_of row) o ≡ None → top (suc (n - (k + 1))) rows m ≡ m
+    by None at none = top_by (n - (k + 1)) m rows None at
+    by (Some row) at none = absurd (cc)
+
+pub top_root : (n k m p : ℕ) (rows : List Entity) → k < n → option_map (λ (row : Entity). parent_of row) (entity_at rows m) ≡ Some p → p ≡ 0 → top (n - k) rows m ≡ m
+top_root n k m p rows less is zero_is = ap (λ j. top j rows m) (one_less n k less) ∙ by (entity_at rows m) refl is
+  where
+    by : (o : Option Entity) → entity_at rows m ≡ o → option_map (λ (row : Entity). parent_of row) o ≡ Some p → top (suc (n - (k + 1))) rows m ≡ m
+    by None at some = absurd (cc)
+    by (Some row) at some =
+        let parent : parent_of row ≡ p = cc in
+        let bare : (parent_of row == 0) ≡ true = grind (arith, nat_tests, parent, zero_is) in
+        top_by (n - (k + 1)) m rows (Some row) at ∙ (rw bare refl)
+
+pub top_child : (n k m p : ℕ) (rows : List Entity) → k < n → option_map (λ (row : Entity). parent_of row) (entity_at rows m) ≡ Some p → (p == 0) ≡ false → top (n - k) rows m ≡ top (n - (k + 1)) rows p
+top_child n k m p rows less is some = ap (λ j. top j rows m) (one_less n k less) ∙ by (entity_at rows m) refl is
+  where
+    by : (o : Option Entity) → entity_at rows m ≡ o → option_map (λ (row : Entity). parent_of row) o ≡ Some p → top (suc (n - (k + 1))) rows m ≡ top (n - (k + 1)) rows p
+    by None at found = absurd (cc)
+    by (Some row) at found =
+        let parent : parent_of row ≡ p = cc in
+        let child : (parent_of row == 0) ≡ false = ap (λ x. x == 0) parent ∙ some in
+        top_by (n - (k + 1)) m rows (Some row) at ∙ (rw child (ap (λ x. top (n - (k + 1)) rows x) parent))
