@@ -19,7 +19,7 @@ use Rattle.router_state.specs.Changes.{after_change, after_changes}
 use Rattle.router_state.specs.declared.change.Change.{Change}
 use Rattle.router_state.specs.declared.change.Change.TheVariants as changes
 use Rattle.router_state.specs.declared.rows.Field.{Field}
-use Rattle.router_draft.proofs.ListLemmas.{find_kept, find_lost, find_put_own, find_put_other}
+use Rattle.router_laws.proofs.ListLemmas.{find_kept, find_lost, find_put_own, find_put_other}
 use Rattle.router_draft.proofs.ChangeLemmas.{through}
 use Rattle.router_draft.specs.After.{field_after}
 
@@ -42,10 +42,10 @@ alike Less same = cc
 alike Equal same = refl
 alike Greater same = cc
 
-texts_apart : (x y : List ℕ) → bytes_eq x y ≡ false → is_below x y ≡ not (is_below y x)
+pub texts_apart : (x y : List ℕ) → bytes_eq x y ≡ false → is_below x y ≡ not (is_below y x)
 texts_apart x y other = apart (byte_order x y) (is_eq-slice_cmp x y ∙ other) ∙ ap not (sym (behind x y))
 
-texts_alike : (x y : List ℕ) → bytes_eq x y ≡ true → is_below x y ≡ false
+pub texts_alike : (x y : List ℕ) → bytes_eq x y ≡ true → is_below x y ≡ false
 texts_alike x y same = alike (byte_order x y) (is_eq-slice_cmp x y ∙ same)
 
 -- a key that is the same is that key

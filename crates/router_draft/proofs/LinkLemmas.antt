@@ -11,7 +11,7 @@ use Rattle.router_state.specs.Changes.{after_change, after_changes}
 use Rattle.router_state.specs.declared.change.Change.{Change}
 use Rattle.router_state.specs.declared.change.Change.TheVariants as changes
 use Rattle.router_state.specs.declared.rows.Link.{Link}
-use Rattle.router_draft.proofs.ListLemmas.{any_kept, any_lost, any_put_own, any_put_other}
+use Rattle.router_laws.proofs.ListLemmas.{any_kept, any_lost, any_put_own, any_put_other}
 use Rattle.router_draft.proofs.ChangeLemmas.{through}
 use Rattle.router_draft.specs.After.{linked_after}
 

@@ -1,17 +1,21 @@
--- Numbers that come next after changes.
-use Rattle.std.proofs.Common.{◌≡◌, ℕ, ◌+◌, Bool, true, false, List, [], ◌∷◌, refl, sym, arith, inl, inr, ◌∙◌, ap}
+-- Numbers that come next after changes, and the clock.
+use Rattle.std.proofs.Common.{◌≡◌, ℕ, ◌+◌, ◌-◌, ◌<◌, ◌≤◌, ◌^◌, Bool, true, false, List, [], ◌∷◌, refl, sym, arith, inl, inr, ◌∙◌, ap, IsTrue}
 use Rattle.std.specs.Prelude.{count_by, if◌then◌else◌}
+use Rattle.std.specs.List.{fold}
 use Rattle.std.proofs.lemmas.Bool.{cases_Bool}
+use Rattle.std.proofs.lemmas.Bool.Decides.{nat_tests}
 use Rattle.std.proofs.lemmas.List.Sums.{length-filter}
+use Rattle.router_state.specs.Fits.{has_next}
 use Rattle.router_state.specs.State.{State}
 use Rattle.router_state.specs.Changes.{after_change, after_changes}
 use Rattle.router_state.specs.declared.change.Change.{Change}
 use Rattle.router_state.specs.declared.change.Change.TheVariants as changes
-use Rattle.router_draft.specs.After.{draws, next_of}
+use Rattle.router_draft.proofs.ChangeLemmas.{through}
+use Rattle.router_draft.specs.After.{clock_after, draws, next_of}
 use Rattle.router_draft.specs.declared.after.Drawn.{Drawn}
 use Rattle.router_draft.specs.declared.after.Drawn.TheVariants as kinds
 
-abbrev one_if : Bool → ℕ
+abbrev pub one_if : Bool → ℕ
 one_if b = if b then 1 else 0
 
 next_is : (kind : Drawn) (c : Change) (s : State) → next_of kind (after_change c s) ≡ one_if (draws kind c) + next_of kind s
@@ -36,8 +40,13 @@ next_is kinds.Event c s = by c
     by : (c : Change) → next_of kinds.Event (after_change c s) ≡ one_if (draws kinds.Event c) + next_of kinds.Event s
     by changes.NextEvent = omega arith
     by _ = omega arith
+next_is kinds.Input c s = by c
+  where
+    by : (c : Change) → next_of kinds.Input (after_change c s) ≡ one_if (draws kinds.Input c) + next_of kinds.Input s
+    by changes.Taken = omega arith
+    by _ = omega arith
 
-counted : {X : Type 0} (p : X → Bool) (x : X) (xs : List X) → count_by p (x ∷ xs) ≡ one_if (p x) + count_by p xs
+pub counted : {X : Type 0} (p : X → Bool) (x : X) (xs : List X) → count_by p (x ∷ xs) ≡ one_if (p x) + count_by p xs
 counted p x xs = elim (cases_Bool (p x)) [
   | inl mine ↦ sym (length-filter p (x ∷ xs)) ∙ (rw mine (omega (arith, length-filter p xs)))
   | inr other ↦ sym (length-filter p (x ∷ xs)) ∙ (rw other (omega (arith, length-filter p xs)))
@@ -58,3 +67,20 @@ timer_laid cs s = next_laid kinds.Timer cs s
 
 pub event_laid : (cs : List Change) (s : State) → (after_changes cs s).next_event ≡ s.next_event + count_by (draws kinds.Event) cs
 event_laid cs s = next_laid kinds.Event cs s
+
+pub inputs_laid : (cs : List Change) (s : State) → (after_changes cs s).inputs ≡ s.inputs + count_by (draws kinds.Input) cs
+inputs_laid cs s = next_laid kinds.Input cs s
+
+-- a number that isn't far above a low one goes on
+pub goes_on : (base drawn n : ℕ) → n ≡ base + drawn → base ≤ 2 ^ 62 → drawn < 2 ^ 63 → IsTrue (has_next n)
+goes_on base drawn n is low few = by n (omega (arith, is, low, few))
+  where
+    by : (m : ℕ) → m < 2 ^ 64 - 1 → IsTrue (has_next m)
+    by m less = grind (arith, nat_tests, less)
+
+clock_is : (c : Change) (s : State) → (after_change c s).clock ≡ clock_after c s.clock
+clock_is (changes.Clock to) s = refl
+clock_is _ s = refl
+
+pub clock_laid : (cs : List Change) (s : State) → (after_changes cs s).clock ≡ fold (λ was c. clock_after c was) s.clock cs
+clock_laid cs s = through (λ (t : State). t.clock) (λ was c. clock_after c was) clock_is cs s

@@ -14,7 +14,7 @@ use Rattle.router_state.specs.declared.change.Change.TheVariants as changes
 use Rattle.router_state.specs.declared.rows.Event.{Event}
 use Rattle.router_state.specs.declared.rows.Queued.{Queued}
 use Rattle.router_state.specs.declared.rows.Suspension.{Suspension}
-use Rattle.router_draft.proofs.ListLemmas.{find_kept, find_lost, find_put_own, find_put_other}
+use Rattle.router_laws.proofs.ListLemmas.{find_kept, find_lost, find_put_own, find_put_other}
 use Rattle.router_draft.proofs.PairLemmas.{put_own, put_other}
 use Rattle.router_draft.proofs.ChangeLemmas.{through}
 use Rattle.router_draft.specs.After.{moves_queue, suspended_after, waiting_after, waiting_on}

@@ -8,7 +8,7 @@ use Rattle.std.proofs.lemmas.Bool.Decides.{nat_tests}
 use Rattle.std.proofs.lemmas.List.Concat.{flat_map-append}
 use Rattle.router_state.specs.declared.rows.Entity.{Entity}
 use Rattle.router_state.specs.Trees.{entity_at, number_of, parent_of, children, tree, tree_of}
-use Rattle.router_draft.proofs.RisingLemmas.{InOrder, order_from_rises}
+use Rattle.router_laws.proofs.RisingLemmas.{InOrder, order_from_rises}
 use Rattle.router_draft.specs.After.{kids}
 use Rattle.router_state.specs.State.{State}
 use Rattle.router_draft.specs.Drafts.{AreTrees}

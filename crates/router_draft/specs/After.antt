@@ -1,10 +1,14 @@
 -- What is seen at a key after a change, by what was seen there before it.
-use Rattle.std.specs.Prelude.{ℕ, ◌+◌, ◌==◌, ◌-◌, Bool, true, false, not, ◌&&◌, ◌||◌, if◌then◌else◌, is_none, nat_lt, filter, map, drop, List, [], ◌∷◌, ◌++◌, Option, Some, None}
+use Rattle.std.specs.Prelude.{ℕ, zero, suc, ◌+◌, ◌==◌, ◌-◌, Bool, true, false, not, ◌&&◌, ◌||◌, if◌then◌else◌, nat_lt, filter, map, drop, List, [], ◌∷◌, ◌++◌, Option, Some, None, option_map}
+use Rattle.std.specs.Option.{option_map_or, option_or}
+use Rattle.std.specs.Str.{bytes_eq}
+use Rattle.slee_value.specs.declared.ids.ActivityId.{ActivityId}
 use Rattle.slee_value.specs.declared.value.Value.{Value}
 use Rattle.rows_sorted.specs.Orders.{put, same_pair, same_text}
 use Rattle.router_state.specs.State.{State}
 use Rattle.router_state.specs.declared.change.Change.{Change}
 use Rattle.router_state.specs.declared.change.Change.TheVariants as changes
+use Rattle.router_state.specs.Contexts.{is_null}
 use Rattle.router_state.specs.Trees.{children, number_of}
 use Rattle.router_state.specs.declared.rows.Entity.{Entity}
 use Rattle.router_state.specs.declared.rows.Queued.{Queued}
@@ -24,6 +28,7 @@ next_of kinds.Entity s = s.next_entity
 next_of kinds.Activity s = s.next_activity
 next_of kinds.Timer s = s.next_timer
 next_of kinds.Event s = s.next_event
+next_of kinds.Input s = s.inputs
 
 abbrev pub is_entity : Drawn → Bool
 is_entity kinds.Entity = true
@@ -41,6 +46,10 @@ abbrev pub is_event : Drawn → Bool
 is_event kinds.Event = true
 is_event _ = false
 
+abbrev pub is_input : Drawn → Bool
+is_input kinds.Input = true
+is_input _ = false
+
 -- the change draws a number of this kind
 abbrev pub draws : Drawn → Change → Bool
 draws kind (changes.CreateRoot block service priority) = is_entity kind
@@ -48,18 +57,66 @@ draws kind (changes.CreateChild parent relation block priority) = is_entity kind
 draws kind (changes.Start what) = is_activity kind
 draws kind (changes.SetTimer spec) = is_timer kind
 draws kind changes.NextEvent = is_event kind
+draws kind changes.Taken = is_input kind
 draws kind _ = false
 
--- an entity is created: how far the number is above those drawn, and the block
-abbrev pub created_block : ℕ × Option ℕ → ℕ → ℕ × Option ℕ
-created_block seen block = (seen.0 - 1, if (seen.0 == 1) && is_none seen.1 then Some block else seen.1)
+-- the moment that the last clock line gave
+abbrev pub clock_after : Change → ℕ → ℕ
+clock_after (changes.Clock to) was = to
+clock_after _ was = was
 
--- how far the number of an entity is above those drawn, and the block of the entity
-abbrev pub block_after : Change → ℕ → ℕ × Option ℕ → ℕ × Option ℕ
-block_after (changes.CreateRoot block service priority) e seen = created_block seen block
-block_after (changes.CreateChild parent relation block priority) e seen = created_block seen block
+-- how many numbers are drawn before this one; none is, and it doesn't come any more, where it is below the next one
+abbrev pub ahead_of : ℕ → ℕ → Option ℕ
+ahead_of next number = if nat_lt number next then None else Some (number - next)
+
+-- the same after one more was drawn
+abbrev pub one_less : Option ℕ → Option ℕ
+one_less None = None
+one_less (Some zero) = None
+one_less (Some (suc n)) = Some n
+
+-- this one is drawn now
+abbrev pub is_turn : Option ℕ → Bool
+is_turn None = false
+is_turn (Some n) = n == 0
+
+-- Something new has the next number: how many are drawn before the number that is looked for, and what is seen there.
+abbrev pub made_new : {A : Type 0} → Option ℕ × Option A → A → Option ℕ × Option A
+made_new seen new = (one_less seen.0, if is_turn seen.0 then option_or seen.1 (Some new) else seen.1)
+
+-- how many numbers are drawn before an entity's, and its block
+abbrev pub block_after : Change → ℕ → Option ℕ × Option ℕ → Option ℕ × Option ℕ
+block_after (changes.CreateRoot block service priority) e seen = made_new seen block
+block_after (changes.CreateChild parent relation block priority) e seen = made_new seen block
 block_after (changes.Remove e') e seen = if e'.0 == e then (seen.0, None) else seen
 block_after _ e seen = seen
+
+-- how many numbers are drawn before an entity's, and its parent, 0 for a root
+abbrev pub parent_after : Change → ℕ → Option ℕ × Option ℕ → Option ℕ × Option ℕ
+parent_after (changes.CreateRoot block service priority) e seen = made_new seen 0
+parent_after (changes.CreateChild parent relation block priority) e seen = made_new seen parent.0
+parent_after (changes.Remove e') e seen = if e'.0 == e then (seen.0, None) else seen
+parent_after _ e seen = seen
+
+-- how many numbers are drawn before an activity's, and whether it is a null activity and whether it is Ending
+abbrev pub activity_after : Change → ℕ → Option ℕ × Option (Bool × Bool) → Option ℕ × Option (Bool × Bool)
+activity_after (changes.Start kind) a seen = made_new seen (is_null kind, false)
+activity_after (changes.End a') a seen = if a'.0 == a then (seen.0, option_map (λ x. (x.0, true)) seen.1) else seen
+activity_after (changes.DropContext a') a seen = if a'.0 == a then (seen.0, None) else seen
+activity_after _ a seen = seen
+
+-- the activity for which a name stands
+abbrev pub named_after : Change → List ℕ → Option ActivityId → Option ActivityId
+named_after (changes.Bind name' a') name was = if bytes_eq name' name then Some a' else was
+named_after (changes.Unbind name') name was = if bytes_eq name' name then None else was
+named_after (changes.DropContext a') name was = if option_map_or (λ a. a.0 == a'.0) was false then None else was
+named_after _ name was = was
+
+-- whether no entity has received the activity's head event yet
+abbrev pub undelivered_after : Change → ℕ → Bool → Bool
+undelivered_after (changes.MarkEntity a' e) a was = not (a'.0 == a) && was
+undelivered_after (changes.Pop a') a was = (a'.0 == a) || was
+undelivered_after _ a was = was
 
 -- the value of an entity's field
 abbrev pub field_after : Change → ℕ → List ℕ → Option Value → Option Value
@@ -73,13 +130,6 @@ activities_after (changes.Attach e' a') e was = if e'.0 == e then put nat_lt a'.
 activities_after (changes.Detach e' a') e was = if e'.0 == e then filter (λ a. not (a == a'.0)) was else was
 activities_after (changes.DropContext a') e was = filter (λ a. not (a == a'.0)) was
 activities_after _ e was = was
-
--- how far the number of an entity is above those drawn, and the parent of the entity, 0 for a root
-abbrev pub parent_after : Change → ℕ → ℕ × Option ℕ → ℕ × Option ℕ
-parent_after (changes.CreateRoot block service priority) e seen = created_block seen 0
-parent_after (changes.CreateChild parent relation block priority) e seen = created_block seen parent.0
-parent_after (changes.Remove e') e seen = if e'.0 == e then (seen.0, None) else seen
-parent_after _ e seen = seen
 
 -- the numbers of the events that wait on an activity, the head event first
 abbrev pub waiting_on : List Queued → ℕ → List ℕ

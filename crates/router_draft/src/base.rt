@@ -1,5 +1,5 @@
 //! The state with which a step begins: what is read of it, each by an exact question.
-ghost use Rattle.std.specs.Prelude.{◌≡◌, ◌<◌, IfOk, option_copied, option_map};
+ghost use Rattle.std.specs.Prelude.{◌≡◌, IfOk, option_copied, option_map};
 ghost use Rattle.router_state.specs.State.{State};
 ghost use Rattle.router_state.specs.Contexts.{is_linked, is_null, activities_of, activity_at, named_at};
 ghost use Rattle.router_state.specs.Fields.{field_at};
@@ -31,8 +31,7 @@ pub trait Base {
 
     /// The number of the next entity.
     fn next_entity(&self) -> u64
-        ensures number { result ≡ (state self.now).next_entity }
-        ensures positive { 0 < (state self.now).next_entity };
+        ensures { result ≡ (state self.now).next_entity };
 
     /// The number of the next activity.
     fn next_activity(&self) -> u64

@@ -1,19 +1,22 @@
-//! The changes of a step so far, with the entities whose attachments and fields they change. Contracts see the list of changes.
-ghost use Rattle.std.specs.Prelude.{◌≡◌, ◌++◌, ◌∷◌, [], ◌==◌, ◌||◌, ◌<◌, ◌^◌, OnOk, length};
+//! The changes of a step so far, and beside them what is asked of them often: what they touch, and how many events they number. Contracts see the list of changes.
+ghost use Rattle.std.specs.Prelude.{◌≡◌, ◌++◌, ◌∷◌, [], ◌==◌, ◌||◌, ◌<◌, ◌^◌, OnOk, count_by, length};
 ghost use Rattle.std.specs.List.{list_any};
-ghost use Rattle.router_draft.specs.Touched.{drops, is_it, subject, touches};
+ghost use Rattle.router_draft.specs.After.{draws};
+ghost use Rattle.router_draft.specs.Touched.{dropped_of, drops, ended_of, ends, entity_of, is_it, is_listed, touches};
+ghost use Rattle.router_draft.specs.declared.after.Drawn.TheVariants as kinds;
 
+use crate::after::{Drawn, is_drawing};
 use router_state::Change;
 use rows_leaves::Leaves;
 use rows_sorted::Keyed;
-use slee_value::{EntityId, NoMemory};
+use slee_value::{ActivityId, EntityId, NoMemory};
 use std::alloc::Global;
 use std::marker::Model;
 
-/// An entity whose attachments or fields were changed.
+/// The number of an entity or of an activity that was touched.
 #[derive(Debug, Clone, Copy)]
 pub(crate) struct Touched {
-    pub entity: u64,
+    pub number: u64,
 }
 
 impl Keyed for Touched {
@@ -22,7 +25,7 @@ impl Keyed for Touched {
     ghost key = { touched_key };
 
     fn first(&self) -> u64 {
-        self.entity
+        self.number
     }
 
     fn second(&self) -> u64 {
@@ -39,7 +42,9 @@ impl Keyed for Touched {
 pub(crate) struct Changes {
     list: Vec<Change>,
     touched: Leaves<Touched>,
-    drops: bool,
+    ended: Leaves<Touched>,
+    dropped: Leaves<Touched>,
+    events: usize,
 }
 
 impl Model for Changes {
@@ -54,37 +59,51 @@ impl Model for Changes {
     ghost invariant = { IsHeld };
 }
 
-/// The entity whose attachments or fields the change changes.
-fn subject(change: &Change) -> Option<u64>
-    ensures { result ≡ subject change.now }
+/// The entity that the change touches; 0 where there is a root more.
+fn entity_of(change: &Change) -> Option<u64>
+    ensures { result ≡ entity_of change.now }
 {
     match change {
         Change::SetField { entity, .. } => Some(entity.0),
         Change::ForgetFields { entity } => Some(entity.0),
+        Change::CreateRoot { .. } => Some(0),
+        Change::CreateChild { parent, .. } => Some(parent.0),
+        Change::Remove { entity } => Some(entity.0),
         Change::Attach { entity, .. } => Some(entity.0),
         Change::Detach { entity, .. } => Some(entity.0),
         _ => None,
     }
 }
 
-/// Whether the change takes all attachments to an activity.
-fn is_drop(change: &Change) -> bool
-    ensures { result ≡ drops change.now }
+/// The activity that ends or goes by the change.
+fn ended_of(change: &Change) -> Option<u64>
+    ensures { result ≡ ended_of change.now }
 {
     match change {
-        Change::DropContext { .. } => true,
-        _ => false,
+        Change::End { activity } => Some(activity.0),
+        Change::DropContext { activity } => Some(activity.0),
+        _ => None,
     }
 }
 
-/// One more entity that is touched, where the change touches one.
-#[tactic(auto, using(crate::proofs::TouchLemmas::listed_more))]
-fn touch(touched: &mut Leaves<Touched>, entity: Option<u64>)
-    requires { 0 < touched.old.room }
-    ensures { (e : ℕ) → list_any (λ t. t.entity == e) touched.new.rows ≡ (is_it e entity || list_any (λ t. t.entity == e) touched.old.rows) }
+/// The activity that goes by the change.
+fn dropped_of(change: &Change) -> Option<u64>
+    ensures { result ≡ dropped_of change.now }
 {
-    if let Some(entity) = entity {
-        touched.put_row(Touched { entity });
+    match change {
+        Change::DropContext { activity } => Some(activity.0),
+        _ => None,
+    }
+}
+
+/// One more number is listed, where there is one.
+#[tactic(auto, using(crate::proofs::TouchLemmas::listed_more))]
+fn list_number(rows: &mut Leaves<Touched>, number: Option<u64>)
+    requires { 0 < rows.old.room }
+    ensures { (n : ℕ) → is_listed rows.new.rows n ≡ (is_it n number || is_listed rows.old.rows n) }
+{
+    if let Some(number) = number {
+        rows.put_row(Touched { number });
     }
 }
 
@@ -96,21 +115,29 @@ impl Changes {
         Changes {
             list: Vec::new(alloc),
             touched: Leaves::new(alloc),
-            drops: false,
+            ended: Leaves::new(alloc),
+            dropped: Leaves::new(alloc),
+            events: 0,
         }
     }
 
     /// A change more.
-    #[tactic(auto, using(crate::proofs::TouchLemmas::one_touched, crate::proofs::TouchLemmas::one_tested))]
+    #[tactic(auto, using(crate::proofs::TouchLemmas::one_touched, crate::proofs::TouchLemmas::one_counted))]
     pub fn push(&mut self, change: Change) -> Result<(), NoMemory>
         ensures { OnOk result (self.new ≡ self.old ++ change ∷ []) }
     {
-        let entity = subject(&change);
-        let drops = is_drop(&change);
+        let entity = entity_of(&change);
+        let ended = ended_of(&change);
+        let dropped = dropped_of(&change);
+        let numbers = is_drawing(Drawn::Event, &change);
         self.touched.reserve(1)?;
+        self.ended.reserve(1)?;
+        self.dropped.reserve(1)?;
         self.list.push(change)?;
-        touch(&mut self.touched, entity);
-        self.drops = self.drops || drops;
+        list_number(&mut self.touched, entity);
+        list_number(&mut self.ended, ended);
+        list_number(&mut self.dropped, dropped);
+        self.events += usize::from(numbers);
         Ok(())
     }
 
@@ -122,18 +149,32 @@ impl Changes {
         &self.list
     }
 
-    /// Whether one of them changes the attachments or the fields of the entity.
+    /// Whether one of them touches the entity.
     pub fn touches(&self, entity: EntityId) -> bool
         ensures { result ≡ list_any (touches entity.0) self.now }
     {
         self.touched.has_row_of(entity.0)
     }
 
-    /// Whether one of them takes all attachments to an activity.
-    pub fn drops(&self) -> bool
-        ensures { result ≡ list_any drops self.now }
+    /// Whether the activity ends or goes by one of them.
+    pub fn ends(&self, activity: ActivityId) -> bool
+        ensures { result ≡ list_any (ends activity.0) self.now }
     {
-        self.drops
+        self.ended.has_row_of(activity.0)
+    }
+
+    /// Whether the activity goes by one of them.
+    pub fn drops(&self, activity: ActivityId) -> bool
+        ensures { result ≡ list_any (drops activity.0) self.now }
+    {
+        self.dropped.has_row_of(activity.0)
+    }
+
+    /// How many events they number.
+    pub fn events(&self) -> usize
+        ensures { result ≡ count_by (draws kinds.Event) self.now }
+    {
+        self.events
     }
 
     /// The changes, as a list.

@@ -1,11 +1,13 @@
 //! A step while it is planned. Contracts see its changes and its lines.
+ghost use Rattle.std.specs.Prelude.{◌≡◌, ◌++◌, ◌∷◌, [], ◌<◌, ◌^◌, OnOk, count_by, length};
 ghost use Rattle.std.specs.List.{list_any};
-ghost use Rattle.router_draft.specs.Touched.{drops, touches};
-ghost use Rattle.std.specs.Prelude.{◌≡◌, ◌++◌, ◌∷◌, [], ◌<◌, ◌^◌, OnOk, length};
+ghost use Rattle.router_draft.specs.After.{draws};
+ghost use Rattle.router_draft.specs.Touched.{drops, ends, touches};
+ghost use Rattle.router_draft.specs.declared.after.Drawn.TheVariants as kinds;
 
 use crate::changes::Changes;
 use router_state::Change;
-use slee_value::{EntityId, NoMemory, Text};
+use slee_value::{ActivityId, EntityId, NoMemory, Text};
 use std::alloc::Global;
 use std::marker::Model;
 use trace_history::Lines;
@@ -63,18 +65,33 @@ impl Draft {
         self.changes.as_slice()
     }
 
-    /// Whether a change so far changes the attachments or the fields of the entity.
-    pub fn touches(&self, entity: EntityId) -> bool
+    /// Whether a change so far touches the entity: its fields, its attachments, its place or its children.
+    pub(crate) fn touches(&self, entity: EntityId) -> bool
         ensures { result ≡ list_any (touches entity.0) self.now.changes }
     {
         self.changes.touches(entity)
     }
 
-    /// Whether a change so far takes all attachments to an activity.
-    pub fn drops(&self) -> bool
-        ensures { result ≡ list_any drops self.now.changes }
+    /// Whether the activity ends or goes by a change so far.
+    pub(crate) fn ends(&self, activity: ActivityId) -> bool
+        ensures { result ≡ list_any (ends activity.0) self.now.changes }
     {
-        self.changes.drops()
+        self.changes.ends(activity)
+    }
+
+    /// Whether the activity goes by a change so far.
+    pub(crate) fn drops(&self, activity: ActivityId) -> bool
+        ensures { result ≡ list_any (drops activity.0) self.now.changes }
+    {
+        self.changes.drops(activity)
+    }
+
+    /// How many events the changes so far number.
+    pub(crate) fn events(&self) -> usize
+        ensures number { result ≡ count_by (draws kinds.Event) self.now.changes }
+        ensures few { result < 2 ^ 63 }
+    {
+        self.changes.events()
     }
 
     /// The changes and the lines.

@@ -4,15 +4,15 @@
 mod after;
 mod base;
 mod changes;
-mod climbing;
 mod draft;
+mod laws;
 mod lists;
 mod making;
 pub mod reading;
 mod trees;
 
 pub use base::Base;
-pub use climbing::root_above;
 pub use draft::Draft;
+pub use laws::changes_keep_trees;
 pub use making::change;
 pub use trees::tree;

@@ -1,9 +1,11 @@
 //! Lists that are seen at a key after changes.
 ghost use Rattle.std.specs.Prelude.{◌≡◌, ◌+◌, ◌<◌, ◌≤◌, ◌^◌, nat_lt, not, ◌==◌, drop, filter, length, OnOk, IfOk};
-ghost use Rattle.std.specs.List.{fold};
+ghost use Rattle.std.specs.List.{fold, list_any};
 ghost use Rattle.rows_sorted.specs.Orders.{put};
 ghost use Rattle.router_draft.specs.After.{activities_after, born, children_after, waiting_after};
+ghost use Rattle.router_draft.specs.Touched.{drops, touches};
 
+use crate::Draft;
 use router_state::Change;
 use slee_value::{ActivityId, EntityId, NoMemory};
 use std::alloc::Global;
@@ -107,6 +109,26 @@ pub fn activities_through(
         activities(alloc, change, entity, all)?;
     }
     Ok(())
+}
+
+/// The activities that don't go by a change so far.
+pub fn kept(alloc: Global, draft: &Draft, activities: &[u64]) -> Result<Vec<u64>, NoMemory>
+    ensures { IfOk result (λ all. all.items ≡ filter (λ a. not (list_any (drops a) draft.now.changes)) activities.now) }
+{
+    let mut all = Vec::new(alloc);
+    'activities: for activity in activities {
+        if !draft.drops(ActivityId(*activity)) {
+            all.push(*activity)?;
+        }
+    }
+    Ok(all)
+}
+
+/// Whether a change so far touches one of these entities.
+pub fn are_touched(draft: &Draft, entities: &[u64]) -> bool
+    ensures { result ≡ list_any (λ e. list_any (touches e) draft.now.changes) entities.now }
+{
+    entities.iter().any(|e| draft.touches(EntityId(*e)))
 }
 
 /// The numbers without the first one.

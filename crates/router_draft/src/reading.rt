@@ -9,12 +9,12 @@ ghost use Rattle.router_draft.specs.After.{kids, waiting_on};
 ghost use Rattle.router_draft.specs.Drafts.{laid, IsLow};
 
 use crate::after::{self, Drawn};
-use crate::{Base, Draft, climbing, lists};
+use crate::{Base, Draft, lists};
 use slee_value::{ActivityId, EntityId, EventId, Name, NoMemory, Text, TimerId, Value};
 use std::alloc::Global;
 
 /// Whether the entity is attached to the activity.
-#[tactic(auto, using(crate::proofs::LinkLemmas::linked_laid))]
+#[tactic(auto, using(crate::proofs::LinkLemmas::linked_laid, crate::proofs::TouchLemmas::linked_still))]
 pub fn is_linked<B: Base>(
     base: &B,
     draft: &Draft,
@@ -24,6 +24,9 @@ pub fn is_linked<B: Base>(
     ensures { result ≡ is_linked (laid (B.state base.now) draft.now).links entity.0 activity.0 }
 {
     let was = base.is_linked(entity, activity);
+    if !draft.touches(entity) {
+        return was && !draft.drops(activity);
+    }
     after::linked_through(draft.changes(), entity, activity, was)
 }
 
@@ -64,7 +67,7 @@ pub fn next_event<B: Base>(base: &B, draft: &Draft) -> EventId
     ensures number { result.0 ≡ (laid (B.state base.now) draft.now).next_event }
     ensures more { IsTrue (has_next (laid (B.state base.now) draft.now).next_event) }
 {
-    EventId(base.next_event() + after::count_drawn(draft.changes(), Drawn::Event) as u64)
+    EventId(base.next_event() + draft.events() as u64)
 }
 
 /// How many lines were taken.
@@ -78,7 +81,7 @@ pub fn inputs<B: Base>(base: &B, draft: &Draft) -> u64
 }
 
 /// The moment that the last clock line gave.
-#[tactic(auto, using(crate::proofs::ClockLemmas::clock_laid))]
+#[tactic(auto, using(crate::proofs::NextLemmas::clock_laid))]
 pub fn clock<B: Base>(base: &B, draft: &Draft) -> u64
     ensures { result ≡ (laid (B.state base.now) draft.now).clock }
 {
@@ -86,11 +89,16 @@ pub fn clock<B: Base>(base: &B, draft: &Draft) -> u64
 }
 
 /// Whether the activity is a null activity, and whether it is Ending.
-#[tactic(auto, using(crate::proofs::StandingLemmas::activity_laid))]
+#[tactic(auto, using(crate::proofs::ActivityLemmas::activity_laid, crate::proofs::TouchLemmas::activity_still))]
 pub fn activity<B: Base>(base: &B, draft: &Draft, activity: ActivityId) -> Option<(bool, bool)>
     ensures { result ≡ option_map (λ row. (is_null row.kind, row.ending)) (activity_at (laid (B.state base.now) draft.now).activities activity.0) }
 {
-    let seen = (gap(base.next_activity(), activity.0), base.activity(activity));
+    let next = base.next_activity();
+    let was = base.activity(activity);
+    if activity.0 < next && !draft.ends(activity) {
+        return was;
+    }
+    let seen = (after::ahead_of(next, activity.0), was);
     after::activity_through(draft.changes(), activity, seen).1
 }
 
@@ -99,6 +107,7 @@ pub fn activity<B: Base>(base: &B, draft: &Draft, activity: ActivityId) -> Optio
 pub fn named<B: Base>(base: &B, draft: &Draft, name: &Text) -> Option<ActivityId>
     ensures { result ≡ named_at (laid (B.state base.now) draft.now).names name.now }
 {
+    base.ordered();
     after::named_through(draft.changes(), name, base.named(name))
 }
 
@@ -111,28 +120,32 @@ pub fn is_undelivered<B: Base>(base: &B, draft: &Draft, activity: ActivityId) ->
     after::undelivered_through(draft.changes(), activity, was)
 }
 
-/// How far the number is above those that were drawn.
-pub(crate) fn gap(next: u64, number: u64) -> u64
-    requires { 0 < next }
-    ensures { result ≡ number + 1 - next }
-{
-    if number < next { 0 } else { number - next + 1 }
-}
-
 /// The number of an entity's block.
-#[tactic(auto, using(crate::proofs::EntityLemmas::block_laid))]
+#[tactic(auto, using(crate::proofs::EntityLemmas::block_laid, crate::proofs::TouchLemmas::block_still))]
 pub fn block<B: Base>(base: &B, draft: &Draft, entity: EntityId) -> Option<u32>
     ensures { result ≡ option_map (λ row. row.block) (entity_at (laid (B.state base.now) draft.now).entities entity.0) }
 {
-    let seen = (gap(base.next_entity(), entity.0), base.block(entity));
+    let next = base.next_entity();
+    let was = base.block(entity);
+    if entity.0 < next && !draft.touches(entity) {
+        return was;
+    }
+    let seen = (after::ahead_of(next, entity.0), was);
     after::block_through(draft.changes(), entity, seen).1
 }
 
 /// The parent of an entity, 0 for a root.
+#[tactic(auto, using(crate::proofs::EntityLemmas::parent_laid, crate::proofs::TouchLemmas::parent_still))]
 pub fn parent<B: Base>(base: &B, draft: &Draft, entity: EntityId) -> Option<u64>
     ensures { result ≡ option_map (λ row. parent_of row) (entity_at (laid (B.state base.now) draft.now).entities entity.0) }
 {
-    climbing::parent_after(base, draft.changes(), entity)
+    let next = base.next_entity();
+    let was = base.parent(entity);
+    if entity.0 < next && !draft.touches(entity) {
+        return was;
+    }
+    let seen = (after::ahead_of(next, entity.0), was);
+    after::parent_through(draft.changes(), entity, seen).1
 }
 
 /// The value of an entity's field.
@@ -153,7 +166,7 @@ pub fn field<'a, B: Base>(
 }
 
 /// The activities to which an entity is attached, rising.
-#[tactic(auto, using(crate::proofs::ActivityLemmas::activities_laid, crate::proofs::TouchLemmas::activities_still))]
+#[tactic(auto, using(crate::proofs::LinkedLemmas::activities_laid, crate::proofs::TouchLemmas::activities_still))]
 pub fn activities<B: Base>(
     alloc: Global,
     base: &B,
@@ -164,8 +177,8 @@ pub fn activities<B: Base>(
 {
     base.ordered();
     let mut all = base.activities(alloc, entity)?;
-    if !draft.touches(entity) && !draft.drops() {
-        return Ok(all);
+    if !draft.touches(entity) {
+        return lists::kept(alloc, draft, &all);
     }
     lists::activities_through(alloc, draft.changes(), entity, &mut all)?;
     Ok(all)
@@ -216,7 +229,7 @@ pub fn is_suspended<B: Base>(base: &B, draft: &Draft, activity: ActivityId) -> b
 }
 
 /// The numbers of the children of an entity, rising; of 0, those of the roots.
-#[tactic(auto, using(crate::proofs::ChildLemmas::kids_laid))]
+#[tactic(auto, using(crate::proofs::ChildLemmas::kids_laid, crate::proofs::TouchLemmas::kids_still))]
 pub fn children<B: Base>(
     alloc: Global,
     base: &B,
@@ -227,6 +240,9 @@ pub fn children<B: Base>(
     ensures { IfOk result (λ all. all.items ≡ kids (laid (B.state base.now) draft.now).entities entity.0) }
 {
     let mut all = base.children(alloc, entity)?;
+    if !draft.touches(entity) && !lists::are_touched(draft, &all) {
+        return Ok(all);
+    }
     lists::children_through(
         alloc,
         draft.changes(),
