@@ -1,5 +1,5 @@
 -- Activities after changes: whether each is a null activity, and whether it is Ending.
-use Rattle.std.proofs.Common.{◌≡◌, ℕ, ◌==◌, Bool, true, false, List, [], ◌∷◌, ◌++◌, refl, arith, inl, inr, ap, ◌∙◌}
+use Rattle.std.proofs.Common.{◌≡◌, ℕ, ◌==◌, Bool, true, false, List, [], ◌∷◌, ◌++◌, refl, sym, arith, inl, inr, ap, ◌∙◌}
 use Rattle.std.specs.Prelude.{find, map, option_map, if◌then◌else◌, Option, Some, None}
 use Rattle.std.specs.List.{fold}
 use Rattle.std.proofs.lemmas.Bool.{cases_Bool}
@@ -70,3 +70,14 @@ activity_is a _ s = refl
 
 pub activity_laid : (cs : List Change) (s : State) (a : ℕ) → sight_at (after_changes cs s).activities a ≡ (fold (λ seen c. activity_after c a seen) (ahead_of s.next_activity a, sight_at s.activities a) cs).1
 activity_laid cs s a = ap (λ (x : Option ℕ × Option (Bool × Bool)). x.1) (through (seen_activity a) (λ seen c. activity_after c a seen) (activity_is a) cs s)
+
+-- as the code has it
+pub activity_seen : (cs changes : List Change) (s : State) (a next : ℕ) (ahead : Option ℕ) (was : Option (Bool × Bool)) (seen : Option ℕ × Option (Bool × Bool))
+    → next ≡ s.next_activity → ahead ≡ ahead_of next a → was ≡ sight_at s.activities a → changes ≡ cs → seen ≡ fold (λ seen c. activity_after c a seen) (ahead, was) changes
+    → seen.1 ≡ sight_at (after_changes cs s).activities a
+activity_seen cs changes s a next ahead was seen next_is ahead_is was_is changes_are seen_is =
+    ap (λ (x : Option ℕ × Option (Bool × Bool)). x.1) seen_is
+    ∙ ap (λ ds. (fold (λ seen c. activity_after c a seen) (ahead, was) ds).1) changes_are
+    ∙ ap (λ o. (fold (λ seen c. activity_after c a seen) (o, was) cs).1) (ahead_is ∙ ap (λ n. ahead_of n a) next_is)
+    ∙ ap (λ o. (fold (λ seen c. activity_after c a seen) (ahead_of s.next_activity a, o) cs).1) was_is
+    ∙ sym (activity_laid cs s a)

@@ -27,7 +27,7 @@ none_marked (m ∷ ms) a = elim (cases_Bool (m.activity.0 == a)) [
 ]
 
 -- two marks of which one is on the activity, and the other isn't, stand one before the other
-apart : (b e a' e' a : ℕ) → (b == a) ≡ true → (a' == a) ≡ false → (pair_before a' e' b e || pair_before b e a' e') ≡ true
+apart : (b e a' e' a : ℕ) → (b == a) ≡ true → (a' == a) ≡ false → (pair_before b e a' e' || pair_before a' e' b e) ≡ true
 apart b e a' e' a mine other = grind (arith, nat_tests)
 
 marked_more : (a a' e : ℕ) (marks : List EntityMark) → is_marked (with_entity_mark marks a' e) a ≡ ((a' == a) || is_marked marks a)

@@ -1,5 +1,5 @@
 -- Events that wait on an activity, and the suspension of its head event, after changes.
-use Rattle.std.proofs.Common.{◌≡◌, ℕ, ◌==◌, Bool, true, false, List, [], ◌∷◌, refl, sym, ap, ◌∙◌, arith, inl, inr, nat_lt, drop, Option, Some, None}
+use Rattle.std.proofs.Common.{◌≡◌, ℕ, ◌<◌, ◌≤◌, ◌==◌, length, get_or, Bool, true, false, List, [], ◌∷◌, refl, sym, ap, ◌∙◌, arith, inl, inr, nat_lt, drop, Option, Some, None}
 use Rattle.std.specs.Prelude.{not, ◌||◌, ◌&&◌, find, filter, map, option_map, is_some, if◌then◌else◌}
 use Rattle.std.specs.List.{fold, list_any}
 use Rattle.std.proofs.lemmas.Bool.{cases_Bool}
@@ -76,11 +76,14 @@ head_is (q ∷ qs) a = elim (cases_Bool (q.activity.0 == a)) [
   | inr other ↦ rw other (head_is qs a)
 ]
 
-pub head_none : (events : List Queued) (a : ℕ) → waiting_on events a ≡ [] → option_map (λ (v : Event). v.id) (head_event events a) ≡ None
-head_none events a is = head_is events a ∙ ap first_of is
+-- as the code has it
+pub head_nothing : (events : List Queued) (a : ℕ) (ns : List ℕ) → ns ≡ waiting_on events a → length ns < 1 → None ≡ option_map (λ (v : Event). v.id) (head_event events a)
+head_nothing events a [] is few = ap first_of is ∙ sym (head_is events a)
+head_nothing events a (n ∷ ns) is few = absurd (omega (arith, few))
 
-pub head_some : (events : List Queued) (a n : ℕ) (ns : List ℕ) → waiting_on events a ≡ n ∷ ns → option_map (λ (v : Event). v.id) (head_event events a) ≡ Some (record { 0 = n })
-head_some events a n ns is = head_is events a ∙ ap first_of is
+pub head_first : (events : List Queued) (a : ℕ) (ns : List ℕ) → ns ≡ waiting_on events a → 1 ≤ length ns → Some (record { 0 = get_or ns 0 0 }) ≡ option_map (λ (v : Event). v.id) (head_event events a)
+head_first events a [] is some = absurd (omega (arith, some))
+head_first events a (n ∷ ns) is some = ap first_of is ∙ sym (head_is events a)
 
 -- changes that move nothing on the activity
 

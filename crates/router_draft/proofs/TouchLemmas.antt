@@ -1,5 +1,5 @@
 -- What no change touches is read as it was.
-use Rattle.std.proofs.Common.{◌≡◌, ℕ, ◌+◌, ◌<◌, ◌==◌, Bool, true, false, List, [], ◌∷◌, ◌++◌, refl, sym, ap, ◌∙◌, arith, inl, inr, Option, Some, None, nat_lt}
+use Rattle.std.proofs.Common.{◌≡◌, ℕ, ◌+◌, ◌<◌, ◌≤◌, ◌^◌, ◌==◌, length, Bool, true, false, List, [], ◌∷◌, ◌++◌, refl, sym, ap, ◌∙◌, arith, inl, inr, Option, Some, None, nat_lt}
 use Rattle.std.specs.Prelude.{◌||◌, ◌&&◌, not, count_by, filter, if◌then◌else◌}
 use Rattle.std.specs.List.{AllByRecursion, fold, list_any}
 use Rattle.std.proofs.lemmas.Bool.{cases_Bool}
@@ -61,6 +61,10 @@ one_touched number n c cs was is =
 pub one_counted : (p : Change → Bool) (c : Change) (cs : List Change) → count_by p (cs ++ c ∷ []) ≡ one_if (p c) + count_by p cs
 one_counted p c [] = counted p c []
 one_counted p c (d ∷ cs) = omega (arith, counted p d (cs ++ c ∷ []), counted p d cs, one_counted p c cs)
+
+-- there are no more of some than there are in all
+pub few_counted : (n : ℕ) (p : Change → Bool) (cs : List Change) → n ≡ count_by p cs → length cs < 2 ^ 63 → n < 2 ^ 63
+few_counted n p cs is few = omega (arith, is, few, count_by-le-length p cs)
 
 -- tests of all changes
 

@@ -1,5 +1,5 @@
 //! The changes of a step so far, and beside them what is asked of them often: what they touch, and how many events they number. Contracts see the list of changes.
-ghost use Rattle.std.specs.Prelude.{◌≡◌, ◌++◌, ◌∷◌, [], ◌==◌, ◌||◌, ◌<◌, ◌^◌, OnOk, count_by, length};
+ghost use Rattle.std.specs.Prelude.{ℕ, ◌≡◌, ◌++◌, ◌∷◌, [], ◌==◌, ◌||◌, ◌<◌, ◌^◌, OnOk, count_by, length};
 ghost use Rattle.std.specs.List.{list_any};
 ghost use Rattle.router_draft.specs.After.{draws};
 ghost use Rattle.router_draft.specs.Touched.{dropped_of, drops, ended_of, ends, entity_of, is_it, is_listed, touches};
@@ -171,9 +171,12 @@ impl Changes {
     }
 
     /// How many events they number.
+    #[tactic(auto, using(crate::proofs::TouchLemmas::few_counted))]
     pub fn events(&self) -> usize
-        ensures { result ≡ count_by (draws kinds.Event) self.now }
+        ensures number { result ≡ count_by (draws kinds.Event) self.now }
+        ensures few { result < 2 ^ 63 }
     {
+        let _list = self.as_slice();
         self.events
     }
 

@@ -89,7 +89,6 @@ pub fn clock<B: Base>(base: &B, draft: &Draft) -> u64
 }
 
 /// Whether the activity is a null activity, and whether it is Ending.
-#[tactic(auto, using(crate::proofs::ActivityLemmas::activity_laid, crate::proofs::TouchLemmas::activity_still))]
 pub fn activity<B: Base>(base: &B, draft: &Draft, activity: ActivityId) -> Option<(bool, bool)>
     ensures { result ≡ option_map (λ row. (is_null row.kind, row.ending)) (activity_at (laid (B.state base.now) draft.now).activities activity.0) }
 {
@@ -166,7 +165,7 @@ pub fn field<'a, B: Base>(
 }
 
 /// The activities to which an entity is attached, rising.
-#[tactic(auto, using(crate::proofs::LinkedLemmas::activities_laid, crate::proofs::TouchLemmas::activities_still))]
+#[tactic(auto, using(crate::proofs::LinkedLemmas::activities_laid))]
 pub fn activities<B: Base>(
     alloc: Global,
     base: &B,
@@ -178,7 +177,8 @@ pub fn activities<B: Base>(
     base.ordered();
     let mut all = base.activities(alloc, entity)?;
     if !draft.touches(entity) {
-        return lists::kept(alloc, draft, &all);
+        let stay = lists::kept(alloc, draft, &all)?;
+        return Ok(stay);
     }
     lists::activities_through(alloc, draft.changes(), entity, &mut all)?;
     Ok(all)
@@ -200,7 +200,7 @@ pub fn queue<B: Base>(
 }
 
 /// The number of the activity's head event. The whole queue is read only where the changes moved it.
-#[tactic(auto, using(crate::proofs::QueueLemmas::head_still, crate::proofs::QueueLemmas::head_none, crate::proofs::QueueLemmas::head_some))]
+#[tactic(auto, using(crate::proofs::QueueLemmas::head_still))]
 pub fn head<B: Base>(
     alloc: Global,
     base: &B,
@@ -229,7 +229,7 @@ pub fn is_suspended<B: Base>(base: &B, draft: &Draft, activity: ActivityId) -> b
 }
 
 /// The numbers of the children of an entity, rising; of 0, those of the roots.
-#[tactic(auto, using(crate::proofs::ChildLemmas::kids_laid, crate::proofs::TouchLemmas::kids_still))]
+#[tactic(auto, using(crate::proofs::ChildLemmas::kids_laid))]
 pub fn children<B: Base>(
     alloc: Global,
     base: &B,

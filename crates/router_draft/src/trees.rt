@@ -38,7 +38,7 @@ pub fn tree<B: Base>(
     requires low { IsLow (B.state base.now) }
     requires made { CanBeMade (B.state base.now) draft.now }
     requires there { IsTrue (has_entity (laid (B.state base.now) draft.now).entities entity.0) }
-    ensures order { IfOk result (λ all. all.items ≡ tree_of (laid (B.state base.now) draft.now).entities entity.0) }
+    ensures { IfOk result (λ all. all.items ≡ tree_of (laid (B.state base.now) draft.now).entities entity.0) }
 {
     base.ordered();
     let mut waiting = Vec::new(alloc);

@@ -20,8 +20,8 @@ tree-preserved g c =
       there = more.1;
     }
 
-pub returns-clause-order : goal.returns-clause-order
-returns-clause-order g c =
+pub returns : goal.returns
+returns g c =
     let zero = c.in_default.ensures.cases.0 in
     let rest = rw zero at c.in_default.ensures.rest in
     let none : c.tree.waiting.items ≡ [] = c.in_default.ensures.items ∙ append-nil c.pop.new.self.items ∙ rest in
