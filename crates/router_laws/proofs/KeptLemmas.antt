@@ -10,7 +10,7 @@ use Rattle.slee_effect.specs.declared.effect.Effect.TheVariants as effects
 use Rattle.router_state.specs.State.{State}
 use Rattle.router_state.specs.Changes.{after_change, after_changes}
 use Rattle.router_state.specs.Closed.{is_loose, is_stopped}
-use Rattle.router_state.specs.Contexts.{is_linked}
+use Rattle.router_state.specs.Contexts.{is_active, is_linked}
 use Rattle.router_state.specs.Trees.{roots, tree_of}
 use Rattle.router_state.specs.declared.change.Change.{Change}
 use Rattle.router_state.specs.declared.change.Change.TheVariants as changes
@@ -19,7 +19,8 @@ use Rattle.router_state.specs.declared.rows.Suspension.{Suspension}
 use Rattle.router_steps.specs.Actions.{Action, StartActivity, EndActivity, FireEvent, SetClock, ActivateService, StopService, ChangeRow, change_of_row}
 use Rattle.router_steps.specs.Closing.{close_root, close_roots, close_service, close_services, close_null, close_nulls, is_idle_at, activity_numbers, closing, without_loose, without_stopped}
 use Rattle.router_steps.specs.Creating.{with_root, root_of, with_child, first_fields}
-use Rattle.router_steps.specs.Effects.{after_effect, after_effects, resolved_in, number_in, relation_at}
+use Rattle.router_steps.specs.Applying.{applied_in}
+use Rattle.router_steps.specs.Effects.{after_effect, after_effects, number_in, relation_at}
 use Rattle.router_steps.specs.Going.{removed, all_removed, tree_removed, changes_of_removal}
 use Rattle.router_steps.specs.Histories.{replay}
 use Rattle.router_steps.specs.Moves.{ended, attached, dropped, changes_of_dropping, with_service}
@@ -161,7 +162,7 @@ same_clocked to rows xs s =
     (then_same resumed advanced (clocked to rows xs s) (refl, refl) (same_all_occurred xs advanced))
 
 same_ended_if : (a : ℕ) (s : State) → Same s (ended_if a s)
-same_ended_if a s = cond_both (a == 0) s _ (Same s) (λ _. (refl, refl)) (λ _. (refl, refl))
+same_ended_if a s = cond_both (is_active s.activities a) _ s (Same s) (λ _. (refl, refl)) (λ _. (refl, refl))
 
 same_action : (x : Action) (s : State) → Same s (after_action x s)
 same_action (StartActivity name) s = (refl, refl)
@@ -226,7 +227,7 @@ same_subject : (x : Subject) (s : State) → Same s (after_subject x s)
 same_subject (Taking signal action) s = same_taken action s
 same_subject (Selecting x) s = then_same s (marked_service x s) (after_subject (Selecting x) s) (refl, refl) (same_root x x.root (marked_service x s))
 same_subject (Delivering x) s =
-    then_same s (marked_entity x s) (after_subject (Delivering x) s) (refl, refl) (same_effects (resolved_in (marked_entity x s) x.delivered.effects) (marked_entity x s))
+    then_same s (marked_entity x s) (after_subject (Delivering x) s) (refl, refl) (same_effects (applied_in x.entity.number.0 (marked_entity x s) x.delivered.effects) (marked_entity x s))
 same_subject (Finishing x) s = same_finished x s
 
 same_before_closing : (s : State) (c : Choice) → Same s (before_closing s c)
