@@ -4,3 +4,13 @@ pub mod SoundLinks
 pub mod SoundFields
 pub mod SoundRemoval
 pub mod SoundEffects
+pub mod SoundBase
+pub mod SoundSmall
+pub mod SoundGrowth
+pub mod SoundEntities
+pub mod SoundCreated
+pub mod SoundMade
+pub mod SoundTrees
+pub mod SoundApplied
+pub mod SoundNumbers
+pub mod SoundMarks
