@@ -14,3 +14,8 @@ pub mod SoundTrees
 pub mod SoundApplied
 pub mod SoundNumbers
 pub mod SoundMarks
+pub mod SoundClosing
+pub mod SoundGone
+pub mod SoundDropped
+pub mod SoundClock
+pub mod SoundRows

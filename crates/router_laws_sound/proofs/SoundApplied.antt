@@ -74,7 +74,7 @@ leads_there s e relation code found = by (entity_at s.entities e) found
     by (Some row) found = rw found (eq-eqb code.block code.block refl)
 
 -- no activity has number 0
-not_none : (s : State) (a : ℕ) → IsSound s → is_some (activity_at s.activities a) ≡ true → (a == 0) ≡ false
+pub not_none : (s : State) (a : ℕ) → IsSound s → is_some (activity_at s.activities a) ≡ true → (a == 0) ≡ false
 not_none s a sound there =
     let row = some_there (activity_at s.activities a) there in
     let tests = and_parts (list_all (is_activity_row s.deployment s.next_activity) s.activities) _ (and_parts (rises_in (λ (r : Activity). r.number.0) s.activities) _ sound.activities).1 in

@@ -24,7 +24,7 @@ use Rattle.router_state.specs.declared.rows.Field.{Field}
 
 -- texts
 
-not_below_itself : (x : List ℕ) → is_below x x ≡ false
+pub not_below_itself : (x : List ℕ) → is_below x x ≡ false
 not_below_itself [] = refl
 not_below_itself (b ∷ x) = same (b == b) (itself b) ∙ not_below_itself x
   where

@@ -174,16 +174,15 @@ names_left_apart d gone rows names n m sound apart =
         by_stem row (stems.Root service) is root = rw is refl
         by_stem row (stems.Child parent relation) is root = absurd (cc)
 
-pub sound_removed : (s : State) (e : ℕ) → IsSound s → is_some (entity_at s.entities e) ≡ true → IsSound (tree_removed s e)
-sound_removed s e sound there =
-    let gone = tree_of s.entities e in
+-- entities go that have with each of them its children
+pub sound_gone : (gone : List ℕ) (s : State) → IsSound s → IsWhole gone s.entities → IsSound (all_removed gone s)
+sound_gone gone s sound whole =
     let order = ordered_removed gone s (sound_ordered s sound) in
-    let t = all_removed gone s in
     let names : rises_by root_name_before (filter (λ (x : RootName). not (in_list x.entity.0 gone)) s.root_names) ≡ true = subst (λ xs. rises_by root_name_before xs ≡ true) (left_names gone s) order.root_names in
     let fields : rises_by field_before (filter (λ (x : Field). not (in_list x.entity.0 gone)) s.fields) ≡ true = subst (λ xs. rises_by field_before xs ≡ true) (left_fields gone s) order.fields in
     subst IsSound (sym (removed_alone gone s))
     (made gone
-    (rw (left_entities gone s) (entities_left s.deployment gone s.entities s.next_entity (tree_whole s.deployment s.entities s.next_entity e sound.entities there) sound.entities))
+    (rw (left_entities gone s) (entities_left s.deployment gone s.entities s.next_entity whole sound.entities))
     (rw (left_entities gone s, left_names gone s) (names_left s.deployment gone s.entities s.root_names s.next_activity s.next_event names sound.root_names))
     (rw (left_entities gone s, left_names gone s) (names_left_apart s.deployment gone s.entities s.root_names s.next_activity s.next_event sound.root_names sound.apart))
     (rw (left_entities gone s, left_fields gone s) (fields_left s.deployment gone s.entities s.fields s.next_activity s.next_timer fields sound.fields))
@@ -222,3 +221,7 @@ sound_removed s e sound there =
           timers = sound.timers;
           rows = sound.rows;
         }
+
+-- a tree goes
+pub sound_removed : (s : State) (e : ℕ) → IsSound s → is_some (entity_at s.entities e) ≡ true → IsSound (tree_removed s e)
+sound_removed s e sound there = sound_gone (tree_of s.entities e) s sound (tree_whole s.deployment s.entities s.next_entity e sound.entities there)
