@@ -19,3 +19,4 @@ pub mod SoundGone
 pub mod SoundDropped
 pub mod SoundClock
 pub mod SoundRows
+pub mod SoundRoots

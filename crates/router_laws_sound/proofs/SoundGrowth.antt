@@ -192,7 +192,7 @@ tables_more rows more n (t ∷ tables) all =
     (passes_more (λ (r : Activity). r.number.0 == table_activity n) (λ (row : Activity). is_of_table n row.kind) rows more parts.0) (tables_more rows more (n + 1) tables parts.1)
 
 -- rows of which each differs from a new one at their end
-differ_append : {Row : Type 0} (differ : Row → Row → Bool) (rows : List Row) (row : Row) → all_differ differ rows ≡ true → list_all (λ x. differ x row) rows ≡ true → all_differ differ (rows ++ row ∷ []) ≡ true
+pub differ_append : {Row : Type 0} (differ : Row → Row → Bool) (rows : List Row) (row : Row) → all_differ differ rows ≡ true → list_all (λ x. differ x row) rows ≡ true → all_differ differ (rows ++ row ∷ []) ≡ true
 differ_append differ [] row all last = refl
 differ_append differ (x ∷ rows) row all last =
     let parts = and_parts (list_all (differ x) rows) (all_differ differ rows) all in

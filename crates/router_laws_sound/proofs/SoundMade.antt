@@ -35,7 +35,7 @@ use Rattle.router_state.specs.declared.change.Change.TheVariants as changes
 use Rattle.router_state.specs.declared.rows.Stem.TheVariants as stems
 
 -- entities, of which one is new
-entities_created : (d : Deployed) (rows : List Entity) (e block : ℕ) (stem : Stem) (priority : ℤ) → nat_lt 0 e ≡ true → is_priority priority ≡ true → is_stem d (rows ++ new_entity e block stem priority ∷ []) e block stem ≡ true
+pub entities_created : (d : Deployed) (rows : List Entity) (e block : ℕ) (stem : Stem) (priority : ℤ) → nat_lt 0 e ≡ true → is_priority priority ≡ true → is_stem d (rows ++ new_entity e block stem priority ∷ []) e block stem ≡ true
     → rises_in (λ (r : Entity). r.number.0) (rows ++ new_entity e block stem priority ∷ []) ≡ true → are_entities d rows e ≡ true → are_entities d (rows ++ new_entity e block stem priority ∷ []) (e + 1) ≡ true
 entities_created d rows e block stem priority some rank stands rises sound =
     let row = new_entity e block stem priority in
@@ -61,14 +61,14 @@ entities_created d rows e block stem priority some rank stands rises sound =
         and_from (is_drawn (e + 1) r.number.0) _ (drawn_more e (e + 1) r.number.0 (omega arith) drawn.0) (and_from (is_priority r.priority) _ rest.0 (kept r.number.0 r.block r.stem rest.1))
 
 -- marks of entities, where there is one number more
-delivered_grow : (events : List Queued) (marks : List EntityMark) (n m : ℕ) → n ≤ m → are_delivered events marks n ≡ true → are_delivered events marks m ≡ true
+pub delivered_grow : (events : List Queued) (marks : List EntityMark) (n m : ℕ) → n ≤ m → are_delivered events marks n ≡ true → are_delivered events marks m ≡ true
 delivered_grow events marks n m le sound =
     let parts = and_parts (rises_by entity_mark_before marks) (list_all (is_entity_mark events n) marks) sound in
     and_from (rises_by entity_mark_before marks) _ parts.0 (tests_weaker (is_entity_mark events n) (is_entity_mark events m)
     (λ x is. let both = and_parts (is_waiting events x.activity.0) (is_drawn n x.entity.0) is in and_from (is_waiting events x.activity.0) _ both.0 (drawn_more n m x.entity.0 le both.1)) marks parts.1)
 
 -- no name is that of an entity that isn't there yet
-no_name : (d : Deployed) (rows : List Entity) (n m e : ℕ) (names : List RootName) → are_below (λ (r : Entity). r.number.0) e rows ≡ true → list_all (is_root_name d rows n m) names ≡ true → are_below (λ (x : RootName). x.entity.0) e names ≡ true
+pub no_name : (d : Deployed) (rows : List Entity) (n m e : ℕ) (names : List RootName) → are_below (λ (r : Entity). r.number.0) e rows ≡ true → list_all (is_root_name d rows n m) names ≡ true → are_below (λ (x : RootName). x.entity.0) e names ≡ true
 no_name d rows n m e names below all =
     tests_weaker (is_root_name d rows n m) (λ (x : RootName). nat_lt x.entity.0 e)
     (λ x is. there_below (λ (r : Entity). r.number.0) e x.entity.0 rows (and_parts (is_some (entity_at rows x.entity.0)) _ is).0 below) names all
