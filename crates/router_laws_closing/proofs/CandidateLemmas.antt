@@ -6,7 +6,6 @@ use Rattle.std.proofs.lemmas.Bool.{cases_Bool, and_parts, or_cases}
 use Rattle.std.proofs.lemmas.Bool.Decides.{nat_tests}
 use Rattle.router_state.specs.State.{State}
 use Rattle.router_state.specs.Contexts.{links_on}
-use Rattle.router_state.specs.Fitting.{FitsChange, FitChanges}
 use Rattle.router_state.specs.Ordered.{IsOrdered}
 use Rattle.router_state.specs.Changes.{after_change, after_changes}
 use Rattle.router_state.specs.Trees.{number_of, parent_of, tree_of, with_entity, with_priority, without_entity}
@@ -22,6 +21,7 @@ use Rattle.router_laws_closing.proofs.AboveLemmas.{root_above_is}
 use Rattle.router_laws.specs.Forest.{IsIn}
 use Rattle.router_laws_closing.specs.Loose.{IsForest, IsNumbered, IsRoot, frees, freed_by, is_member}
 use Rattle.router_laws_closing.specs.Candidates.{root_above, candidates, candidates_of}
+use Rattle.router_laws_closing.specs.Keeping.{AllKeepTrees}
 use Rattle.router_laws.proofs.OrderedLemmas.{ordered_after}
 
 -- a root that is there after a change was there before it, or is made by it
@@ -77,7 +77,7 @@ freed_one (changes.DropContext a) s e forest root is = above_links s.entities s.
 freed_one _ s e forest root is = absurd (cc)
 
 -- a root that changes freed is a candidate
-pub freed_in : (cs : List Change) (s : State) (e : ℕ) → IsOrdered s → IsNumbered s → FitChanges cs s
+pub freed_in : (cs : List Change) (s : State) (e : ℕ) → IsOrdered s → IsNumbered s → AllKeepTrees cs s
     → IsRoot (after_changes cs s).entities e → freed_by cs s e ≡ true → IsIn e (candidates cs s)
 freed_in [] s e order numbered fit root is = absurd (cc)
 freed_in (c ∷ cs) s e order numbered fit root is = elim (root_through (c ∷ cs) s e root) [

@@ -10,3 +10,4 @@ pub mod CandidateLemmas
 pub mod MeetingLemmas
 pub mod HeldLemmas
 pub mod ClosedLemmas
+pub mod KeepingLemmas

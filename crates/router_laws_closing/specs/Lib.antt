@@ -1,3 +1,4 @@
 pub mod Idle
 pub mod Loose
 pub mod Candidates
+pub mod Keeping

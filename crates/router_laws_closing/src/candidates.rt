@@ -2,10 +2,10 @@
 ghost use Rattle.std.specs.Prelude.{◌≡◌, ◌≤◌, ℕ, true, List};
 ghost use Rattle.router_laws.specs.Forest.{IsIn};
 ghost use Rattle.router_laws_closing.specs.Candidates.{candidates, root_above};
+ghost use Rattle.router_laws_closing.specs.Keeping.{AllKeepTrees};
 ghost use Rattle.router_laws_closing.specs.Loose.{IsForest, IsNumbered, IsRoot, freed_by};
 ghost use Rattle.router_state.specs.State.{State};
 ghost use Rattle.router_state.specs.Changes.{after_changes};
-ghost use Rattle.router_state.specs.Fitting.{FitChanges};
 ghost use Rattle.router_state.specs.Ordered.{IsOrdered};
 ghost use Rattle.router_state.specs.Trees.{parent_of, tree_of};
 ghost use Rattle.router_state.specs.declared.change.Change.{Change};
@@ -20,5 +20,5 @@ pub fn roots_stand_above_their_trees()
 /// A root that changes freed stands above an entity that was detached, or is new: it is one of the candidates.
 #[tactic(auto, using(crate::proofs::CandidateLemmas::freed_in))]
 pub fn freed_roots_are_candidates()
-    ensures { (cs : List Change) (s : State) (e : ℕ) → IsOrdered s → IsNumbered s → FitChanges cs s → IsRoot (after_changes cs s).entities e → freed_by cs s e ≡ true → IsIn e (candidates cs s) }
+    ensures { (cs : List Change) (s : State) (e : ℕ) → IsOrdered s → IsNumbered s → AllKeepTrees cs s → IsRoot (after_changes cs s).entities e → freed_by cs s e ≡ true → IsIn e (candidates cs s) }
 {}
