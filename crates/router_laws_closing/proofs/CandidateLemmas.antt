@@ -1,14 +1,13 @@
 -- Each root that changes freed is a candidate.
-use Rattle.std.proofs.Common.{◌≡◌, ℕ, ℤ, zero, suc, ◌+◌, ◌<◌, ◌≤◌, ◌==◌, ◌⊎◌, inl, inr, true, false, Bool, List, [], ◌∷◌, ◌++◌, length, filter, map, refl, sym, ◌∙◌, ap, subst, arith}
-use Rattle.std.specs.Prelude.{not, ◌||◌, ◌&&◌}
+use Rattle.std.proofs.Common.{◌≡◌, ℕ, ◌==◌, ◌⊎◌, inl, inr, true, List, [], ◌∷◌, map, sym, ◌∙◌, ap, subst, arith}
+use Rattle.std.specs.Prelude.{not, ◌&&◌}
 use Rattle.std.specs.List.{list_any}
-use Rattle.std.proofs.lemmas.Bool.{cases_Bool, and_parts, or_cases}
-use Rattle.std.proofs.lemmas.Bool.Decides.{nat_tests}
+use Rattle.std.proofs.lemmas.Bool.{cases_Bool}
 use Rattle.router_state.specs.State.{State}
 use Rattle.router_state.specs.Contexts.{links_on}
 use Rattle.router_state.specs.Ordered.{IsOrdered}
 use Rattle.router_state.specs.Changes.{after_change, after_changes}
-use Rattle.router_state.specs.Trees.{number_of, parent_of, tree_of, with_entity, with_priority, without_entity}
+use Rattle.router_state.specs.Trees.{parent_of, tree_of}
 use Rattle.router_state.specs.declared.change.Change.{Change}
 use Rattle.router_state.specs.declared.change.Change.TheVariants as changes
 use Rattle.router_state.specs.declared.rows.Entity.{Entity}
@@ -16,7 +15,7 @@ use Rattle.router_state.specs.declared.rows.Link.{Link}
 use Rattle.router_state.specs.declared.rows.Stem.TheVariants as stems
 use Rattle.router_laws.proofs.ForestLemmas.{in_either, in_left, in_right}
 use Rattle.router_laws_closing.proofs.FreedLemmas.{numbered_after, once_in, only_one, prior_in, prior_number, prior_parent}
-use Rattle.router_laws_closing.proofs.LooseLemmas.{from_member, number_same, same_number, was_in}
+use Rattle.router_laws_closing.proofs.LooseLemmas.{from_member, number_same, was_in}
 use Rattle.router_laws_closing.proofs.AboveLemmas.{root_above_is}
 use Rattle.router_laws.specs.Forest.{IsIn}
 use Rattle.router_laws_closing.specs.Loose.{IsForest, IsNumbered, IsRoot, frees, freed_by, is_member}

@@ -1,7 +1,7 @@
 -- After closing nothing is left to close.
-use Rattle.std.proofs.Common.{◌≡◌, ℕ, suc, ◌+◌, ◌==◌, Bool, true, false, ◌&&◌, ◌||◌, not, List, [], ◌∷◌, ◌++◌, length, map, refl, sym, ◌∙◌, ap, subst, inl, inr, arith}
-use Rattle.std.specs.Prelude.{nat_lt, Option, option_map, Some, None}
-use Rattle.std.specs.List.{AllByRecursion, list_all, list_any}
+use Rattle.std.proofs.Common.{◌≡◌, ℕ, suc, ◌+◌, ◌==◌, Bool, true, false, ◌&&◌, not, List, [], ◌∷◌, ◌++◌, length, map, refl, sym, ◌∙◌, ap, subst, inl, inr, arith}
+use Rattle.std.specs.Prelude.{nat_lt, option_map, Some, None}
+use Rattle.std.specs.List.{AllByRecursion, list_all}
 use Rattle.std.specs.Option.{option_map_or}
 use Rattle.std.proofs.lemmas.Bool.{cases_Bool, cond_both, and_parts, and_from, not_from_false, eqb-true, false_from_ne_true, false≢true}
 use Rattle.std.proofs.lemmas.Bool.Decides.{nat_tests}
@@ -12,25 +12,19 @@ use Rattle.router_laws_closing.proofs.HeldLemmas.{AreApart, IsHeld, roots_held}
 use Rattle.router_laws_closing.proofs.FreedLemmas.{once_in, tops_differ}
 use Rattle.router_laws_closing.proofs.GoingLemmas.{gone_activities}
 use Rattle.router_laws_closing.proofs.IdleLemmas.{end_at, kept_number, still_closed}
-use Rattle.router_laws.proofs.ListRules.{append_nil, filter_in, in_filter}
-use Rattle.router_laws.proofs.Queues.{waiting_more}
-use Rattle.router_laws.proofs.Tests.{tests_map, any_filter}
+use Rattle.router_laws.proofs.ListRules.{filter_in, in_filter}
 use Rattle.router_state.specs.State.{State}
 use Rattle.router_state.specs.Changes.{after_change}
-use Rattle.router_state.specs.Closed.{is_loose, is_stopped, is_in_use, is_unused, are_stopping_with_trees}
+use Rattle.router_state.specs.Closed.{is_loose, is_stopped, are_stopping_with_trees}
 use Rattle.router_state.specs.Contexts.{activity_at, is_null, ends, with_end}
-use Rattle.router_state.specs.Queues.{is_waiting}
 use Rattle.router_state.specs.Services.{with_service as service_set}
 use Rattle.router_state.specs.Trees.{number_of, parent_of, roots, children, tree_of}
 use Rattle.router_state.specs.Well.{IsClosed}
 use Rattle.router_state.specs.declared.change.Change.TheVariants as changes
 use Rattle.router_state.specs.declared.rows.Activity.{Activity}
 use Rattle.router_state.specs.declared.rows.Entity.{Entity}
-use Rattle.router_state.specs.declared.rows.Link.{Link}
-use Rattle.router_state.specs.declared.rows.Named.{Named}
 use Rattle.router_state.specs.declared.rows.Service.{Service}
 use Rattle.router_state.specs.declared.rows.ServiceState.TheVariants as states
-use Rattle.router_state.specs.declared.rows.Timer.{Timer}
 use Rattle.router_steps.specs.Closing.{activity_numbers, close_root, close_roots, close_service, close_services, close_null, close_nulls, is_idle, is_idle_at, closing, without_loose, without_stopped}
 use Rattle.router_steps.specs.Moves.{ended}
 use Rattle.router_steps.specs.Going.{all_removed, removed, tree_removed}

@@ -1,11 +1,10 @@
 -- Behind changes of a closed state only roots that were freed may be loose.
-use Rattle.std.proofs.Common.{◌≡◌, ℕ, ℤ, zero, suc, ◌+◌, ◌<◌, ◌≤◌, ◌==◌, ◌⊎◌, inl, inr, true, false, Bool, List, [], ◌∷◌, ◌++◌, Option, Some, None, length, filter, map, flat_map, find, refl, sym, ◌∙◌, ap, subst, arith, if◌then◌else◌, IsTrue, nat_lt}
-use Rattle.std.specs.Prelude.{not, ◌||◌, ◌&&◌, is_some, sum}
+use Rattle.std.proofs.Common.{◌≡◌, ℕ, ℤ, zero, suc, ◌+◌, ◌<◌, ◌==◌, ◌⊎◌, inl, inr, true, false, Bool, List, [], ◌∷◌, ◌++◌, length, filter, map, flat_map, refl, sym, ◌∙◌, ap, subst, arith, if◌then◌else◌, nat_lt}
+use Rattle.std.specs.Prelude.{not, ◌||◌, ◌&&◌, sum}
 use Rattle.std.specs.List.{list_any, list_all, AllByRecursion}
 use Rattle.std.proofs.lemmas.Bool.{cases_Bool, cond_both, and_parts, not-true}
 use Rattle.std.proofs.lemmas.Bool.Decides.{nat_tests}
 use Rattle.router_state.specs.State.{State}
-use Rattle.rows_sorted.specs.Orders.{put}
 use Rattle.router_state.specs.Closed.{is_loose}
 use Rattle.router_state.specs.Fitting.{has_entity, is_childless, is_detached}
 use Rattle.router_laws_closing.specs.Keeping.{KeepsTrees, AllKeepTrees}
@@ -13,19 +12,18 @@ use Rattle.rows_sorted.specs.Orders.{rises_in}
 use Rattle.router_state.specs.Well.{IsClosed}
 use Rattle.router_state.specs.Contexts.{is_link, link_before, with_link, without_link, without_links_on}
 use Rattle.router_state.specs.Changes.{after_change, after_changes}
-use Rattle.router_state.specs.Trees.{attachment_count, children, count_of, entity_at, has_priority, links_of, number_of, parent_of, roots, tree, tree_of, with_entity, with_priority, without_entity}
+use Rattle.router_state.specs.Trees.{attachment_count, children, count_of, has_priority, links_of, number_of, parent_of, roots, tree, tree_of, with_priority, without_entity}
 use Rattle.router_state.specs.declared.change.Change.{Change}
 use Rattle.router_state.specs.declared.change.Change.TheVariants as changes
 use Rattle.router_state.specs.declared.rows.Entity.{Entity}
-use Rattle.router_state.specs.declared.rows.Stem.{Stem}
 use Rattle.router_state.specs.declared.rows.Stem.TheVariants as stems
 use Rattle.router_state.specs.declared.rows.Link.{Link}
-use Rattle.router_laws.proofs.ForestLemmas.{from_branches, in_either, in_left, in_right, tree_top, trees_whole}
-use Rattle.router_laws.proofs.ListLemmas.{any_joined, any_kept}
+use Rattle.router_laws.proofs.ForestLemmas.{from_branches, in_either, in_left, tree_top, trees_whole}
+use Rattle.router_laws.proofs.ListLemmas.{any_kept}
 use Rattle.router_laws_closing.proofs.IdleLemmas.{any_more, filter_stays, or_left, or_right, put_stays}
 use Rattle.router_laws_closing.proofs.LooseLemmas.{count_is_none, to_member, none_attached, number_same, same_number, some_rows, still_in, was_in}
 use Rattle.router_laws.specs.Forest.{IsIn, AreBelowChildren, AreWhole}
-use Rattle.router_laws_closing.specs.Loose.{AreLooseAmong, AreLooseRootsAmong, DoDiffer, IsForest, IsNumbered, IsRoot, frees, freed_by, is_member}
+use Rattle.router_laws_closing.specs.Loose.{AreLooseAmong, AreLooseRootsAmong, DoDiffer, IsNumbered, IsRoot, frees, freed_by, is_member}
 
 -- nothing is attached where no attachment is found
 

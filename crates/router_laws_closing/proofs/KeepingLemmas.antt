@@ -3,7 +3,7 @@ use Rattle.std.proofs.Common.{List, [], ◌∷◌, refl}
 use Rattle.std.proofs.lemmas.Bool.{and_parts}
 use Rattle.router_state.specs.State.{State}
 use Rattle.router_state.specs.Fits.{has_next}
-use Rattle.router_state.specs.Fitting.{FitsChange, FitChanges, has_entity, is_childless, is_detached}
+use Rattle.router_state.specs.Fitting.{FitsChange, FitChanges, has_entity}
 use Rattle.router_state.specs.Changes.{after_change}
 use Rattle.router_state.specs.declared.change.Change.{Change}
 use Rattle.router_state.specs.declared.change.Change.TheVariants as changes

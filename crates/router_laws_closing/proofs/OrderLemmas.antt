@@ -1,23 +1,22 @@
 -- A tree goes in order: nothing is below an entity when its turn comes.
-use Rattle.std.proofs.Common.{◌≡◌, ℕ, zero, suc, ◌+◌, ◌<◌, ◌≤◌, ◌==◌, ◌⊎◌, inl, inr, true, false, Bool, List, [], ◌∷◌, ◌++◌, length, filter, flat_map, refl, sym, ◌∙◌, ap, subst, arith, if◌then◌else◌, IsTrue}
+use Rattle.std.proofs.Common.{◌≡◌, ℕ, zero, suc, ◌<◌, ◌==◌, inl, inr, true, false, Bool, List, [], ◌∷◌, ◌++◌, filter, flat_map, refl, ◌∙◌, ap, subst, arith, if◌then◌else◌}
 use Rattle.std.specs.Prelude.{not, ◌||◌, ◌&&◌}
-use Rattle.std.specs.List.{list_any, AllByRecursion}
-use Rattle.std.proofs.lemmas.Bool.{cases_Bool, cond_both, and_parts}
+use Rattle.std.specs.List.{list_any}
+use Rattle.std.proofs.lemmas.Bool.{cases_Bool}
 use Rattle.std.proofs.lemmas.Bool.Decides.{nat_tests}
 use Rattle.router_state.specs.State.{State}
-use Rattle.router_state.specs.Contexts.{is_link, without_link}
+use Rattle.router_state.specs.Contexts.{is_link}
 use Rattle.router_state.specs.Fitting.{is_childless, is_detached}
 use Rattle.router_state.specs.Changes.{after_change, after_changes}
-use Rattle.router_state.specs.Trees.{parent_of, tree, tree_of, without_entity}
+use Rattle.router_state.specs.Trees.{parent_of, tree}
 use Rattle.router_state.specs.declared.change.Change.{Change}
 use Rattle.router_state.specs.declared.change.Change.TheVariants as changes
-use Rattle.router_state.specs.declared.rows.Activity.{Activity}
 use Rattle.router_state.specs.declared.rows.Entity.{Entity}
 use Rattle.router_state.specs.declared.rows.Link.{Link}
-use Rattle.router_steps.specs.Going.{changes_of_removal, removed}
+use Rattle.router_steps.specs.Going.{changes_of_removal}
 use Rattle.router_steps.specs.Moves.{changes_of_detaching}
-use Rattle.router_laws.proofs.ForestLemmas.{above_all, above_child, above_top, in_branches, tree_top}
-use Rattle.router_laws_closing.proofs.LooseLemmas.{to_member, number_same, same_number, was_in}
+use Rattle.router_laws.proofs.ForestLemmas.{above_child, in_branches, tree_top}
+use Rattle.router_laws_closing.proofs.LooseLemmas.{number_same}
 use Rattle.router_laws.specs.Forest.{IsIn, AreBelowChildren, above}
 use Rattle.router_laws_closing.specs.Keeping.{KeepsTrees, AllKeepTrees}
 
