@@ -140,7 +140,7 @@ known_gone among s e es are loose =
     } in
     subst (λ rows. AreLooseAmong among rows (tree_removed s e).links es) (sym after.0) (subst (λ ls. AreLooseAmong among kept ls es) (sym after.1) here)
 
-known_closed : (among : ℕ → Bool) (s : State) (e : ℕ) (es : List ℕ) → AreLooseAmong among s.entities s.links (e ∷ es) → AreLooseAmong among (close_root e s).entities (close_root e s).links es
+pub known_closed : (among : ℕ → Bool) (s : State) (e : ℕ) (es : List ℕ) → AreLooseAmong among s.entities s.links (e ∷ es) → AreLooseAmong among (close_root e s).entities (close_root e s).links es
 known_closed among s e es are =
     cond_both (is_loose s.entities s.links e) (tree_removed s e) s (λ (t : State). AreLooseAmong among t.entities t.links es)
     (λ loose. known_gone among s e es are loose)
