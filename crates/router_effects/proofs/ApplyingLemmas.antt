@@ -1,9 +1,12 @@
 -- What effects ask of entities and activities, by what is read of these.
 use Rattle.std.proofs.Common.{◌≡◌, ℕ, List, Bool, true, false, refl, ap, sym, ◌∙◌, Some, None, Option}
-use Rattle.std.specs.Prelude.{◌&&◌, not, is_some, option_map}
+use Rattle.std.specs.Prelude.{◌&&◌, length, nat_lt, not, is_some, option_map}
 use Rattle.std.specs.Option.{option_map_or}
+use Rattle.std.specs.Str.{IsUtf8}
+use Rattle.std.proofs.lemmas.Str.{is_utf8-from_IsUtf8}
 use Rattle.router_state.specs.State.{State}
 use Rattle.router_state.specs.Contexts.{activity_at, is_active, is_null}
+use Rattle.router_state.specs.Fits.{is_text}
 use Rattle.router_state.specs.Fitting.{has_activity, has_entity}
 use Rattle.router_state.specs.Trees.{entity_at}
 use Rattle.router_state.specs.declared.rows.Activity.{Activity}
@@ -49,3 +52,7 @@ null_is_active s a is = by (activity_at s.activities a) is
     by : (o : Option Activity) → option_map_or (λ (row : Activity). is_null row.kind && not row.ending) o false ≡ true → option_map_or (λ (row : Activity). not row.ending) o false ≡ true
     by None both = absurd (cc)
     by (Some row) both = last (is_null row.kind) (not row.ending) both
+
+-- a text of fewer bytes than so many is one of those that are written
+pub text_fits : (text : List ℕ) → IsUtf8 text → nat_lt (length text) 4294967296 ≡ is_text text
+text_fits text utf8 = let good = is_utf8-from_IsUtf8 text utf8 in rw good refl

@@ -12,7 +12,7 @@ ghost use Rattle.router_draft.specs.Drafts.{laid, CanBeMade, IsLow};
 
 use crate::applying::{is_active, is_active_null};
 use crate::suiting::is_text;
-use router_draft::{Draft, change, reading};
+use router_draft::{Base, Draft, change, reading};
 use router_moves::{Setting, end};
 use router_state::{AcKind, Change};
 use slee_value::{ActivityId, NoMemory, Text};
@@ -64,6 +64,20 @@ fn is_new_name(name: &Text) -> bool
     0 < name.len() && is_text(name)
 }
 
+/// Whether the name stands for no activity.
+fn is_free<B: Base>(base: &B, draft: &Draft, name: &Text) -> bool
+    ensures { result ≡ is_none (named_at (laid (B.state base.now) draft.now).names name.now) }
+{
+    reading::named(base, draft, name).is_none()
+}
+
+/// Whether the name stands for an activity.
+fn is_bound<B: Base>(base: &B, draft: &Draft, name: &Text) -> bool
+    ensures { result ≡ is_some (named_at (laid (B.state base.now) draft.now).names name.now) }
+{
+    reading::named(base, draft, name).is_some()
+}
+
 /// A name stands for an Active activity, where it stood for none.
 pub(crate) fn bind<S: Setting>(
     alloc: Global,
@@ -80,7 +94,7 @@ pub(crate) fn bind<S: Setting>(
     if !is_active(setting, draft, activity) {
         return Ok(());
     }
-    if reading::named(setting, draft, name).is_some() {
+    if !is_free(setting, draft, name) {
         return Ok(());
     }
     if !is_new_name(name) {
@@ -103,7 +117,7 @@ pub(crate) fn unbind<S: Setting>(
     ensures lines { OnOk result (draft.new.lines ≡ draft.old.lines) }
     ensures made { OnOk result (CanBeMade (S.state setting.now) draft.new) }
 {
-    if reading::named(setting, draft, name).is_none() {
+    if !is_bound(setting, draft, name) {
         return Ok(());
     }
     let name = name.copy(alloc)?;

@@ -12,7 +12,7 @@ use slee_effect::Val;
 use slee_value::{Kind, Text, Value};
 
 /// The first number of bytes that no text has.
-const TEXT_ROOM: u64 = 1 << 32;
+const TEXT_ROOM: u64 = 4_294_967_296;
 
 /// Whether two kinds are the same.
 fn same_kind(one: Kind, other: Kind) -> bool
@@ -40,7 +40,7 @@ fn kind_of(value: &Val) -> Kind
 }
 
 /// Whether the text is one of those that are written.
-#[tactic(auto, using(Rattle::std::proofs::lemmas::Str::is_utf8-from_IsUtf8))]
+#[tactic(auto, using(crate::proofs::ApplyingLemmas::text_fits))]
 pub(crate) fn is_text(text: &Text) -> bool
     ensures { result ≡ is_text text.now }
 {

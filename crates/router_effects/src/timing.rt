@@ -12,7 +12,7 @@ ghost use Rattle.router_steps.specs.Moves.{resumed, lines_of_resumed};
 ghost use Rattle.router_draft.specs.Drafts.{laid, CanBeMade, IsLow};
 
 use crate::applying::{has_activity, is_active};
-use router_draft::{Draft, change, reading};
+use router_draft::{Base, Draft, change, reading};
 use router_moves::{Setting, resume, suspend};
 use router_state::{Change, TimerSpec};
 use signal_script::CLOCK_LIMIT;
@@ -54,10 +54,10 @@ pub(crate) fn set_timer<S: Setting>(
 }
 
 /// Whether the moment is behind the clock, and one of those that there are.
-fn is_ahead<S: Setting>(setting: &S, draft: &Draft, until: u64) -> bool
-    ensures { result ≡ (nat_lt (laid (S.state setting.now) draft.now).clock until && nat_le until last_moment) }
+fn is_ahead<B: Base>(base: &B, draft: &Draft, until: u64) -> bool
+    ensures { result ≡ (nat_lt (laid (B.state base.now) draft.now).clock until && nat_le until last_moment) }
 {
-    reading::clock(setting, draft) < until && until <= CLOCK_LIMIT
+    reading::clock(base, draft) < until && until <= CLOCK_LIMIT
 }
 
 /// A head event that an entity has received is suspended until a moment that comes.

@@ -102,7 +102,7 @@ fn remove<S: Setting>(
 }
 
 /// These entities go, the first of them first.
-#[tactic(auto, using(crate::proofs::RemovingLemmas::first_can, crate::proofs::RemovingLemmas::rest_can))]
+#[tactic(auto, using(crate::proofs::RemovingLemmas::first_at))]
 fn remove_all<S: Setting>(
     alloc: Global,
     setting: &S,
