@@ -1,6 +1,6 @@
 -- New children.
-use Rattle.std.proofs.Common.{◌≡◌, ℕ, ℤ, List, [], ◌∷◌, ◌++◌, Bool, true, false, refl, ap, sym, ◌∙◌, inl, inr, Some, None, Option}
-use Rattle.std.specs.Prelude.{bytes_eq, find, is_some, option_map, option_and_then, ◌&&◌, if◌then◌else◌}
+use Rattle.std.proofs.Common.{◌≡◌, ℕ, ℤ, List, [], ◌∷◌, ◌++◌, true, refl, ap, sym, ◌∙◌, inl, inr, Some, None, Option}
+use Rattle.std.specs.Prelude.{bytes_eq, is_some, option_map, option_and_then, ◌&&◌, if◌then◌else◌}
 use Rattle.std.specs.Option.{option_map_or}
 use Rattle.std.proofs.lemmas.Bool.{cases_Bool}
 use Rattle.std.proofs.lemmas.Slice.Eq.{bytes_eq-Decides}

@@ -51,5 +51,4 @@ pub(crate) fn is_active_null<B: Base>(base: &B, draft: &Draft, activity: Activit
 #[tactic(auto, using(crate::proofs::SignedLemmas::priority_fits))]
 pub(crate) fn is_priority(_priority: i8)
     ensures { IsTrue (is_priority _priority) }
-{
-}
+{}

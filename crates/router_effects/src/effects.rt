@@ -76,15 +76,7 @@ fn do_effect<S: Setting>(
             event,
             service,
             fields,
-        } => fire(
-            alloc,
-            setting,
-            draft,
-            activity(*a),
-            event,
-            service,
-            fields,
-        ),
+        } => fire(alloc, setting, draft, activity(*a), event, service, fields),
         Effect::NewNull => start_null(alloc, setting, draft),
         Effect::EndNull { activity: a } => end_null(alloc, setting, draft, activity(*a)),
         Effect::SetTimer {
@@ -122,7 +114,6 @@ fn do_effect<S: Setting>(
 }
 
 /// The effects of an entity's handler are done, the first of them first; one that doesn't apply at its turn does nothing.
-#[tactic(auto, using(crate::proofs::DoingLemmas::doing_more, crate::proofs::DoingLemmas::lines_more))]
 pub fn do_effects<S: Setting>(
     alloc: Global,
     setting: &S,

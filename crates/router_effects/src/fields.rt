@@ -76,7 +76,7 @@ pub(crate) fn set_field<S: Setting>(
 }
 
 /// Whether the value suits the attribute of this key, where a block declares one.
-#[tactic(auto, using(Rattle::router_moves::proofs::LinkLemmas::deployment_laid))]
+#[tactic(auto, using(crate::proofs::ApplyingLemmas::deployment_kept))]
 fn suits_attribute<S: Setting>(setting: &S, draft: &Draft, key: &Text, value: &Val) -> bool
     requires { IsLow (S.state setting.now) }
     ensures { result ≡ option_map_or (suits (laid (S.state setting.now) draft.now) value.now) (attribute_kind (laid (S.state setting.now) draft.now).deployment key.now) false }

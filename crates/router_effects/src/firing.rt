@@ -136,11 +136,7 @@ fn values_of(
 
 /// The payload of an event that is fired.
 #[tactic(auto, using(crate::proofs::FiringLemmas::are_named))]
-fn payload_of(
-    alloc: Global,
-    code: &EventCode,
-    fields: &FiredFields,
-) -> Result<Payload, NoMemory>
+fn payload_of(alloc: Global, code: &EventCode, fields: &FiredFields) -> Result<Payload, NoMemory>
     requires { IsTrue (are_declared code.now.fields (map plain_field fields.now)) }
     ensures { IfOk result (λ payload. payload ≡ map plain_field fields.now) }
 {

@@ -59,7 +59,7 @@ pub(crate) fn detach_from<S: Setting>(
 }
 
 /// Whether the event is declared or built in.
-#[tactic(auto, using(Rattle::router_moves::proofs::LinkLemmas::deployment_laid))]
+#[tactic(auto, using(crate::proofs::ApplyingLemmas::deployment_kept))]
 fn is_event<S: Setting>(setting: &S, _draft: &Draft, event: &Text) -> bool
     ensures { result ≡ is_event (laid (S.state setting.now) _draft.now).deployment event.now }
 {

@@ -1,6 +1,6 @@
 -- The lines of suspensions, by the number of the head event.
-use Rattle.std.proofs.Common.{◌≡◌, ℕ, List, [], ◌∷◌, true, false, Bool, refl, ap, ◌∙◌, Some, None, Option}
-use Rattle.std.specs.Prelude.{option_map, if◌then◌else◌}
+use Rattle.std.proofs.Common.{◌≡◌, ℕ, List, [], ◌∷◌, true, false, refl, ap, Some, None, Option}
+use Rattle.std.specs.Prelude.{option_map}
 use Rattle.std.specs.Option.{option_map_or}
 use Rattle.slee_value.specs.declared.ids.EventId.{EventId}
 use Rattle.router_state.specs.State.{State}
