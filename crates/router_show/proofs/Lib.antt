@@ -1,0 +1,4 @@
+pub mod ShowLemmas
+pub mod KeyLemmas
+pub mod OrderLemmas
+pub mod ByteLemmas
