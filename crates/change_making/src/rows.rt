@@ -10,19 +10,32 @@ use slee_value::{Payload, Text};
 pub fn can_add(stores: &Stores, table: u32, row: &Text, fields: &Payload) -> bool
     ensures { result ≡ can_make (changes.AddRow table row.now fields.now) stores.now.state }
 {
-    stores.profiles().test_add(table, row, fields).is_ok()
+    let profiles = stores.profiles();
+    let _count = profiles.len();
+    match profiles.test_add(table, row, fields) {
+        Ok(()) => true,
+        Err(_) => false,
+    }
 }
 
 #[tactic(auto, using(crate::proofs::RowLemmas::update_is))]
 pub fn can_update(stores: &Stores, table: u32, row: &Text, fields: &Payload) -> bool
     ensures { result ≡ can_make (changes.UpdateRow table row.now fields.now) stores.now.state }
 {
-    stores.profiles().test_update(table, row, fields).is_ok()
+    let profiles = stores.profiles();
+    let _count = profiles.len();
+    match profiles.test_update(table, row, fields) {
+        Ok(()) => true,
+        Err(_) => false,
+    }
 }
 
 #[tactic(auto, using(crate::proofs::RowLemmas::remove_is))]
 pub fn can_remove(stores: &Stores, table: u32, row: &Text) -> bool
     ensures { result ≡ can_make (changes.RemoveRow table row.now) stores.now.state }
 {
-    stores.profiles().get(table, row).is_ok()
+    match stores.profiles().get(table, row) {
+        Ok(_) => true,
+        Err(_) => false,
+    }
 }

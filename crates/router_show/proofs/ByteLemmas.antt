@@ -50,11 +50,17 @@ row_is x y = elim (cases_Bool (nat_lt x.table y.table)) [
 rows_total : IsTotalOrder row_cmp
 rows_total = then_total (on_total (λ (row : ProfileRow). row.table) nat_cmp_total) (on_total (λ (row : ProfileRow). row.row) nat_list_cmp_total)
 
-pub rows_rank : IsStrictWeakOrder row_before
-rows_rank = subst IsStrictWeakOrder (λ i x y. row_is x y i) (ranks_by rows_total (λ row. row))
+pub rows_rank : {X : Type 0} (row : X → ProfileRow) → IsStrictWeakOrder (λ x y. row_before (row x) (row y))
+rows_rank row = subst IsStrictWeakOrder (λ i x y. row_is (row x) (row y) i) (ranks_by rows_total row)
+
+pub numbers_rank : {X : Type 0} (number : X → ℕ) → IsStrictWeakOrder (λ x y. nat_lt (number x) (number y))
+numbers_rank number = record {
+  one_way = λ x y before. grind (arith, nat_tests);
+  chain = λ x y z one two. grind (arith, nat_tests);
+}
 
 pub names_back : (names kept : List Named) → rises_by name_before names ≡ true → IsPermutation names kept → sorted (λ x y. is_below x.0 y.0) (map parts_of_name kept) ≡ map parts_of_name names
 names_back names kept rises same = sym (sorted_mapped parts_of_name (λ x y. is_below x.0 y.0) kept) ∙ ap (map parts_of_name) (given_back name_before (texts_rank (λ (row : Named). row.name)) names kept (in_order named_key names rises) same)
 
 pub rows_back : (rows kept : List ProfileRow) → rises_by row_before rows ≡ true → IsPermutation rows kept → sorted row_before kept ≡ rows
-rows_back rows kept rises same = given_back row_before rows_rank rows kept (in_order profile_row_key rows rises) same
+rows_back rows kept rises same = given_back row_before (rows_rank (λ row. row)) rows kept (in_order profile_row_key rows rises) same

@@ -4,11 +4,11 @@ use Rattle.std.specs.Prelude.{flat_map, map, codes, decimal}
 use Rattle.std.proofs.lemmas.List.{append_assoc}
 use Rattle.router_state.specs.Show.{activity_line, by_number, entity_lines, link_line, name_line, pending_line, row_line, service_lines, show_text, timer_line}
 use Rattle.router_state.specs.State.{State}
-use Rattle.router_show.specs.Lines.{line_texts}
+use Rattle.trace_history.specs.Lines.{line_text, line_texts}
 
 joined : (xs ys : List (List ℕ)) → line_texts (xs ++ ys) ≡ line_texts xs ++ line_texts ys
 joined [] ys = refl
-joined (x ∷ xs) ys = ap (λ more. (x ++ codes "\n") ++ more) (joined xs ys) ∙ sym (append_assoc (x ++ codes "\n") (line_texts xs) (line_texts ys))
+joined (x ∷ xs) ys = ap (λ more. line_text x ++ more) (joined xs ys) ∙ sym (append_assoc (line_text x) (line_texts xs) (line_texts ys))
 
 -- the lines of the parts of a state, one after another
 pub shown : (s : State) → show_text s ≡ line_texts ((codes "clock " ++ decimal s.clock) ∷ (codes "inputs " ++ decimal s.inputs) ∷ [])

@@ -3,7 +3,7 @@ ghost use Rattle.std.specs.Prelude.{◌≡◌, ◌++◌, OnOk, if◌then◌else�
 ghost use Rattle.deploy_model.specs.Resolving.{deployed_of};
 ghost use Rattle.router_state.specs.Masks.{masks_of};
 ghost use Rattle.router_state.specs.Show.{activity_line, kind_words, link_line, mask_words, name_line, spaced};
-ghost use Rattle.router_show.specs.Lines.{line_text, line_texts};
+ghost use Rattle.trace_history.specs.Lines.{line_text, line_texts};
 
 use crate::keys::{service_key, table_name};
 use crate::words::{put, put_number, put_spaced, put_word};

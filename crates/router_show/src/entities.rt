@@ -2,7 +2,7 @@
 ghost use Rattle.std.specs.Prelude.{◌≡◌, ◌++◌, OnOk, flat_map, map};
 ghost use Rattle.deploy_model.specs.Resolving.{deployed_of};
 ghost use Rattle.router_state.specs.Show.{entity_line, entity_lines, field_line, stem_words};
-ghost use Rattle.router_show.specs.Lines.{line_text, line_texts};
+ghost use Rattle.trace_history.specs.Lines.{line_text, line_texts};
 
 use crate::keys::{block_key, service_key};
 use crate::words::{put, put_value};

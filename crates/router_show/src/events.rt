@@ -1,7 +1,8 @@
 //! The lines of events that wait.
-ghost use Rattle.std.specs.Prelude.{◌≡◌, ◌++◌, IfOk, OnOk, map};
+ghost use Rattle.std.specs.Prelude.{◌≡◌, ◌++◌, IfOk, OnOk, map, nat_lt};
+ghost use Rattle.std.specs.Ordering.{is_lt};
 ghost use Rattle.router_state.specs.Show.{by_number, is_head, pending_line, suspended_words};
-ghost use Rattle.router_show.specs.Lines.{line_text, line_texts};
+ghost use Rattle.trace_history.specs.Lines.{line_text, line_texts};
 
 use crate::words::{put, put_number};
 use event_queue::Queues;
@@ -9,6 +10,7 @@ use router_state::Queued;
 use router_stores::Stores;
 use slee_value::NoMemory;
 use std::alloc::Global;
+use std::cmp::Ordering;
 
 fn is_head(queues: &Queues, row: &Queued) -> bool
     ensures { result ≡ is_head queues.now.events row.now.activity.0 row.now.event.id.0 }
@@ -69,12 +71,18 @@ fn queued(alloc: Global, queues: &Queues) -> Result<Vec<&Queued>, NoMemory>
     Ok(events)
 }
 
+fn compare(one: &Queued, other: &Queued) -> Ordering
+    ensures { is_lt result ≡ nat_lt one.now.event.id.0 other.now.event.id.0 }
+{
+    one.event.id.0.cmp(&other.event.id.0)
+}
+
 /// Puts the events in order by number. Of two with the same number the later one goes first, so the list is turned round before a stable sort.
 fn put_in_order(events: &mut Vec<&Queued>) -> Result<(), NoMemory>
     ensures { OnOk result (map (λ q. q.now) events.new.items ≡ by_number (map (λ q. q.now) events.old.items)) }
 {
     events.reverse();
-    events.sort_by(|one, other| one.event.id.0.cmp(&other.event.id.0))?;
+    events.sort_by(|one, other| compare(one, other))?;
     Ok(())
 }
 

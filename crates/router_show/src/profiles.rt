@@ -2,7 +2,7 @@
 ghost use Rattle.std.specs.Prelude.{◌≡◌, ◌++◌, OnOk, map};
 ghost use Rattle.deploy_model.specs.Resolving.{deployed_of};
 ghost use Rattle.router_state.specs.Show.{attribute_word, row_line, spaced};
-ghost use Rattle.router_show.specs.Lines.{line_text, line_texts};
+ghost use Rattle.trace_history.specs.Lines.{line_text, line_texts};
 
 use crate::keys::table_name;
 use crate::words::{put, put_value, put_word};

@@ -2,7 +2,7 @@
 ghost use Rattle.std.specs.Prelude.{◌≡◌, ◌++◌, OnOk};
 ghost use Rattle.deploy_model.specs.Resolving.{deployed_of};
 ghost use Rattle.router_state.specs.Show.{service_lines, state_word};
-ghost use Rattle.router_show.specs.Lines.{line_texts};
+ghost use Rattle.trace_history.specs.Lines.{line_texts};
 
 use crate::keys::service_key;
 use crate::words::put_line;

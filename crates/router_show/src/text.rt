@@ -2,7 +2,7 @@
 ghost use Rattle.std.specs.Prelude.{◌≡◌, ◌++◌, ◌∷◌, [], OnOk, codes, decimal};
 ghost use Rattle.deploy_model.specs.Resolving.{deployed_of};
 ghost use Rattle.router_state.specs.Show.{show_text};
-ghost use Rattle.router_show.specs.Lines.{line_texts};
+ghost use Rattle.trace_history.specs.Lines.{line_texts};
 
 use crate::byte_order::{names_in_order, rows_in_order};
 use crate::contexts::{put_activities, put_links, put_names};

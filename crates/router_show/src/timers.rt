@@ -1,7 +1,7 @@
 //! The lines of timers.
 ghost use Rattle.std.specs.Prelude.{◌≡◌, ◌++◌, OnOk, map};
 ghost use Rattle.router_state.specs.Show.{timer_line};
-ghost use Rattle.router_show.specs.Lines.{line_text, line_texts};
+ghost use Rattle.trace_history.specs.Lines.{line_text, line_texts};
 
 use crate::words::put_line;
 use router_state::Timer;

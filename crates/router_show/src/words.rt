@@ -1,7 +1,8 @@
 //! Words of lines.
-ghost use Rattle.std.specs.Prelude.{◌≡◌, ◌++◌, ◌∷◌, [], OnOk, codes, decimal};
+ghost use Rattle.std.specs.Prelude.{◌≡◌, ◌++◌, ◌∷◌, [], true, OnOk, codes, decimal};
+ghost use Rattle.slee_value.specs.Escape.{escaped};
 ghost use Rattle.router_state.specs.Show.{printed, reference, spaced};
-ghost use Rattle.router_show.specs.Lines.{line_text};
+ghost use Rattle.trace_history.specs.Lines.{line_text};
 
 use slee_value::{NoMemory, Value, escape};
 use std::alloc::Global;
@@ -40,7 +41,7 @@ pub fn put_number(alloc: Global, number: u64, into: &mut Vec<u8>) -> Result<(), 
 
 /// Adds a text as a word, with bytes escaped that would break it.
 pub fn put_word(text: &[u8], into: &mut Vec<u8>) -> Result<(), NoMemory>
-    ensures { OnOk result (into.new.items ≡ into.old.items ++ Rattle.slee_value.specs.Escape.escaped Rattle.std.specs.Prelude.true text.now) }
+    ensures { OnOk result (into.new.items ≡ into.old.items ++ escaped true text.now) }
 {
     escape(text, true, into)
 }

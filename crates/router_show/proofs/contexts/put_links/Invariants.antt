@@ -1,7 +1,7 @@
 -- the lines so far and those of the others
 use Rattle.std.proofs.Common.{◌≡◌, ◌++◌, drop, map}
 use Rattle.router_state.specs.Show.{link_line}
-use Rattle.router_show.specs.Lines.{line_texts}
+use Rattle.trace_history.specs.Lines.{line_texts}
 use Rattle.router_show.proofs.contexts.put_links.Given as goal
 
 abbrev pub invariant-rows : goal.invariant-rows

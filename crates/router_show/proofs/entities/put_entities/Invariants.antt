@@ -2,7 +2,7 @@
 use Rattle.std.proofs.Common.{◌≡◌, ◌++◌, drop, map}
 use Rattle.std.specs.Prelude.{flat_map}
 use Rattle.router_state.specs.Show.{entity_lines}
-use Rattle.router_show.specs.Lines.{line_texts}
+use Rattle.trace_history.specs.Lines.{line_texts}
 use Rattle.router_show.proofs.entities.put_entities.Given as goal
 
 abbrev pub invariant-rows : goal.invariant-rows

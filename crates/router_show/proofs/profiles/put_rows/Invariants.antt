@@ -2,7 +2,7 @@
 use Rattle.std.proofs.Common.{◌≡◌, ◌++◌, drop, map}
 use Rattle.deploy_model.specs.Resolving.{deployed_of}
 use Rattle.router_state.specs.Show.{row_line}
-use Rattle.router_show.specs.Lines.{line_texts}
+use Rattle.trace_history.specs.Lines.{line_texts}
 use Rattle.router_show.proofs.profiles.put_rows.Given as goal
 
 abbrev pub invariant-rows : goal.invariant-rows
