@@ -1,5 +1,5 @@
 -- Names and rows that rise are found again where they are put in byte order.
-use Rattle.std.proofs.Common.{Less, Equal, Greater, ◌≡◌, ℕ, ◌<◌, ◌==◌, true, false, List, map, refl, sym, ap, subst, ◌∙◌, arith, inl, inr}
+use Rattle.std.proofs.Common.{Bor, Bool, Less, Equal, Greater, ◌≡◌, ℕ, ◌<◌, ◌==◌, true, false, List, map, refl, sym, ap, subst, ◌∙◌, arith, inl, inr}
 use Rattle.std.specs.Prelude.{◌||◌, ◌&&◌, nat_lt}
 use Rattle.std.specs.declared.cmp.Ordering.{Ordering}
 use Rattle.std.specs.Cmp.{IsStrictWeakOrder, IsTotalOrder, nat_cmp_is}
@@ -20,11 +20,19 @@ use Rattle.router_state.specs.Keys.{named_key, profile_row_key}
 use Rattle.router_state.specs.Profiles.{row_before}
 use Rattle.router_state.specs.declared.rows.Named.{Named}
 use Rattle.router_state.specs.declared.rows.ProfileRow.{ProfileRow}
+use Rattle.router_state.specs.declared.rows.Queued.{Queued}
 use Rattle.activity_context.specs.Views.{parts_of_name}
 use Rattle.router_show.proofs.OrderLemmas.{given_back}
 
-pub texts_rank : {X : Type 0} (text : X → List ℕ) → IsStrictWeakOrder (λ x y. is_below (text x) (text y))
+texts_rank : {X : Type 0} (text : X → List ℕ) → IsStrictWeakOrder (λ x y. is_below (text x) (text y))
 texts_rank text = ranks_by nat_list_cmp_total text
+
+-- borrowed names by their bytes
+abbrev pub seen_before : Bor (List ℕ) × ActivityId → Bor (List ℕ) × ActivityId → Bool
+seen_before x y = is_below x.0.now y.0.now
+
+pub names_rank : IsStrictWeakOrder seen_before
+names_rank = texts_rank (λ (x : Bor (List ℕ) × ActivityId). x.0.now)
 
 abbrev row_cmp : ProfileRow → ProfileRow → Ordering
 row_cmp x y = ordering_then (nat_cmp x.table y.table) (slice_cmp nat_cmp x.row y.row)
@@ -50,11 +58,22 @@ row_is x y = elim (cases_Bool (nat_lt x.table y.table)) [
 rows_total : IsTotalOrder row_cmp
 rows_total = then_total (on_total (λ (row : ProfileRow). row.table) nat_cmp_total) (on_total (λ (row : ProfileRow). row.row) nat_list_cmp_total)
 
-pub rows_rank : {X : Type 0} (row : X → ProfileRow) → IsStrictWeakOrder (λ x y. row_before (row x) (row y))
+rows_rank : {X : Type 0} (row : X → ProfileRow) → IsStrictWeakOrder (λ x y. row_before (row x) (row y))
 rows_rank row = subst IsStrictWeakOrder (λ i x y. row_is (row x) (row y) i) (ranks_by rows_total row)
 
-pub numbers_rank : {X : Type 0} (number : X → ℕ) → IsStrictWeakOrder (λ x y. nat_lt (number x) (number y))
-numbers_rank number = record {
+-- borrowed rows by table and by the bytes of their names
+abbrev pub borrowed_before : Bor ProfileRow → Bor ProfileRow → Bool
+borrowed_before x y = row_before x.now y.now
+
+pub borrowed_rank : IsStrictWeakOrder borrowed_before
+borrowed_rank = rows_rank (λ (x : Bor ProfileRow). x.now)
+
+-- borrowed events by number
+abbrev pub event_before : Bor Queued → Bor Queued → Bool
+event_before x y = nat_lt x.now.event.id.0 y.now.event.id.0
+
+pub event_rank : IsStrictWeakOrder event_before
+event_rank = record {
   one_way = λ x y before. grind (arith, nat_tests);
   chain = λ x y z one two. grind (arith, nat_tests);
 }

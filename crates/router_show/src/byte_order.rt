@@ -5,6 +5,7 @@ ghost use Rattle.slee_value.specs.Order.{is_below};
 ghost use Rattle.rows_sorted.specs.Orders.{sorted};
 ghost use Rattle.router_state.specs.Profiles.{row_before};
 ghost use Rattle.activity_context.specs.Views.{parts_of_name};
+ghost use Rattle.router_show.specs.Names.{names_seen};
 
 use activity_context::Contexts;
 use profile_tables::Profiles;
@@ -15,8 +16,9 @@ use std::alloc::Global;
 use std::cmp::Ordering;
 
 fn names_kept(alloc: Global, contexts: &Contexts) -> Result<Vec<(&Text, ActivityId)>, NoMemory>
-    ensures { IfOk result (λ v. map (λ x. (x.0.now, x.1)) v.items ≡ map parts_of_name contexts.now.names_kept) }
+    ensures { IfOk result (λ v. names_seen v.items ≡ map parts_of_name contexts.now.names_kept) }
 {
+    contexts.ordered();
     let mut names = Vec::new(alloc);
     'names: for place in 0..contexts.names_len() {
         names.push(contexts.names_at(place))?;
@@ -26,7 +28,7 @@ fn names_kept(alloc: Global, contexts: &Contexts) -> Result<Vec<(&Text, Activity
 
 /// Puts names in byte order. The list is turned round before a stable sort, which so is the one of the definitions.
 fn sort_names(names: &mut Vec<(&Text, ActivityId)>) -> Result<(), NoMemory>
-    ensures { OnOk result (map (λ x. (x.0.now, x.1)) names.new.items ≡ sorted (λ x y. is_below x.0 y.0) (map (λ x. (x.0.now, x.1)) names.old.items)) }
+    ensures { OnOk result (names_seen names.new.items ≡ sorted (λ x y. is_below x.0 y.0) (names_seen names.old.items)) }
 {
     names.reverse();
     names.sort_by(|one, other| one.0.compare(other.0))?;
@@ -35,7 +37,7 @@ fn sort_names(names: &mut Vec<(&Text, ActivityId)>) -> Result<(), NoMemory>
 
 /// All names of the naming facility, in byte order.
 pub fn names_in_order(alloc: Global, stores: &Stores) -> Result<Vec<(&Text, ActivityId)>, NoMemory>
-    ensures { IfOk result (λ v. map (λ x. (x.0.now, x.1)) v.items ≡ map parts_of_name stores.now.state.names) }
+    ensures { IfOk result (λ v. names_seen v.items ≡ map parts_of_name stores.now.state.names) }
 {
     let contexts = stores.contexts();
     contexts.ordered();

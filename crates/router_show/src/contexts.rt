@@ -4,6 +4,7 @@ ghost use Rattle.deploy_model.specs.Resolving.{deployed_of};
 ghost use Rattle.router_state.specs.Masks.{masks_of};
 ghost use Rattle.router_state.specs.Show.{activity_line, kind_words, link_line, mask_words, name_line, spaced};
 ghost use Rattle.trace_history.specs.Lines.{line_text, line_texts};
+ghost use Rattle.router_show.specs.Names.{name_parts_line, names_seen};
 
 use crate::keys::{service_key, table_name};
 use crate::words::{put, put_number, put_spaced, put_word};
@@ -85,6 +86,7 @@ fn put_events(masks: Run<'_, Mask>, into: &mut Vec<u8>) -> Result<(), NoMemory>
 }
 
 /// Adds the masks of an attachment, if there are any.
+#[tactic(auto, using(crate::proofs::ShowLemmas::masks_spelled))]
 fn put_masks(
     masks: &Masks,
     entity: EntityId,
@@ -117,6 +119,7 @@ fn put_link(
 }
 
 /// Adds the lines of all attachments.
+#[tactic(auto, using(crate::proofs::KeptLemmas::next_link))]
 pub fn put_links(alloc: Global, stores: &Stores, into: &mut Vec<u8>) -> Result<(), NoMemory>
     ensures { OnOk result (into.new.items ≡ into.old.items ++ line_texts (map (link_line stores.now.state) stores.now.state.links)) }
 {
@@ -148,7 +151,7 @@ pub fn put_names(
     names: &[(&Text, ActivityId)],
     into: &mut Vec<u8>,
 ) -> Result<(), NoMemory>
-    ensures { OnOk result (into.new.items ≡ into.old.items ++ line_texts (map (λ x. name_line (record { name = x.0.now; activity = x.1 })) names.now)) }
+    ensures { OnOk result (into.new.items ≡ into.old.items ++ line_texts (map name_parts_line (names_seen names.now))) }
 {
     'names: for (name, activity) in names {
         put_name(alloc, name, *activity, into)?;

@@ -92,7 +92,7 @@ fn put_each(
     events: &[&Queued],
     into: &mut Vec<u8>,
 ) -> Result<(), NoMemory>
-    ensures { OnOk result (into.new.items ≡ into.old.items ++ line_texts (map (λ q. pending_line stores.now.state q.now) events.now)) }
+    ensures { OnOk result (into.new.items ≡ into.old.items ++ line_texts (map (pending_line stores.now.state) (map (λ q. q.now) events.now))) }
 {
     'events: for event in events {
         put_pending(alloc, stores, event, into)?;

@@ -52,7 +52,7 @@ pub fn put_rows(
     rows: &[&ProfileRow],
     into: &mut Vec<u8>,
 ) -> Result<(), NoMemory>
-    ensures { OnOk result (into.new.items ≡ into.old.items ++ line_texts (map (λ row. row_line (deployed_of deployment.now.parts) row.now) rows.now)) }
+    ensures { OnOk result (into.new.items ≡ into.old.items ++ line_texts (map (row_line (deployed_of deployment.now.parts)) (map (λ row. row.now) rows.now))) }
 {
     'rows: for row in rows {
         put_row(alloc, deployment, row, into)?;

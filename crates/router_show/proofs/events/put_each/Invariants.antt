@@ -6,4 +6,4 @@ use Rattle.router_show.proofs.events.put_each.Given as goal
 
 abbrev pub invariant-events : goal.invariant-events
 invariant-events l =
-    l.into.items ++ line_texts (map (λ q. pending_line l.stores.state q.now) (drop l.event-index l.events)) ≡ l.fn.into.items ++ line_texts (map (λ q. pending_line l.stores.state q.now) l.events)
+    l.into.items ++ line_texts (map (pending_line l.stores.state) (map (λ q. q.now) (drop l.event-index l.events))) ≡ l.fn.into.items ++ line_texts (map (pending_line l.stores.state) (map (λ q. q.now) l.events))

@@ -7,4 +7,4 @@ use Rattle.router_show.proofs.profiles.put_rows.Given as goal
 
 abbrev pub invariant-rows : goal.invariant-rows
 invariant-rows l =
-    l.into.items ++ line_texts (map (λ row. row_line (deployed_of l.deployment.parts) row.now) (drop l.row-index l.rows)) ≡ l.fn.into.items ++ line_texts (map (λ row. row_line (deployed_of l.deployment.parts) row.now) l.rows)
+    l.into.items ++ line_texts (map (row_line (deployed_of l.deployment.parts)) (map (λ row. row.now) (drop l.row-index l.rows))) ≡ l.fn.into.items ++ line_texts (map (row_line (deployed_of l.deployment.parts)) (map (λ row. row.now) l.rows))
