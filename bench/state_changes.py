@@ -44,7 +44,6 @@ ONE_BLOCK = json.dumps(
 
 KEEPS = {"all": "All", "last": "Last", "none-missed": "NoneMissed"}
 STATES = {"inactive": "Inactive", "active": "Active", "stopping": "Stopping"}
-PLACES = "block service table".split()
 
 
 def escaped(text):
@@ -276,7 +275,7 @@ class Played:
 
     def __init__(self, world, source):
         self.world, self.words = world, Words(world)
-        self.deployment = deployments.Deployment(world, source)
+        self.deployment = deployments.Deployment(world, without_scripts(source))
         self.state = world.eval("router_state.specs.Initial.initial")(self.deployment.deployed, self.deployment.program)
         self.after = world.eval("router_state.specs.Changes.after_change")
         self.can_make = world.eval("router_stores.specs.Making.can_make")
@@ -450,8 +449,40 @@ def row_of_high_numbers():
     return ONE_BLOCK, lines
 
 
+def without_scripts(source):
+    """The deployment as far as changes and what is asked of them know it."""
+    whole = json.loads(source)
+    keep = lambda part, *names: component(part["key"], **{name: part[name] for name in names if name in part})
+    handler = lambda it: {"event": it["event"], "on": "", **({"initial": ["activity"]} if "initial" in it else {})}
+    return json.dumps(
+        {
+            "events": [keep(it) for it in whole.get("events", [])],
+            "profiles": [keep(it, "attributes", "unique") for it in whole.get("profiles", [])],
+            "tables": whole.get("tables", {}),
+            "blocks": [component(it["key"], events=list(map(handler, it.get("events", [])))) for it in whole.get("blocks", [])],
+            "services": [keep(it, "root", "priority", "active") for it in whole.get("services", [])],
+        }
+    )
+
+
+def parts_in_words(source):
+    """The lines of a deployment."""
+    whole = json.loads(source)
+    for it in whole["events"]:
+        yield f"event {it['key']}"
+    for it in whole["profiles"]:
+        attributes = deployments.in_order(it.get("attributes", {}))
+        yield " ".join(["profile", it["key"], *(f"{name}:{kind}" + "!" * (name in it.get("unique", [])) for name, kind in attributes)])
+    for name, profile in deployments.in_order(whole["tables"]):
+        yield f"table {name} {profile}"
+    for it in whole["blocks"]:
+        yield " ".join(["block", it["key"], *(h["event"] + "!" * ("initial" in h) for h in it["events"])])
+    for it in whole["services"]:
+        yield f"service {it['key']} {it['root']} {it.get('priority', 0)} {'active' if it.get('active') else 'inactive'}"
+
+
 def spelled(source, lines):
-    return json.dumps(json.loads(source), separators=(",", ":"), ensure_ascii=False) + "\n" + "".join(line + "\n" for line in lines) + "\n"
+    return "".join(line + "\n" for line in [*parts_in_words(source), "begin", *lines]) + "\n"
 
 
 def write(world):
@@ -462,7 +493,7 @@ def write(world):
         if len(text) > LONG_ROW:
             print(f"{name}: {len(text)} bytes, left out", file=sys.stderr)
             continue
-        rows.append(spelled(source, lines))
+        rows.append(spelled(without_scripts(source), lines))
         texts.append(text)
     with open(os.path.join(FOLDER, "stdin"), "w", encoding="utf-8") as f:
         f.write("".join(rows))
@@ -621,7 +652,7 @@ def compare(world, count, seed):
             lines, said = dice.row(dice.random.choice((10, 40, 80)))
             changes += len(lines)
             rows.append((place, lines, said))
-        ran = subprocess.run([PROGRAM], input="".join(spelled(GROUND, lines) for _, lines, _ in rows).encode(), capture_output=True, check=False)
+        ran = subprocess.run([PROGRAM], input="".join(spelled(without_scripts(GROUND), lines) for _, lines, _ in rows).encode(), capture_output=True, check=False)
         if ran.returncode or ran.stdout.decode() != "".join(said for _, _, said in rows):
             wrong += differing(rows)
     print(f"{count} lists of {changes} lines by the seed {seed}: {wrong} differ")
@@ -631,7 +662,7 @@ def compare(world, count, seed):
 def differing(rows):
     wrong = 0
     for place, lines, said in rows:
-        ran = subprocess.run([PROGRAM], input=spelled(GROUND, lines).encode(), capture_output=True, check=False)
+        ran = subprocess.run([PROGRAM], input=spelled(without_scripts(GROUND), lines).encode(), capture_output=True, check=False)
         if ran.returncode or ran.stdout.decode() != said:
             wrong += 1
             print(f"list {place} (status {ran.returncode}):\n" + "\n".join(lines) + f"\n--- by definitions\n{said}--- by the program\n{ran.stdout.decode()}", flush=True)

@@ -8,24 +8,23 @@ use crate::keys::key_of;
 use crate::words::activity_at;
 use bench_rounds::{Asked, one_of};
 use change_making::make;
-use deploy_json::read_deployment;
 use router_choice::{least, next};
 use router_look::look;
 use router_state::Change;
 use router_stores::Stores;
 use slee_descriptor::Deployment;
 use slee_value::{ActivityId, NoMemory};
+use state_words::deployment_of;
 use std::alloc::Global;
 use std::mem::forget;
 
-/// A block with a field, an attribute and a relation to itself, and a profile table in which no two rows have the same pin.
-const DEPLOYMENT: &str =
-    r#"{"events":[{"key":"ping","name":"Ping","vendor":"t","version":"1"},{"key":"pong","name":"Pong","vendor":"t","version":"1"}],
-"profiles":[{"key":"account","name":"Account","vendor":"t","version":"1","attributes":{"pin":"int"},"unique":["pin"]}],
-"tables":{"accounts":"account"},
-"blocks":[{"key":"b","name":"B","vendor":"t","version":"1","fields":{"n":"int"},"attributes":{"n":"int"},"relations":{"leg":{"block":"b"}},
-"events":[{"event":"ping","initial":["activity"],"on":""},{"event":"pong","on":""}]}],
-"services":[{"key":"s","name":"S","vendor":"t","version":"1","root":"b","active":true}]}"#;
+/// A block that handles two events, and a profile table in which no two rows have the same pin.
+const DEPLOYMENT: &str = "event ping
+event pong
+profile account pin:int!
+table accounts account
+block b ping! pong
+service s b 0 active";
 
 // Steps of a row are fewer.
 const STEPS: u64 = 8;
@@ -169,16 +168,21 @@ fn play_all(
     Ok(Some(sum))
 }
 
-/// The sum over what the calls answered, or none where there is no such call.
-pub fn measured(asked: &Asked<'_>) -> Result<Option<u64>, NoMemory> {
-    let checked = match read_deployment(asked.alloc, DEPLOYMENT.as_bytes()) {
-        Ok(checked) => checked,
-        Err(_) => return Err(NoMemory),
-    };
-    let deployment = checked.deployment();
+/// The rounds of a call over a new state of the deployment.
+fn play_over(asked: &Asked<'_>, deployment: &Deployment) -> Result<Option<u64>, NoMemory> {
     let mut stores = Stores::initial(asked.alloc, deployment)?;
     let sum = play_all(asked, deployment, &mut stores);
     forget(stores);
-    forget(checked);
+    sum
+}
+
+/// The sum over what the calls answered, or none where there is no such call.
+pub fn measured(asked: &Asked<'_>) -> Result<Option<u64>, NoMemory> {
+    let deployment = match deployment_of(asked.alloc, DEPLOYMENT) {
+        Ok(deployment) => deployment,
+        Err(_) => return Err(NoMemory),
+    };
+    let sum = play_over(asked, &deployment);
+    forget(deployment);
     sum
 }

@@ -5,7 +5,6 @@ ghost use Rattle.deploy_model.specs.Resolving.{deployed_of};
 use crate::answers::{put_least, put_next};
 use crate::seen::put_seen;
 use change_making::make;
-use change_words::change_of;
 use golden_words::{Trouble, key_of, number_of};
 use router_choice::{least, next};
 use router_look::look;
@@ -13,6 +12,7 @@ use router_show::show;
 use router_stores::Stores;
 use slee_descriptor::Deployment;
 use slee_value::ActivityId;
+use state_words::change_of;
 use std::alloc::Global;
 
 /// Makes a change, or says that it can't be made.

@@ -3,10 +3,10 @@ ghost use Rattle.std.specs.Prelude.{◌≡◌};
 ghost use Rattle.deploy_model.specs.Resolving.{deployed_of};
 
 use crate::asking::play_line;
-use deploy_json::{ReadFault, read_deployment};
 use golden_words::Trouble;
 use router_stores::Stores;
 use slee_descriptor::Deployment;
+use state_words::deployment_of;
 use std::alloc::Global;
 use std::{io, mem, str};
 
@@ -25,15 +25,11 @@ pub fn play(rt: &HostRuntime) -> Result<(), Trouble> {
 }
 
 fn play_row(alloc: Global, row: &str, out: &mut Vec<u8>) -> Result<(), Trouble> {
-    let (source, lines) = row.split_once('\n').unwrap_or((row, ""));
-    let checked = match read_deployment(alloc, source.as_bytes()) {
-        Ok(checked) => checked,
-        Err(ReadFault::NoMemory) => return Err(Trouble::Memory),
-        Err(_) => return Err(Trouble::Words),
-    };
-    let played = play_lines(alloc, checked.deployment(), lines, out);
+    let (parts, lines) = row.split_once("\nbegin\n").unwrap_or((row, ""));
+    let deployment = deployment_of(alloc, parts)?;
+    let played = play_lines(alloc, &deployment, lines, out);
     // A deployment is never freed: a program of rows ends soon.
-    mem::forget(checked);
+    mem::forget(deployment);
     played
 }
 

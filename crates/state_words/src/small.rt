@@ -1,8 +1,8 @@
 //! Numbers and words of a few values.
 
-use golden_words::{Trouble, number_of, value_of};
+use golden_words::{Trouble, name_of, number_of, value_of};
 use router_state::{AcKind, ServiceState};
-use slee_value::{ActivityId, EntityId, Keep, Value};
+use slee_value::{ActivityId, EntityId, Keep, Kind, Value};
 use std::alloc::Global;
 
 /// The word for nothing.
@@ -48,6 +48,18 @@ pub fn typed_value(alloc: Global, word: &str) -> Result<Value, Trouble> {
     }
 }
 
+/// The kind of a word.
+pub fn kind_word(word: &str) -> Result<Kind, Trouble> {
+    match word {
+        "int" => Ok(Kind::Int),
+        "text" => Ok(Kind::Text),
+        "bool" => Ok(Kind::Bool),
+        "activity" => Ok(Kind::Activity),
+        "timer" => Ok(Kind::Timer),
+        _ => Err(Trouble::Words),
+    }
+}
+
 pub fn keep_of(word: &str) -> Result<Keep, Trouble> {
     match word {
         "all" => Ok(Keep::All),
@@ -69,7 +81,7 @@ pub fn state_of(word: &str) -> Result<ServiceState, Trouble> {
 /// What a new activity stands for.
 pub fn kind_of(alloc: Global, words: &[&str]) -> Result<AcKind, Trouble> {
     match words {
-        ["external", name] => Ok(AcKind::External(golden_words::name_of(alloc, name)?)),
+        ["external", name] => Ok(AcKind::External(name_of(alloc, name)?)),
         ["null"] => Ok(AcKind::Null),
         ["service", service] => Ok(AcKind::Service(place_of(service)?)),
         ["table", table] => Ok(AcKind::Table(place_of(table)?)),
