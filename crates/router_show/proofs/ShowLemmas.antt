@@ -2,8 +2,10 @@
 use Rattle.std.proofs.Common.{◌≡◌, ℕ, List, [], ◌∷◌, ◌++◌, refl, sym, ap, ◌∙◌}
 use Rattle.std.specs.Prelude.{flat_map, if◌then◌else◌, is_some, map, codes, decimal, slice_get}
 use Rattle.std.proofs.lemmas.List.{append_assoc}
-use Rattle.router_state.specs.Show.{activity_line, by_number, entity_lines, link_line, mask_words, name_line, pending_line, row_line, service_lines, show_text, spaced, timer_line}
+use Rattle.router_state.specs.Show.{activity_line, by_number, entity_lines, field_line, link_line, mask_words, name_line, pending_line, row_line, service_lines, show_text, spaced, timer_line}
 use Rattle.router_state.specs.State.{State}
+use Rattle.slee_value.specs.declared.value.Value.{Value}
+use Rattle.router_state.specs.declared.rows.Field.{Field}
 use Rattle.router_state.specs.declared.rows.Mask.{Mask}
 use Rattle.router_state.specs.declared.rows.Named.{Named}
 use Rattle.activity_context.specs.Views.{parts_of_name}
@@ -70,3 +72,8 @@ shown s start a b c d e f g h i one two three four five six seven eight nine =
 pub masks_spelled : (masks : List Mask) → mask_words (map (λ m. m.event) masks) ≡ (if is_some (slice_get masks 0) then codes " masked" else []) ++ spaced (map (λ m. m.event) masks)
 masks_spelled [] = refl
 masks_spelled (mask ∷ masks) = refl
+
+-- the lines of fields are those of the pairs that they are seen as
+pub fields_lined : (rows : List Field) → map (λ row. field_line (row.name, row.value)) rows ≡ map field_line (map {B = List ℕ × Value} (λ row. (row.name, row.value)) rows)
+fields_lined [] = refl
+fields_lined (row ∷ rows) = ap (λ more. field_line (row.name, row.value) ∷ more) (fields_lined rows)

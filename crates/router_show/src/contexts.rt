@@ -39,9 +39,9 @@ fn put_kind(deployment: &Deployment, kind: &AcKind, into: &mut Vec<u8>) -> Resul
 }
 
 fn ending_word(ending: bool) -> &'static str
-    ensures { result.now ≡ (if ending then codes " ending " else codes " active ") }
+    ensures { result.now ≡ (if ending then codes "ending" else codes "active") }
 {
-    if ending { " ending " } else { " active " }
+    if ending { "ending" } else { "active" }
 }
 
 /// Adds the line of an activity.
@@ -55,7 +55,8 @@ pub fn put_activity(
 {
     put("activity a", into)?;
     put_number(alloc, row.number.0, into)?;
-    put(ending_word(row.ending), into)?;
+    put_spaced(ending_word(row.ending), into)?;
+    put(" ", into)?;
     put_kind(deployment, &row.kind, into)?;
     put("\n", into)
 }
