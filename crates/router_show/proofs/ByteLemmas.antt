@@ -1,6 +1,6 @@
 -- Names and rows that rise are found again where they are put in byte order.
-use Rattle.std.proofs.Common.{Bor, Bool, Less, Equal, Greater, ◌≡◌, ℕ, ◌<◌, ◌==◌, true, false, List, map, refl, sym, ap, subst, ◌∙◌, arith, inl, inr}
-use Rattle.std.specs.Prelude.{◌||◌, ◌&&◌, nat_lt}
+use Rattle.std.proofs.Common.{Bor, Bool, Less, Equal, Greater, ◌≡◌, ℕ, ◌<◌, ◌==◌, true, List, map, refl, sym, ap, subst, ◌∙◌, arith, inl, inr}
+use Rattle.std.specs.Prelude.{nat_lt}
 use Rattle.std.specs.declared.cmp.Ordering.{Ordering}
 use Rattle.std.specs.Cmp.{IsStrictWeakOrder, IsTotalOrder, nat_cmp_is}
 use Rattle.std.specs.Cmp.Lexicographic.{slice_cmp}

@@ -1,5 +1,5 @@
 //! The lines of activities, attachments and names.
-ghost use Rattle.std.specs.Prelude.{◌≡◌, ◌++◌, OnOk, if◌then◌else◌, codes, decimal, map};
+ghost use Rattle.std.specs.Prelude.{◌≡◌, ◌++◌, [], OnOk, if◌then◌else◌, codes, decimal, is_some, map};
 ghost use Rattle.deploy_model.specs.Resolving.{deployed_of};
 ghost use Rattle.router_state.specs.Masks.{masks_of};
 ghost use Rattle.router_state.specs.Show.{activity_line, kind_words, link_line, mask_words, name_line, spaced};
@@ -86,8 +86,17 @@ fn put_events(masks: Run<'_, Mask>, into: &mut Vec<u8>) -> Result<(), NoMemory>
     Ok(())
 }
 
+/// The word before masks, of which this is the first one; empty where there are none.
+fn masked_word(first: Option<&Mask>) -> &'static str
+    ensures { result.now ≡ (if is_some first.entry then codes " masked" else []) }
+{
+    match first {
+        Some(_) => " masked",
+        None => "",
+    }
+}
+
 /// Adds the masks of an attachment, if there are any.
-#[tactic(auto, using(crate::proofs::ShowLemmas::masks_spelled))]
 fn put_masks(
     masks: &Masks,
     entity: EntityId,
@@ -97,9 +106,7 @@ fn put_masks(
     ensures { OnOk result (into.new.items ≡ into.old.items ++ mask_words (masks_of masks.now.rows entity.0 activity.0)) }
 {
     let own = masks.of(entity, activity);
-    if own.get(0).is_some() {
-        put(" masked", into)?;
-    }
+    put(masked_word(own.get(0)), into)?;
     put_events(own, into)
 }
 
@@ -120,7 +127,6 @@ fn put_link(
 }
 
 /// Adds the lines of all attachments.
-#[tactic(auto, using(crate::proofs::KeptLemmas::next_link))]
 pub fn put_links(alloc: Global, stores: &Stores, into: &mut Vec<u8>) -> Result<(), NoMemory>
     ensures { OnOk result (into.new.items ≡ into.old.items ++ line_texts (map (link_line stores.now.state) stores.now.state.links)) }
 {

@@ -71,7 +71,6 @@ fn put_fields(alloc: Global, fields: Run<'_, Field>, into: &mut Vec<u8>) -> Resu
 }
 
 /// Adds the lines of an entity and its fields.
-#[tactic(auto, using(crate::proofs::ShowLemmas::fields_lined))]
 fn put_whole(
     alloc: Global,
     deployment: &Deployment,

@@ -27,7 +27,6 @@ fn put_counts(alloc: Global, stores: &Stores, into: &mut Vec<u8>) -> Result<(), 
 }
 
 /// Adds what the show command prints of the state.
-#[tactic(auto, using(crate::proofs::ShowLemmas::shown))]
 pub fn show(
     alloc: Global,
     stores: &Stores,

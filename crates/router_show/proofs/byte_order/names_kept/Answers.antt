@@ -1,5 +1,5 @@
 -- each name is kept at one place
-use Rattle.std.proofs.Common.{◌≡◌, ℕ, ◌+◌, ◌++◌, map, drop, ap, ◌∙◌, arith}
+use Rattle.std.proofs.Common.{◌+◌, ◌++◌, map, drop, ap, ◌∙◌, arith}
 use Rattle.std.proofs.lemmas.List.Sorted.{length_permutation}
 use Rattle.activity_context.specs.Views.{parts_of_name}
 use Rattle.router_show.specs.Names.{names_seen}

@@ -8,5 +8,5 @@ use Rattle.router_show.proofs.byte_order.rows_in_order.Goals as goal
 pub returns : goal.returns
 returns c =
     c.in_ok-sort_rows.ensures ∙ ap (sorted row_before) c.in_ok-rows.ensures
-    ∙ rows_back c.profiles.result.now.rows c.profiles.result.now.kept c.len.ensures.order c.len.ensures.kept
-    ∙ c.profiles.ensures.rows
+    ∙ rows_back c.profiles-profiles.result.now.rows c.profiles-profiles.result.now.kept c.len-count.ensures.order c.len-count.ensures.kept
+    ∙ c.profiles-profiles.ensures.rows

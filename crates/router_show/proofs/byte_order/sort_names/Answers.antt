@@ -1,9 +1,7 @@
 -- the sort is a stable one by the bytes of the names
-use Rattle.std.proofs.Common.{Bor, ◌≡◌, ◌×◌, ℕ, List, ap, ◌∙◌, rules}
-use Rattle.std.specs.Cmp.{IsStrictWeakOrder}
+use Rattle.std.proofs.Common.{ap, ◌∙◌, rules}
 use Rattle.std.proofs.lemmas.List.Sorted.{answers_always}
 use Rattle.slee_value.specs.Order.{is_below}
-use Rattle.slee_value.specs.declared.ids.ActivityId.{ActivityId}
 use Rattle.rows_sorted.proofs.StableSortLemmas.{sorted_is, sorted_mapped}
 use Rattle.router_show.specs.Names.{name_seen, names_seen}
 use Rattle.router_show.proofs.ByteLemmas.{names_rank, seen_before}

@@ -1,5 +1,5 @@
 -- the events so far and the others
-use Rattle.std.proofs.Common.{◌≡◌, ◌++◌, drop, map}
+use Rattle.std.proofs.Common.{◌≡◌, ◌++◌, map}
 use Rattle.router_state.specs.Show.{spaced}
 use Rattle.router_show.proofs.contexts.put_events.Given as goal
 

@@ -1,5 +1,5 @@
 -- the lines so far and those of the others
-use Rattle.std.proofs.Common.{◌≡◌, ◌++◌, drop, map}
+use Rattle.std.proofs.Common.{◌≡◌, ◌++◌, map}
 use Rattle.router_state.specs.Show.{field_line}
 use Rattle.trace_history.specs.Lines.{line_texts}
 use Rattle.router_show.proofs.entities.put_fields.Given as goal

@@ -1,5 +1,5 @@
 -- the lines so far and those of the others
-use Rattle.std.proofs.Common.{◌≡◌, ◌++◌, drop, map}
+use Rattle.std.proofs.Common.{◌≡◌, ◌++◌, drop}
 use Rattle.deploy_model.specs.Resolving.{deployed_of}
 use Rattle.router_state.specs.Show.{service_lines}
 use Rattle.trace_history.specs.Lines.{line_texts}
