@@ -83,7 +83,7 @@ fn tell_created<B: Base>(
 }
 
 /// An entity has a new child, where its block has the relation.
-#[tactic(auto, using(crate::proofs::CreatingLemmas::made_so, crate::proofs::CreatingLemmas::told_so, crate::proofs::CreatingLemmas::parent_there))]
+#[tactic(auto, using(crate::proofs::CreatingLemmas::told_so, crate::proofs::CreatingLemmas::parent_there))]
 pub(crate) fn create<S: Setting>(
     alloc: Global,
     setting: &S,

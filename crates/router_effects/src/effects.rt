@@ -114,6 +114,7 @@ fn do_effect<S: Setting>(
 }
 
 /// The effects of an entity's handler are done, the first of them first; one that doesn't apply at its turn does nothing.
+#[tactic(auto, using(crate::proofs::DoingLemmas::doing_more, crate::proofs::DoingLemmas::lines_more))]
 pub fn do_effects<S: Setting>(
     alloc: Global,
     setting: &S,
