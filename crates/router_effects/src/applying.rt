@@ -46,6 +46,6 @@ pub(crate) fn is_active_null<B: Base>(base: &B, draft: &Draft, activity: Activit
 
 /// Passes on that a number of eight bits is a priority.
 #[tactic(auto, using(crate::proofs::SignedLemmas::priority_fits))]
-pub(crate) fn is_priority(_priority: i8)
+pub(crate) fn priority_fits(_priority: i8)
     ensures { IsTrue (is_priority _priority) }
 {}

@@ -5,10 +5,10 @@ ghost use Rattle.router_steps.specs.Effects.{after_effects, lines_of_effects};
 ghost use Rattle.router_draft.specs.Drafts.{laid, CanBeMade, IsLow};
 ghost use Rattle.router_effects.specs.Doing.{done, lines_of_done};
 
+use crate::attaching::{attach_both, detach_from, set_mask};
 use crate::creating::create;
 use crate::fields::{set_attribute, set_field};
 use crate::firing::fire;
-use crate::masking::{attach_both, detach_from, set_mask};
 use crate::naming::{bind, end_null, start_null, unbind};
 use crate::removing::remove_other;
 use crate::resolved::{activity, entity, timer};
