@@ -1,6 +1,6 @@
 -- Activities after changes: whether each is a null activity, and whether it is Ending.
-use Rattle.std.proofs.Common.{◌≡◌, ℕ, ◌==◌, Bool, true, false, List, [], ◌∷◌, ◌++◌, refl, sym, arith, inl, inr, ap, ◌∙◌}
-use Rattle.std.specs.Prelude.{find, map, option_map, if◌then◌else◌, Option, Some, None}
+use Rattle.std.proofs.Common.{◌≡◌, ℕ, ◌==◌, Bool, true, false, List, [], ◌∷◌, refl, sym, arith, inl, inr, ap, ◌∙◌}
+use Rattle.std.specs.Prelude.{map, option_map, if◌then◌else◌, Option}
 use Rattle.std.specs.List.{fold}
 use Rattle.std.proofs.lemmas.Bool.{cases_Bool}
 use Rattle.std.proofs.lemmas.Bool.Decides.{nat_tests}

@@ -1,12 +1,12 @@
 -- Children of an entity after changes.
-use Rattle.std.proofs.Common.{◌≡◌, ℕ, ◌+◌, ◌==◌, Bool, true, false, List, [], ◌∷◌, ◌++◌, refl, ap, ◌∙◌, inl, inr}
+use Rattle.std.proofs.Common.{◌≡◌, ℕ, ◌+◌, ◌==◌, Bool, List, [], ◌∷◌, ◌++◌, refl, ap, ◌∙◌, inl, inr}
 use Rattle.std.specs.Prelude.{not, filter, map, if◌then◌else◌}
 use Rattle.std.specs.List.{fold}
 use Rattle.std.proofs.lemmas.Bool.{cases_Bool}
 use Rattle.std.proofs.lemmas.List.{map-append}
 use Rattle.std.proofs.lemmas.List.Elements.{filter-append}
 use Rattle.router_state.specs.State.{State}
-use Rattle.router_state.specs.Trees.{children, has_priority, number_of, parent_in, parent_of, with_entity, with_priority, without_entity}
+use Rattle.router_state.specs.Trees.{number_of, parent_in, parent_of, with_entity, with_priority, without_entity}
 use Rattle.router_state.specs.Changes.{after_change, after_changes}
 use Rattle.router_state.specs.declared.change.Change.{Change}
 use Rattle.router_state.specs.declared.change.Change.TheVariants as changes
@@ -14,7 +14,7 @@ use Rattle.router_state.specs.declared.rows.Entity.{Entity}
 use Rattle.router_state.specs.declared.rows.Stem.{Stem}
 use Rattle.router_state.specs.declared.rows.Stem.TheVariants as stems
 use Rattle.router_draft.proofs.ChangeLemmas.{through}
-use Rattle.router_draft.specs.After.{born, children_after, kids}
+use Rattle.router_draft.specs.After.{children_after, kids}
 
 made : (e n block : ℕ) (stem : Stem) (priority : _) (rows : List Entity) → kids (with_entity rows n block stem priority) e ≡ (if parent_in stem == e then kids rows e ++ n ∷ [] else kids rows e)
 made e n block stem priority rows =

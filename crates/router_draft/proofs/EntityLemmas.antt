@@ -1,6 +1,6 @@
 -- Entities after changes: their blocks and their parents.
-use Rattle.std.proofs.Common.{◌≡◌, ℕ, ◌==◌, Bool, true, false, List, [], ◌∷◌, ◌++◌, refl, inl, inr, ap}
-use Rattle.std.specs.Prelude.{option_map, Option, Some, None}
+use Rattle.std.proofs.Common.{◌≡◌, ℕ, ◌==◌, List, refl, inl, inr, ap}
+use Rattle.std.specs.Prelude.{option_map, Option}
 use Rattle.std.specs.List.{fold}
 use Rattle.std.proofs.lemmas.Bool.{cases_Bool}
 use Rattle.router_state.specs.State.{State}

@@ -1,11 +1,11 @@
 -- Fields after changes.
-use Rattle.std.proofs.Common.{Less, Equal, Greater, ◌≡◌, ℕ, ◌==◌, Bool, true, false, List, [], ◌∷◌, refl, sym, arith, inl, inr, ap, ◌∙◌}
-use Rattle.std.specs.Prelude.{not, ◌||◌, ◌&&◌, filter, find, option_map, if◌then◌else◌, Option, Some, None, nat_lt}
+use Rattle.std.proofs.Common.{Less, Equal, Greater, ◌≡◌, ℕ, ◌==◌, Bool, true, false, List, refl, sym, arith, inl, inr, ap, ◌∙◌}
+use Rattle.std.specs.Prelude.{not, ◌||◌, option_map, if◌then◌else◌, Some, None, nat_lt}
 use Rattle.std.specs.List.{fold}
-use Rattle.std.specs.Ordering.{is_lt, is_gt, is_eq, nat_cmp, ordering_reverse}
+use Rattle.std.specs.Ordering.{is_lt, is_gt, is_eq, ordering_reverse}
 use Rattle.std.specs.declared.cmp.Ordering.{Ordering}
 use Rattle.std.specs.Str.{bytes_eq}
-use Rattle.std.specs.Cmp.Lexicographic.{slice_cmp, nat_list_cmp_total}
+use Rattle.std.specs.Cmp.Lexicographic.{nat_list_cmp_total}
 use Rattle.std.proofs.lemmas.Bool.{cases_Bool, and_parts}
 use Rattle.std.proofs.lemmas.Bool.Decides.{nat_tests}
 use Rattle.std.proofs.lemmas.Map.Text.{is_eq-slice_cmp}
@@ -13,7 +13,7 @@ use Rattle.std.proofs.lemmas.Slice.Eq.{bytes_eq-Decides}
 use Rattle.slee_value.specs.Order.{byte_order, is_below}
 use Rattle.slee_value.specs.declared.value.Value.{Value}
 use Rattle.router_state.specs.State.{State}
-use Rattle.rows_sorted.specs.Orders.{put, same_text, text_before}
+use Rattle.rows_sorted.specs.Orders.{same_text, text_before}
 use Rattle.router_state.specs.Fields.{field_at, field_before, with_field, without_fields}
 use Rattle.router_state.specs.Changes.{after_change, after_changes}
 use Rattle.router_state.specs.declared.change.Change.{Change}

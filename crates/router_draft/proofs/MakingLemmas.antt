@@ -1,14 +1,13 @@
 -- Changes that can be made, and the trees that they keep.
-use Rattle.std.proofs.Common.{◌≡◌, ℕ, ◌+◌, ◌<◌, ◌==◌, Bool, true, false, List, [], ◌∷◌, ◌++◌, refl, arith, inl, inr, nat_lt, IsTrue, Some, None}
-use Rattle.std.specs.Prelude.{not, ◌&&◌, filter, map, is_some}
+use Rattle.std.proofs.Common.{◌≡◌, ℕ, ◌+◌, ◌<◌, ◌==◌, Bool, true, List, [], ◌∷◌, ◌++◌, arith, inl, inr, nat_lt}
+use Rattle.std.specs.Prelude.{not}
 use Rattle.std.specs.List.{AllByRecursion}
 use Rattle.std.proofs.lemmas.Bool.{cases_Bool, and_parts}
 use Rattle.std.proofs.lemmas.Bool.Decides.{nat_tests}
-use Rattle.rows_sorted.specs.Orders.{rises_by, rises_in}
 use Rattle.router_state.specs.State.{State}
 use Rattle.router_state.specs.Fits.{has_next}
 use Rattle.router_state.specs.Fitting.{has_entity}
-use Rattle.router_state.specs.Trees.{entity_at, has_priority, number_of, parent_in, parent_of, with_entity, with_priority, without_entity}
+use Rattle.router_state.specs.Trees.{number_of, parent_in, parent_of, with_entity, with_priority}
 use Rattle.router_state.specs.Changes.{after_change, after_changes}
 use Rattle.router_state.specs.declared.change.Change.{Change}
 use Rattle.router_state.specs.declared.change.Change.TheVariants as changes

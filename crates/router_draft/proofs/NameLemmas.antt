@@ -1,6 +1,6 @@
 -- Names of the naming facility after changes.
-use Rattle.std.proofs.Common.{◌≡◌, ℕ, ◌==◌, Bool, true, false, List, [], ◌∷◌, ◌++◌, refl, sym, subst, ap, ◌∙◌, inl, inr}
-use Rattle.std.specs.Prelude.{not, ◌||◌, filter, find, option_map, if◌then◌else◌, Option, Some, None}
+use Rattle.std.proofs.Common.{◌≡◌, ℕ, ◌==◌, Bool, true, false, List, [], ◌∷◌, refl, sym, ap, ◌∙◌, inl, inr}
+use Rattle.std.specs.Prelude.{not, filter, option_map, if◌then◌else◌, Some, None}
 use Rattle.std.specs.List.{AllByRecursion, fold}
 use Rattle.std.specs.Option.{option_map_or}
 use Rattle.std.specs.Str.{bytes_eq}
@@ -76,9 +76,9 @@ none_later name p x (y ∷ ys) own all = elim (cases_Bool (p y)) [
     apart : bytes_eq y.name name ≡ false
     apart = elim (cases_Bool (bytes_eq y.name name)) [
       | inl same ↦ absurd (
-        let level : is_below x.name y.name ≡ false = ap (λ n. is_below n y.name) (one_text x.name name own ∙ sym (one_text y.name name same)) ∙ texts_alike y.name y.name (itself y.name) in
-        let before = all.0 in cc
-      )
+          let level : is_below x.name y.name ≡ false = ap (λ n. is_below n y.name) (one_text x.name name own ∙ sym (one_text y.name name same)) ∙ texts_alike y.name y.name (itself y.name) in
+          let before = all.0 in cc
+          )
       | inr other ↦ other
     ]
 

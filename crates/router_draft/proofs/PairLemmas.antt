@@ -97,13 +97,13 @@ module _ {Row : Type 0} (f g : Row → ℕ) where
         let less : a < f row = grind (arith, nat_tests, low) in
         rw (
           kept_all (λ x. f x == a) (λ x. before x row) (λ x mine. low_first (f x) (g x) (f row) (g row) (omega (arith, less, number_same (f x) a mine))) xs,
-          kept_none (λ x. f x == a) (λ x. before row x) (λ x mine. high_first (f row) (g row) (f x) (g x) (omega (arith, less, number_same (f x) a mine))) xs
+          kept_none (λ x. f x == a) (λ x. before row x) (λ x mine. high_first (f row) (g row) (f x) (g x) (omega (arith, less, number_same (f x) a mine))) xs,
         ) (nothing_behind (filter (λ x. f x == a) xs))
     | inr high ↦
         let more : f row < a = grind (arith, nat_tests, high, apart) in
         rw (
           kept_none (λ x. f x == a) (λ x. before x row) (λ x mine. high_first (f x) (g x) (f row) (g row) (omega (arith, more, number_same (f x) a mine))) xs,
-          kept_all (λ x. f x == a) (λ x. before row x) (λ x mine. low_first (f row) (g row) (f x) (g x) (omega (arith, more, number_same (f x) a mine))) xs
+          kept_all (λ x. f x == a) (λ x. before row x) (λ x mine. low_first (f row) (g row) (f x) (g x) (omega (arith, more, number_same (f x) a mine))) xs,
         ) refl
   ]
     where

@@ -1,13 +1,13 @@
 -- Events that wait on an activity, and the suspension of its head event, after changes.
 use Rattle.std.proofs.Common.{◌≡◌, ℕ, ◌<◌, ◌≤◌, ◌==◌, length, get_or, Bool, true, false, List, [], ◌∷◌, refl, sym, ap, ◌∙◌, arith, inl, inr, nat_lt, drop, Option, Some, None}
-use Rattle.std.specs.Prelude.{not, ◌||◌, ◌&&◌, find, filter, map, option_map, is_some, if◌then◌else◌}
+use Rattle.std.specs.Prelude.{not, ◌||◌, ◌&&◌, option_map, is_some, if◌then◌else◌}
 use Rattle.std.specs.List.{fold, list_any}
 use Rattle.std.proofs.lemmas.Bool.{cases_Bool}
 use Rattle.std.proofs.lemmas.Bool.Decides.{nat_tests}
 use Rattle.slee_value.specs.declared.ids.EventId.{EventId}
 use Rattle.router_state.specs.State.{State}
 use Rattle.rows_sorted.specs.Orders.{put}
-use Rattle.router_state.specs.Queues.{head_event, is_suspended, queued_before, suspension_before, with_event, with_suspension, without_head, without_suspension}
+use Rattle.router_state.specs.Queues.{head_event, is_suspended, suspension_before, with_event, with_suspension, without_head, without_suspension}
 use Rattle.router_state.specs.Changes.{after_change, after_changes}
 use Rattle.router_state.specs.declared.change.Change.{Change}
 use Rattle.router_state.specs.declared.change.Change.TheVariants as changes

@@ -1,10 +1,9 @@
 -- What no change touches is read as it was.
-use Rattle.std.proofs.Common.{◌≡◌, ℕ, ◌+◌, ◌<◌, ◌≤◌, ◌^◌, ◌==◌, length, Bool, true, false, List, [], ◌∷◌, ◌++◌, refl, sym, ap, ◌∙◌, arith, inl, inr, Option, Some, None, nat_lt}
-use Rattle.std.specs.Prelude.{◌||◌, ◌&&◌, not, count_by, filter, if◌then◌else◌}
-use Rattle.std.specs.List.{AllByRecursion, fold, list_any}
+use Rattle.std.proofs.Common.{◌≡◌, ℕ, ◌+◌, ◌<◌, ◌^◌, ◌==◌, length, Bool, true, false, List, [], ◌∷◌, ◌++◌, refl, sym, ap, ◌∙◌, arith, inl, inr, Option, None, nat_lt}
+use Rattle.std.specs.Prelude.{◌||◌, ◌&&◌, not, count_by, filter}
+use Rattle.std.specs.List.{fold, list_any}
 use Rattle.std.proofs.lemmas.Bool.{cases_Bool}
 use Rattle.std.proofs.lemmas.Bool.Decides.{nat_tests}
-use Rattle.std.proofs.lemmas.List.Elements.{filter-append}
 use Rattle.std.proofs.lemmas.List.Sums.{count_by-le-length}
 use Rattle.slee_value.specs.declared.value.Value.{Value}
 use Rattle.rows_sorted.specs.Keys.{key_before}
@@ -24,7 +23,7 @@ use Rattle.router_draft.proofs.FieldLemmas.{field_laid}
 use Rattle.router_draft.proofs.LinkLemmas.{linked_laid}
 use Rattle.router_draft.proofs.LinkedLemmas.{activities_laid}
 use Rattle.router_draft.proofs.NextLemmas.{counted, one_if}
-use Rattle.router_draft.specs.After.{activities_after, activity_after, ahead_of, block_after, children_after, draws, field_after, kids, linked_after, parent_after}
+use Rattle.router_draft.specs.After.{activities_after, activity_after, ahead_of, block_after, children_after, field_after, kids, linked_after, parent_after}
 use Rattle.router_draft.specs.Touched.{drops, ends, is_it, is_listed, touched_key, touches}
 use Rattle.router_draft.specs.declared.changes.Touched.{Touched}
 

@@ -56,7 +56,7 @@ each_found [] order = tt
 each_found (x ∷ xs) order = (
   rw (itself x.number.0) refl,
   all_two (λ y. by_number x y ≡ true) (λ y. entity_at xs y.number.0 ≡ Some y) (λ y. entity_at (x ∷ xs) y.number.0 ≡ Some y)
-  (λ y low found. let other = passed x.number.0 y.number.0 low in rw other found) xs order.0 (each_found xs order.1),
+      (λ y low found. let other = passed x.number.0 y.number.0 low in rw other found) xs order.0 (each_found xs order.1),
 )
 
 -- how many entities have a greater number

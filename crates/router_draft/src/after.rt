@@ -229,11 +229,7 @@ fn named(change: &Change, name: &Text, was: Option<ActivityId>) -> Option<Activi
 }
 
 /// The same after changes.
-pub fn named_through(
-    changes: &[Change],
-    name: &Text,
-    was: Option<ActivityId>,
-) -> Option<ActivityId>
+pub fn named_through(changes: &[Change], name: &Text, was: Option<ActivityId>) -> Option<ActivityId>
     ensures { result ≡ fold (λ was c. named_after c name.now was) was changes.now }
 {
     changes

@@ -15,12 +15,7 @@ use std::alloc::Global;
 
 /// Whether the entity is attached to the activity.
 #[tactic(auto, using(crate::proofs::LinkLemmas::linked_laid, crate::proofs::TouchLemmas::linked_still))]
-pub fn is_linked<B: Base>(
-    base: &B,
-    draft: &Draft,
-    entity: EntityId,
-    activity: ActivityId,
-) -> bool
+pub fn is_linked<B: Base>(base: &B, draft: &Draft, entity: EntityId, activity: ActivityId) -> bool
     ensures { result ≡ is_linked (laid (B.state base.now) draft.now).links entity.0 activity.0 }
 {
     let was = base.is_linked(entity, activity);
@@ -243,12 +238,6 @@ pub fn children<B: Base>(
     if !draft.touches(entity) && !lists::are_touched(draft, &all) {
         return Ok(all);
     }
-    lists::children_through(
-        alloc,
-        draft.changes(),
-        entity,
-        base.next_entity(),
-        &mut all,
-    )?;
+    lists::children_through(alloc, draft.changes(), entity, base.next_entity(), &mut all)?;
     Ok(all)
 }

@@ -193,7 +193,7 @@ each_row f (row ∷ rows) rises none =
 
 -- what closing services and null activities leaves as it was
 
-services_keep : (n : ℕ) (rows : List Service) (s : State) → ((close_services n rows s).entities ≡ s.entities) × ((close_services n rows s).links ≡ s.links) × ((close_services n rows s).activities ≡ s.activities)
+pub services_keep : (n : ℕ) (rows : List Service) (s : State) → ((close_services n rows s).entities ≡ s.entities) × ((close_services n rows s).links ≡ s.links) × ((close_services n rows s).activities ≡ s.activities)
 services_keep n [] s = (refl, refl, refl)
 services_keep n (row ∷ rows) s =
     let one = cond_both (is_stopped s.entities n row) (after_change (changes.Service n states.Inactive row.activity) s) s (λ (t : State). (t.entities ≡ s.entities) × (t.links ≡ s.links) × (t.activities ≡ s.activities)) (λ _. (refl, refl, refl)) (λ _. (refl, refl, refl)) in

@@ -113,7 +113,7 @@ not_below_itself x y same = by (byte_order x y) (is_eq-slice_cmp x y ∙ same)
     by Equal is = refl
     by Greater is = refl
 
-name_found : (rows : List Named) (row : Named) (name : List ℕ) → rises_by name_before rows ≡ true → IsIn row rows → bytes_eq row.name name ≡ true → named_at rows name ≡ Some row.activity
+pub name_found : (rows : List Named) (row : Named) (name : List ℕ) → rises_by name_before rows ≡ true → IsIn row rows → bytes_eq row.name name ≡ true → named_at rows name ≡ Some row.activity
 name_found rows row name rises is mine =
     ap (λ o. option_map (λ (x : Named). x.activity) o)
     (find_row name_before (λ (x : Named). bytes_eq x.name name) rows row (order_from_rises name_before (λ x y z one two. below_joins x.name y.name z.name one two) rows rises) is mine

@@ -72,6 +72,15 @@ attached_then s all (changes.Attach e a) is =
     own n m = rw (same_number n n refl) (inl refl)
 attached_then s all _ is = tt
 
+links_through : (s : State) (all cs : List Change) (t : State) → ((c : Change) → IsIn c cs → IsIn c all) → WereAttached (λ e a. IsIn e (attached_to s all a)) t.links → WereAttached (λ e a. IsIn e (attached_to s all a)) (after_changes cs t).links
+links_through s all [] t part known = known
+links_through s all (c ∷ cs) t part known =
+    links_through s all cs (after_change c t) (λ d there. part d (inr there)) (links_after (λ e a. IsIn e (attached_to s all a)) c t (attached_then s all c (part c (inl refl))) known)
+
+-- after changes an entity is attached only where it was before them, or one of them attached it
+pub attached_through : (cs : List Change) (s : State) (l : Link) → IsIn l (after_changes cs s).links → IsIn l.entity.0 (attached_to s cs l.activity.0)
+attached_through cs s = links_through s cs cs s (λ c there. there) (attached_in s cs)
+
 -- a root that a change frees stands above an entity whose attachments it may cut, or is made by it
 
 -- what is known of the parents and the attachments in the state where a change's turn comes
@@ -157,7 +166,7 @@ seen_after s all c t is keeps born seen = record {
   links = links_after (λ x a. IsIn x (attached_to s all a)) c t (attached_then s all c is) seen.links;
 }
 
-numbered_through : (cs : List Change) (t : State) → IsNumbered t → AllKeepTrees cs t → IsNumbered (after_changes cs t)
+pub numbered_through : (cs : List Change) (t : State) → IsNumbered t → AllKeepTrees cs t → IsNumbered (after_changes cs t)
 numbered_through [] t numbered keep = numbered
 numbered_through (c ∷ cs) t numbered keep = numbered_through cs (after_change c t) (numbered_after c t keep.0 numbered) keep.1
 
@@ -224,14 +233,14 @@ roots_rise rows rises = numbers_rise (children rows 0) (filter_rises (λ (x y : 
 
 -- a number stands where it is that of a root
 
-root_at : (rows : List Entity) (e : ℕ) → stands rows e ≡ true → IsRoot rows e
+pub root_at : (rows : List Entity) (e : ℕ) → stands rows e ≡ true → IsRoot rows e
 root_at [] e is = absurd (cc)
 root_at (row ∷ rows) e is = elim (cases_Bool (row.number.0 == e)) [
   | inl own ↦ (row, inl refl, number_same row.number.0 e own, number_same (parent_of row) 0 (rw own at is))
   | inr other ↦ let found = root_at rows e (rw other at is) in (found.0, inr found.1, found.2, found.3)
 ]
 
-stands_from : (rows : List Entity) → IsForest rows → (e : ℕ) → IsRoot rows e → stands rows e ≡ true
+pub stands_from : (rows : List Entity) → IsForest rows → (e : ℕ) → IsRoot rows e → stands rows e ≡ true
 stands_from rows forest e root =
     let found = found_once rows root.0 forest.once root.1 in
     let there : entity_at rows e ≡ Some root.0 = ap (entity_at rows) (sym root.2) ∙ found in

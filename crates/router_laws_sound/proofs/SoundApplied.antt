@@ -85,7 +85,7 @@ not_none s a sound there =
     positive x a same some = grind (arith, nat_tests)
 
 -- what an entity masks where it is attached are events
-masks_known : (s : State) (e : ℕ) → IsDeployed s.deployment → list_all (is_event s.deployment) (first_masks s e) ≡ true
+pub masks_known : (s : State) (e : ℕ) → IsDeployed s.deployment → list_all (is_event s.deployment) (first_masks s e) ≡ true
 masks_known s e deployed = by (entity_at s.entities e)
   where
     by : (o : Option Entity) → list_all (is_event s.deployment) (option_map_or (λ (row : Entity). masked_on_attach s.deployment row.block) o []) ≡ true

@@ -159,7 +159,7 @@ sound_service s n state a sound one =
     from_none n = omega arith
 
 -- a service without a state that is Active may have its activity in any condition
-inactive_row : (rows : List Activity) (n : ℕ) (row : Service) (state : ServiceState) → is_service_active state ≡ false → is_service_row rows n row ≡ true → is_service_row rows n (record { state = state; activity = record { 0 = row.activity.0 } }) ≡ true
+pub inactive_row : (rows : List Activity) (n : ℕ) (row : Service) (state : ServiceState) → is_service_active state ≡ false → is_service_row rows n row ≡ true → is_service_row rows n (record { state = state; activity = record { 0 = row.activity.0 } }) ≡ true
 inactive_row rows n row state isnt is = elim (or_cases (row.activity.0 == 0) _ is) [
   | inl none ↦ or_left (row.activity.0 == 0) _ none
   | inr own ↦ or_right (row.activity.0 == 0) _ (by (activity_at rows row.activity.0) own)

@@ -95,7 +95,7 @@ services_changed a n front (row ∷ rows) s is place = elim (cases_Bool (row.act
         more l k n one two = omega (arith, one, two)
 
 -- an activity that goes, as one record
-abbrev dropped_state : State → ℕ → State
+abbrev pub dropped_state : State → ℕ → State
 dropped_state s a = record s {
   activities = without_activity s.activities a;
   attributes = without_attributes s.attributes a;
@@ -109,7 +109,7 @@ after_both : (cs ds : List Change) (s : State) → after_changes (cs ++ ds) s �
 after_both [] ds s = refl
 after_both (c ∷ cs) ds s = after_both cs ds (after_change c s)
 
-dropped_is : (s : State) (a : ℕ) → dropped s a ≡ dropped_state s a
+pub dropped_is : (s : State) (a : ℕ) → dropped s a ≡ dropped_state s a
 dropped_is s a =
     after_both (map (λ (l : Link). changes.ForgetMasks l.entity l.activity) (links_on s.links a)) (changes.DropContext (record { 0 = a }) ∷ changes_of_services a 0 s.services) s
     ∙ ap (λ t. after_changes (changes.DropContext (record { 0 = a }) ∷ changes_of_services a 0 s.services) t) (masks_forgotten (links_on s.links a) s)

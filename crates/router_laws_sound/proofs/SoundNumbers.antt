@@ -64,7 +64,7 @@ room_before s t grown room = record {
 pub grown_if : (b : Bool) (s t u : State) → IsGrown s t → IsGrown s u → IsGrown s (if b then t else u)
 grown_if b s t u one two = cond_both b t u (IsGrown s) (λ _. one) (λ _. two)
 
-still_numbers : (s : State) → IsGrown s s
+pub still_numbers : (s : State) → IsGrown s s
 still_numbers s = grown_same s s (refl, refl, refl, refl)
 
 pub grown_removed : (es : List ℕ) (s : State) → IsGrown s (all_removed es s)

@@ -70,7 +70,7 @@ name_of_new names e name below =
     ap (option_map (λ (x : RootName). x.name)) found
 
 -- what isn't found passes the test nowhere
-not_found : {X : Type 0} (p : X → Bool) (xs : List X) → find p xs ≡ None → (x : X) → IsIn x xs → p x ≡ false
+pub not_found : {X : Type 0} (p : X → Bool) (xs : List X) → find p xs ≡ None → (x : X) → IsIn x xs → p x ≡ false
 not_found p [] none x there = elim there [ ]
 not_found p (y ∷ ys) none x (inl same) = elim (cases_Bool (p y)) [
   | inl is ↦ (let some : Some y ≡ None = rw is at none in absurd (cc))

@@ -71,10 +71,10 @@ sound_counted s sound room =
       rows = sound.rows;
     }
 
-positive_next : (s : State) → IsSound s → nat_lt 0 s.next_event ≡ true
+pub positive_next : (s : State) → IsSound s → nat_lt 0 s.next_event ≡ true
 positive_next s sound = (and_parts (nat_lt 0 s.next_event) (is_u64 s.next_event) sound.next_event).0
 
-active_is_there : (s : State) (a : ℕ) → is_active s.activities a ≡ true → is_some (activity_at s.activities a) ≡ true
+pub active_is_there : (s : State) (a : ℕ) → is_active s.activities a ≡ true → is_some (activity_at s.activities a) ≡ true
 active_is_there s a active = passes_there (λ (row : Activity). not row.ending) (activity_at s.activities a) active
 
 -- an occurrence of a timer that was there is queued on its activity
@@ -83,7 +83,7 @@ sound_occurred x s sound active drawn room =
     sound_queued s x.activity (built_in_name built_in_events.Timer) ((codes "which", values.Timer (record { 0 = x.timer })) ∷ []) None sound
     (record { number = refl; some = positive_next s sound; there = active_is_there s x.activity active; target = refl; fields = and_from (nat_lt x.timer s.next_timer) _ drawn refl }) active refl room
 
-grown_queued : (s : State) (a : ℕ) (name : List ℕ) (fields : List (List ℕ × Value)) (target : Option ℕ) → IsGrown s (queued s a name fields target)
+pub grown_queued : (s : State) (a : ℕ) (name : List ℕ) (fields : List (List ℕ × Value)) (target : Option ℕ) → IsGrown s (queued s a name fields target)
 grown_queued s a name fields target = record { entity = omega arith; activity = omega arith; timer = omega arith; event = omega arith }
 
 pub grown_occurred : (xs : List Occurrence) (s : State) → IsGrown s (all_occurred xs s)
@@ -151,7 +151,7 @@ sound_activated n s sound there room =
     all_true (x ∷ rows) = all_true rows
 
 -- an activity of a kind other than a table's ends
-can_end : (s : State) (a : ℕ) (row : Activity) → IsSound s → activity_at s.activities a ≡ Some row → row.ending ≡ false → not (is_table row.kind) ≡ true
+pub can_end : (s : State) (a : ℕ) (row : Activity) → IsSound s → activity_at s.activities a ≡ Some row → row.ending ≡ false → not (is_table row.kind) ≡ true
     → list_all (λ (x : Service). not (x.activity.0 == a) || not (is_service_active x.state)) s.services ≡ true → is_u64 (s.next_event + 1) ≡ true → IsSound (ended s a)
 can_end s a row sound found awake kind services room =
     let order = order_from_rises (λ (x y : Activity). nat_lt x.number.0 y.number.0) number_joins s.activities (sound_ordered s sound).activities in
@@ -163,7 +163,7 @@ can_end s a row sound found awake kind services room =
     }) (record { number = refl; some = positive_next s sound; there = active_is_there s a active; target = refl; fields = refl }) room
 
 -- no service other than those of its kind has an activity
-services_of_kind : (rows : List Activity) (a : ℕ) (row : Activity) (n : ℕ) (services : List Service) → activity_at rows a ≡ Some row → (a == 0) ≡ false → are_services_from rows n services ≡ true
+pub services_of_kind : (rows : List Activity) (a : ℕ) (row : Activity) (n : ℕ) (services : List Service) → activity_at rows a ≡ Some row → (a == 0) ≡ false → are_services_from rows n services ≡ true
     → ((k : ℕ) (x : Service) → is_of_service k row.kind ≡ true → IsIn x services → nat_le n k ≡ true → slice_get services (k - n) ≡ Some x → not (is_service_active x.state) ≡ true)
     → list_all (λ (x : Service). not (x.activity.0 == a) || not (is_service_active x.state)) services ≡ true
 services_of_kind rows a row n [] found some all idle = refl

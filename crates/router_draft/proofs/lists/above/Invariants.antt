@@ -1,5 +1,4 @@
-use Rattle.std.proofs.Common.{◌≡◌, ◌==◌, take, filter, nat_lt}
-use Rattle.std.specs.Prelude.{not}
+use Rattle.std.proofs.Common.{◌≡◌, take, filter, nat_lt}
 use Rattle.router_draft.proofs.lists.above.Given as goal
 
 abbrev pub invariant-numbers : goal.invariant-numbers

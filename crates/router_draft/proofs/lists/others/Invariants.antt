@@ -1,4 +1,4 @@
-use Rattle.std.proofs.Common.{◌≡◌, ◌==◌, take, filter, nat_lt}
+use Rattle.std.proofs.Common.{◌≡◌, ◌==◌, take, filter}
 use Rattle.std.specs.Prelude.{not}
 use Rattle.router_draft.proofs.lists.others.Given as goal
 

@@ -1,7 +1,4 @@
-use Rattle.std.proofs.Common.{◌≡◌, ◌<◌, ℕ, Option, Bool, sym, ap, subst, ◌∙◌}
-use Rattle.std.specs.List.{fold}
-use Rattle.router_state.specs.declared.change.Change.{Change}
-use Rattle.router_draft.specs.After.{activity_after, ahead_of}
+use Rattle.std.proofs.Common.{◌<◌, ℕ, sym, subst, ◌∙◌}
 use Rattle.router_draft.proofs.ActivityLemmas.{activity_seen}
 use Rattle.router_draft.proofs.TouchLemmas.{activity_still}
 use Rattle.router_draft.proofs.reading.activity.Goals as goal

@@ -1,4 +1,4 @@
-use Rattle.std.proofs.Common.{◌≡◌, ◌∙◌, sym}
+use Rattle.std.proofs.Common.{◌∙◌}
 use Rattle.router_draft.specs.Drafts.{laid}
 use Rattle.router_draft.proofs.QueueLemmas.{head_first, head_nothing}
 use Rattle.router_draft.proofs.reading.head.Goals as goal
