@@ -51,7 +51,7 @@ of_entity : (d : Deployed) (name : List ℕ) (o : Option Entity) (r : RelationCo
 of_entity d name None r is = absurd (cc)
 of_entity d name (Some row) r is = of_block name (block_at d row.block) r is
 
-pub made_found : (s : State) (parent : ℕ) (relation : List ℕ) (priority : ℤ) (r : RelationCode) → relation_at s parent relation ≡ Some r
+made_found : (s : State) (parent : ℕ) (relation : List ℕ) (priority : ℤ) (r : RelationCode) → relation_at s parent relation ≡ Some r
     → option_map_or (λ (r : RelationCode). with_child s parent relation r.block priority) (relation_at s parent relation) s ≡ with_child s parent r.name r.block priority
 made_found s parent relation priority r is =
     let name : r.name ≡ relation = of_entity s.deployment relation (entity_at s.entities parent) r is in
@@ -67,11 +67,13 @@ parent_there s parent relation r is = by (entity_at s.entities parent) is
 
 -- a child is made exactly where the relation is found
 
-pub made_so : (s t : State) (parent : ℕ) (relation : List ℕ) (priority : ℤ) (r : RelationCode) → relation_at s parent relation ≡ Some r → is_priority priority ≡ true → t ≡ with_child s parent r.name r.block priority
-    → t ≡ (if is_some (relation_at s parent relation) && is_priority priority then option_map_or (λ (r : RelationCode). with_child s parent relation r.block priority) (relation_at s parent relation) s else s)
-made_so s t parent relation priority r is fits made =
-    let found = made_found s parent relation priority r is in
-    made ∙ (sym found ∙ rw (is, fits) refl)
+pub made_so : (cs ds : List Change) (s t : State) (parent : ℕ) (relation : List ℕ) (priority given : ℤ) (r : RelationCode) → ds ≡ cs → given ≡ priority → relation_at (after_changes cs s) parent relation ≡ Some r → is_priority priority ≡ true
+    → t ≡ with_child (after_changes ds s) parent r.name r.block given
+    → t ≡ (if is_some (relation_at (after_changes cs s) parent relation) && is_priority priority then option_map_or (λ (r : RelationCode). with_child (after_changes cs s) parent relation r.block priority) (relation_at (after_changes cs s) parent relation) (after_changes cs s) else after_changes cs s)
+made_so cs ds s t parent relation priority given r same passed is fits made =
+    let u = after_changes cs s in
+    let found = made_found u parent relation priority r is in
+    made ∙ (ap (λ (p : ℤ). with_child (after_changes ds s) parent r.name r.block p) passed ∙ (ap (λ (xs : List Change). with_child (after_changes xs s) parent r.name r.block priority) same ∙ (sym found ∙ rw (is, fits) refl)))
 
 pub told_so : (s : State) (parent : ℕ) (relation : List ℕ) (priority : ℤ) (r : RelationCode) (lines more : List (List ℕ)) (line : List ℕ) → relation_at s parent relation ≡ Some r → is_priority priority ≡ true → more ≡ lines ++ line ∷ []
     → more ≡ lines ++ (if is_some (relation_at s parent relation) && is_priority priority then line ∷ [] else [])

@@ -1,9 +1,10 @@
 -- Events that are fired: who they are for, and that their fields are the declared ones.
-use Rattle.std.proofs.Common.{◌≡◌, ℕ, List, [], ◌∷◌, ◌++◌, Bool, true, false, refl, ap, sym, ◌∙◌, append_assoc, Some, None, Option, map}
+use Rattle.std.proofs.Common.{zero, suc, ◌+◌, ◌<◌, ◌≤◌, arith, drop, get_or, length, ◌≡◌, ℕ, List, [], ◌∷◌, ◌++◌, Bool, true, false, refl, ap, sym, ◌∙◌, append_assoc, Some, None, Option, map}
 use Rattle.std.specs.Prelude.{bytes_eq, ◌&&◌, is_some, if◌then◌else◌}
 use Rattle.std.specs.List.{list_all}
 use Rattle.std.specs.Option.{option_map_or}
 use Rattle.std.proofs.lemmas.Bool.{and_parts}
+use Rattle.std.proofs.lemmas.List.{drop_more}
 use Rattle.std.proofs.lemmas.Slice.Eq.{bytes_eq-Decides}
 use Rattle.slee_value.specs.Fields.{are_fields}
 use Rattle.slee_value.specs.Name.{is_name}
@@ -74,15 +75,21 @@ by_code : (t : State) (event : List ℕ) (fields : List (List ℕ × Val)) (code
     → (are_declared code.fields (map plain_field fields) && are_fit t fields) ≡ b → suited_event t event fields ≡ (if b then Some code else None)
 by_code t event fields code b is so = rw (is, so) refl
 
-pub suited : (cs : List Change) (s : State) (event : List ℕ) (fields : List (List ℕ × Val)) (code : EventCode) → named (λ (e : EventCode). e.name) event s.deployment.events ≡ Some code
-    → (are_declared code.fields (map plain_field fields) && list_all (λ (field : List ℕ × Val). is_value (after_changes cs s).next_activity (after_changes cs s).next_timer (plain field.1)) fields) ≡ true
-    → suited_event (after_changes cs s) event fields ≡ Some code
-suited cs s event fields code is so = by_code (after_changes cs s) event fields code true (found_laid cs s event (Some code) is) so
+pub suited : (cs : List Change) (s : State) (event : List ℕ) (fields : List (List ℕ × Val)) (code : EventCode) (ds : List FieldCode) (fs : List (List ℕ × Val)) → Some code ≡ named (λ (e : EventCode). e.name) event s.deployment.events
+    → ds ≡ code.fields → fs ≡ fields → (are_declared ds (map plain_field fs) && list_all (λ (field : List ℕ × Val). is_value (after_changes cs s).next_activity (after_changes cs s).next_timer (plain field.1)) fs) ≡ true
+    → Some code ≡ suited_event (after_changes cs s) event fields
+suited cs s event fields code ds fs is fields_of same so =
+    let t = after_changes cs s in
+    let both : (are_declared code.fields (map plain_field fields) && are_fit t fields) ≡ true = ap (λ (xs : List FieldCode). are_declared xs (map plain_field fields) && are_fit t fields) (sym fields_of) ∙ (ap (λ (xs : List (List ℕ × Val)). are_declared ds (map plain_field xs) && are_fit t xs) (sym same) ∙ so) in
+    sym (by_code t event fields code true (found_laid cs s event (Some code) (sym is)) both)
 
-pub unsuited : (cs : List Change) (s : State) (event : List ℕ) (fields : List (List ℕ × Val)) (code : EventCode) → named (λ (e : EventCode). e.name) event s.deployment.events ≡ Some code
-    → (are_declared code.fields (map plain_field fields) && list_all (λ (field : List ℕ × Val). is_value (after_changes cs s).next_activity (after_changes cs s).next_timer (plain field.1)) fields) ≡ false
-    → suited_event (after_changes cs s) event fields ≡ None
-unsuited cs s event fields code is so = by_code (after_changes cs s) event fields code false (found_laid cs s event (Some code) is) so
+pub unsuited : (cs : List Change) (s : State) (event : List ℕ) (fields : List (List ℕ × Val)) (code : EventCode) (ds : List FieldCode) (fs : List (List ℕ × Val)) → Some code ≡ named (λ (e : EventCode). e.name) event s.deployment.events
+    → ds ≡ code.fields → fs ≡ fields → (are_declared ds (map plain_field fs) && list_all (λ (field : List ℕ × Val). is_value (after_changes cs s).next_activity (after_changes cs s).next_timer (plain field.1)) fs) ≡ false
+    → None ≡ suited_event (after_changes cs s) event fields
+unsuited cs s event fields code ds fs is fields_of same so =
+    let t = after_changes cs s in
+    let both : (are_declared code.fields (map plain_field fields) && are_fit t fields) ≡ false = ap (λ (xs : List FieldCode). are_declared xs (map plain_field fields) && are_fit t fields) (sym fields_of) ∙ (ap (λ (xs : List (List ℕ × Val)). are_declared ds (map plain_field xs) && are_fit t xs) (sym same) ∙ so) in
+    sym (by_code t event fields code false (found_laid cs s event (Some code) (sym is)) both)
 
 pub undeclared : (cs : List Change) (s : State) (event : List ℕ) (fields : List (List ℕ × Val)) → named (λ (e : EventCode). e.name) event s.deployment.events ≡ None → suited_event (after_changes cs s) event fields ≡ None
 undeclared cs s event fields is = let found = found_laid cs s event None is in rw found refl
@@ -123,17 +130,17 @@ pub not_declared : (d : FieldCode) (ds : List FieldCode) (field : List ℕ × Va
     → are_declared (d ∷ ds) (map plain_field (field ∷ more)) ≡ false
 not_declared d ds field more is = not_three (bytes_eq d.name field.0) (is_of_kind d.kind (plain field.1)) (are_declared ds (map plain_field more)) is
 
-pub name_is : (d : FieldCode) (ds : List FieldCode) (field : List ℕ × Val) (more : List (List ℕ × Val)) → are_declared (d ∷ ds) (map plain_field (field ∷ more)) ≡ true → d.name ≡ field.0
+name_is : (d : FieldCode) (ds : List FieldCode) (field : List ℕ × Val) (more : List (List ℕ × Val)) → are_declared (d ∷ ds) (map plain_field (field ∷ more)) ≡ true → d.name ≡ field.0
 name_is d ds field more declared = (bytes_eq-Decides d.name field.0).0 (and_parts (bytes_eq d.name field.0) (is_of_kind d.kind (plain field.1) && are_declared ds (map plain_field more)) declared).0
 
-pub more_declared : (d : FieldCode) (ds : List FieldCode) (field : List ℕ × Val) (more : List (List ℕ × Val)) → are_declared (d ∷ ds) (map plain_field (field ∷ more)) ≡ true → are_declared ds (map plain_field more) ≡ true
+more_declared : (d : FieldCode) (ds : List FieldCode) (field : List ℕ × Val) (more : List (List ℕ × Val)) → are_declared (d ∷ ds) (map plain_field (field ∷ more)) ≡ true → are_declared ds (map plain_field more) ≡ true
 more_declared d ds field more declared =
     (and_parts (is_of_kind d.kind (plain field.1)) (are_declared ds (map plain_field more)) (and_parts (bytes_eq d.name field.0) (is_of_kind d.kind (plain field.1) && are_declared ds (map plain_field more)) declared).1).1
 
-pub one_field : (all : List (List ℕ × Value)) (name : List ℕ) (field : List ℕ × Val) (more : List (List ℕ × Val)) → name ≡ field.0 → (all ++ (name, plain field.1) ∷ []) ++ map plain_field more ≡ all ++ map plain_field (field ∷ more)
+one_field : (all : List (List ℕ × Value)) (name : List ℕ) (field : List ℕ × Val) (more : List (List ℕ × Val)) → name ≡ field.0 → (all ++ (name, plain field.1) ∷ []) ++ map plain_field more ≡ all ++ map plain_field (field ∷ more)
 one_field all name field more is = ap (λ n. (all ++ (n, plain field.1) ∷ []) ++ map plain_field more) is ∙ append_assoc all ((field.0, plain field.1) ∷ []) (map plain_field more)
 
-pub one_name : (all : List (List ℕ × Value)) (name : List ℕ) (value : Value) → list_all is_name (names_of all) ≡ true → is_name name ≡ true → list_all is_name (names_of (all ++ (name, value) ∷ [])) ≡ true
+one_name : (all : List (List ℕ × Value)) (name : List ℕ) (value : Value) → list_all is_name (names_of all) ≡ true → is_name name ≡ true → list_all is_name (names_of (all ++ (name, value) ∷ [])) ≡ true
 one_name [] name value names is = rw is refl
 one_name (x ∷ xs) name value names is =
     let parts = and_parts (is_name x.0) (list_all is_name (names_of xs)) names in
@@ -148,3 +155,39 @@ pub are_named : (all : List (List ℕ × Value)) (fields : List (List ℕ × Val
 are_named all fields names is rising =
     let order : rises (names_of all) ≡ true = ap (λ (xs : List (List ℕ × Value)). rises (names_of xs)) is ∙ (ap rises (same_names fields) ∙ rising) in
     rw (names, order) refl
+
+-- where so many fields are done
+
+nothing_left : {X : Type 0} (xs : List X) (i : ℕ) → length xs ≤ i → drop i xs ≡ []
+nothing_left [] zero past = refl
+nothing_left [] (suc i) past = refl
+nothing_left (x ∷ xs) zero past = absurd (omega (arith, past))
+nothing_left (x ∷ xs) (suc i) past = nothing_left xs i (omega (arith, past))
+
+-- a declared field is left over
+pub left_over : (ds : List FieldCode) (fields : List (List ℕ × Val)) (i : ℕ) (whole : Bool) → 1 ≤ length ds → length fields ≤ i → are_declared ds (map plain_field (drop i fields)) ≡ whole → false ≡ whole
+left_over [] fields i whole some past same = absurd (omega (arith, some))
+left_over (d ∷ ds) fields i whole some past same = ap (λ (xs : List (List ℕ × Val)). are_declared (d ∷ ds) (map plain_field xs)) (sym (nothing_left fields i past)) ∙ same
+
+pub names_at : (all more : List (List ℕ × Value)) (name : List ℕ) (value : Value) → list_all is_name (names_of all) ≡ true → is_name name ≡ true → more ≡ all ++ (name, value) ∷ [] → list_all is_name (names_of more) ≡ true
+names_at all more name value names is pushed = ap (λ (xs : List (List ℕ × Value)). list_all is_name (names_of xs)) pushed ∙ one_name all name value names is
+
+next_of : (fields : List (List ℕ × Val)) (i : ℕ) (f : List ℕ × Val) → i < length fields → f ≡ get_or fields i f → drop i fields ≡ f ∷ drop (i + 1) fields
+next_of fields i f within is = drop_more fields i f within ∙ ap (λ (x : List ℕ × Val). x ∷ drop (i + 1) fields) (sym is)
+
+all_declared : (fields : List (List ℕ × Val)) (i : ℕ) (f : List ℕ × Val) (left : List FieldCode) (d : FieldCode) (ds : List FieldCode) → i < length fields → f ≡ get_or fields i f → left ≡ d ∷ ds → are_declared left (map plain_field (drop i fields)) ≡ true
+    → are_declared (d ∷ ds) (map plain_field (f ∷ drop (i + 1) fields)) ≡ true
+all_declared fields i f left d ds within is split declared =
+    ap (λ (xs : List (List ℕ × Val)). are_declared (d ∷ ds) (map plain_field xs)) (sym (next_of fields i f within is)) ∙ (ap (λ (xs : List FieldCode). are_declared xs (map plain_field (drop i fields))) (sym split) ∙ declared)
+
+pub declared_at : (fields : List (List ℕ × Val)) (i : ℕ) (f : List ℕ × Val) (left : List FieldCode) (d : FieldCode) (ds : List FieldCode) → i < length fields → f ≡ get_or fields i f → left ≡ d ∷ ds → are_declared left (map plain_field (drop i fields)) ≡ true
+    → are_declared ds (map plain_field (drop (i + 1) fields)) ≡ true
+declared_at fields i f left d ds within is split declared = more_declared d ds f (drop (i + 1) fields) (all_declared fields i f left d ds within is split declared)
+
+pub values_at : (fields : List (List ℕ × Val)) (i : ℕ) (f : List ℕ × Val) (left : List FieldCode) (d : FieldCode) (ds : List FieldCode) (all more whole : List (List ℕ × Value)) → i < length fields → f ≡ get_or fields i f → left ≡ d ∷ ds → are_declared left (map plain_field (drop i fields)) ≡ true
+    → more ≡ all ++ (d.name, plain f.1) ∷ [] → all ++ map plain_field (drop i fields) ≡ whole → more ++ map plain_field (drop (i + 1) fields) ≡ whole
+values_at fields i f left d ds all more whole within is split declared pushed so =
+    let name = name_is d ds f (drop (i + 1) fields) (all_declared fields i f left d ds within is split declared) in
+    ap (λ (xs : List (List ℕ × Value)). xs ++ map plain_field (drop (i + 1) fields)) pushed
+    ∙ (one_field all d.name f (drop (i + 1) fields) name
+    ∙ (ap (λ (xs : List (List ℕ × Val)). all ++ map plain_field xs) (sym (next_of fields i f within is)) ∙ so))

@@ -18,7 +18,6 @@ pub(crate) fn has_entity<B: Base>(base: &B, draft: &Draft, entity: EntityId) -> 
 }
 
 /// Whether the activity is there.
-#[tactic(auto, using(crate::proofs::ApplyingLemmas::activity_there))]
 pub(crate) fn has_activity<B: Base>(base: &B, draft: &Draft, activity: ActivityId) -> bool
     ensures { result ≡ has_activity (laid (B.state base.now) draft.now).activities activity.0 }
 {
@@ -26,7 +25,6 @@ pub(crate) fn has_activity<B: Base>(base: &B, draft: &Draft, activity: ActivityI
 }
 
 /// Whether the activity is there and isn't Ending.
-#[tactic(auto, using(crate::proofs::ApplyingLemmas::active_some, crate::proofs::ApplyingLemmas::active_none))]
 pub(crate) fn is_active<B: Base>(base: &B, draft: &Draft, activity: ActivityId) -> bool
     ensures { result ≡ is_active (laid (B.state base.now) draft.now).activities activity.0 }
 {
@@ -37,7 +35,6 @@ pub(crate) fn is_active<B: Base>(base: &B, draft: &Draft, activity: ActivityId) 
 }
 
 /// Whether it is a null activity that isn't Ending.
-#[tactic(auto, using(crate::proofs::ApplyingLemmas::active_null_some, crate::proofs::ApplyingLemmas::active_null_none))]
 pub(crate) fn is_active_null<B: Base>(base: &B, draft: &Draft, activity: ActivityId) -> bool
     ensures { result ≡ is_active_null (laid (B.state base.now) draft.now) activity.0 }
 {
@@ -49,6 +46,6 @@ pub(crate) fn is_active_null<B: Base>(base: &B, draft: &Draft, activity: Activit
 
 /// Passes on that a number of eight bits is a priority.
 #[tactic(auto, using(crate::proofs::SignedLemmas::priority_fits))]
-pub(crate) fn is_priority(_priority: i8)
+pub(crate) fn priority_fits(_priority: i8)
     ensures { IsTrue (is_priority _priority) }
 {}

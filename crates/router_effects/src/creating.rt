@@ -8,7 +8,7 @@ ghost use Rattle.router_steps.specs.Effects.{relation_at};
 ghost use Rattle.router_steps.specs.Lines.{created_line};
 ghost use Rattle.router_draft.specs.Drafts.{laid, CanBeMade, IsLow};
 
-use crate::applying::is_priority;
+use crate::applying::priority_fits;
 use router_draft::{Base, Draft, change, reading};
 use router_moves::{Setting, set_first_fields};
 use router_state::Change;
@@ -83,7 +83,7 @@ fn tell_created<B: Base>(
 }
 
 /// An entity has a new child, where its block has the relation.
-#[tactic(auto, using(crate::proofs::CreatingLemmas::made_so, crate::proofs::CreatingLemmas::told_so, crate::proofs::CreatingLemmas::parent_there))]
+#[tactic(auto, using(crate::proofs::CreatingLemmas::told_so, crate::proofs::CreatingLemmas::parent_there))]
 pub(crate) fn create<S: Setting>(
     alloc: Global,
     setting: &S,
@@ -98,7 +98,7 @@ pub(crate) fn create<S: Setting>(
     ensures lines { OnOk result (draft.new.lines ≡ draft.old.lines ++ (if is_some (relation_at (laid (S.state setting.now) draft.old) parent.0 relation.now) && is_priority priority then created_line (laid (S.state setting.now) draft.old).next_entity parent.0 relation.now ∷ [] else [])) }
     ensures made { OnOk result (CanBeMade (S.state setting.now) draft.new) }
 {
-    is_priority(priority);
+    priority_fits(priority);
     match relation_at(setting, draft, parent, relation) {
         Some(found) => {
             tell_created(alloc, setting, draft, parent, relation)?;

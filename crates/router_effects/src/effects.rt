@@ -5,10 +5,10 @@ ghost use Rattle.router_steps.specs.Effects.{after_effects, lines_of_effects};
 ghost use Rattle.router_draft.specs.Drafts.{laid, CanBeMade, IsLow};
 ghost use Rattle.router_effects.specs.Doing.{done, lines_of_done};
 
+use crate::attaching::{attach_both, detach_from, set_mask};
 use crate::creating::create;
 use crate::fields::{set_attribute, set_field};
 use crate::firing::fire;
-use crate::masking::{attach_both, detach_from, set_mask};
 use crate::naming::{bind, end_null, start_null, unbind};
 use crate::removing::remove_other;
 use crate::resolved::{activity, entity, timer};
@@ -114,6 +114,7 @@ fn do_effect<S: Setting>(
 }
 
 /// The effects of an entity's handler are done, the first of them first; one that doesn't apply at its turn does nothing.
+#[tactic(auto, using(crate::proofs::DoingLemmas::doing_more, crate::proofs::DoingLemmas::lines_more))]
 pub fn do_effects<S: Setting>(
     alloc: Global,
     setting: &S,

@@ -32,7 +32,7 @@ fn declared_field<'a, S: Setting>(
     ensures { option_copied result ≡ declared_field (laid (S.state setting.now) draft.now) entity.0 name.now }
 {
     match reading::block(setting, draft, entity) {
-        Some(block) => setting.field(block, name),
+        Some(block) => Setting::field(setting, block, name),
         None => None,
     }
 }

@@ -1,5 +1,5 @@
 //! Events that handlers fire.
-ghost use Rattle.std.specs.Prelude.{◌≡◌, ◌++◌, ◌&&◌, [], IsTrue, IfOk, OnOk, Some, bytes_eq, if◌then◌else◌, is_some, map, option_copied};
+ghost use Rattle.std.specs.Prelude.{◌≡◌, ◌++◌, ◌∷◌, ◌&&◌, [], IsTrue, IfOk, OnOk, Some, bytes_eq, if◌then◌else◌, is_some, map, option_copied};
 ghost use Rattle.std.specs.List.{list_all};
 ghost use Rattle.slee_value.specs.Name.{is_name};
 ghost use Rattle.slee_value.specs.Order.{names_of};
@@ -87,7 +87,7 @@ fn are_suited<B: Base>(
 }
 
 /// The event type that is fired, where it is declared and the fields suit it.
-#[tactic(auto, using(crate::proofs::FiringLemmas::suited, crate::proofs::FiringLemmas::unsuited, crate::proofs::FiringLemmas::undeclared))]
+#[tactic(auto, using(crate::proofs::FiringLemmas::undeclared))]
 fn suited_event<'a, S: Setting>(
     setting: &'a S,
     draft: &Draft,
@@ -109,8 +109,23 @@ fn suited_event<'a, S: Setting>(
     }
 }
 
+/// A value more, under the declared name.
+fn add_value(
+    alloc: Global,
+    code: &FieldCode,
+    value: &Val,
+    all: &mut Vec<(Name, Value)>,
+) -> Result<(), NoMemory>
+    ensures name { OnOk result (IsTrue (is_name code.now.name)) }
+    ensures items { OnOk result (all.new.items ≡ all.old.items ++ (code.now.name, plain value.now) ∷ []) }
+{
+    let name = code.name.copy(alloc)?;
+    let value = plain(alloc, value)?;
+    all.push((name, value))?;
+    Ok(())
+}
+
 /// The values of these fields under the declared names.
-#[tactic(auto, using(crate::proofs::FiringLemmas::name_is, crate::proofs::FiringLemmas::more_declared, crate::proofs::FiringLemmas::one_field, crate::proofs::FiringLemmas::one_name))]
 fn values_of(
     alloc: Global,
     declared: &[FieldCode],
@@ -126,9 +141,7 @@ fn values_of(
         let Some((code, more)) = left.split_first() else {
             unreachable!()
         };
-        let name = code.name.copy(alloc)?;
-        let value = plain(alloc, &field.1)?;
-        all.push((name, value))?;
+        add_value(alloc, code, &field.1, &mut all)?;
         left = more;
     }
     Ok(all)

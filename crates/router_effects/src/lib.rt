@@ -2,11 +2,11 @@
 #![tactic(auto)]
 
 mod applying;
+mod attaching;
 mod creating;
 mod effects;
 mod fields;
 mod firing;
-mod masking;
 mod naming;
 mod removing;
 mod resolved;

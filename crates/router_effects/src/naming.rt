@@ -1,5 +1,5 @@
 //! Handlers start and end null activities, and bind names.
-ghost use Rattle.std.specs.Prelude.{◌≡◌, ◌++◌, ◌∷◌, [], OnOk, IsTrue, ◌&&◌, if◌then◌else◌, codes, is_none, is_some, length, nat_lt};
+ghost use Rattle.std.specs.Prelude.{◌≡◌, ◌++◌, ◌∷◌, [], OnOk, ◌&&◌, if◌then◌else◌, codes, is_none, is_some, length, nat_lt};
 ghost use Rattle.router_state.specs.Changes.{after_change};
 ghost use Rattle.router_state.specs.Contexts.{is_active, named_at};
 ghost use Rattle.router_state.specs.Fits.{is_text};

@@ -8,7 +8,7 @@ ghost use Rattle.router_state.specs.declared.change.Change.TheVariants as change
 ghost use Rattle.router_steps.specs.Lines.{usage_line};
 ghost use Rattle.router_draft.specs.Drafts.{laid, CanBeMade};
 
-use crate::applying::{has_entity, is_priority};
+use crate::applying::{has_entity, priority_fits};
 use router_draft::{Draft, change};
 use router_moves::Setting;
 use router_state::Change;
@@ -27,7 +27,7 @@ pub(crate) fn set_priority<S: Setting>(
     ensures lines { OnOk result (draft.new.lines ≡ draft.old.lines) }
     ensures made { OnOk result (CanBeMade (S.state setting.now) draft.new) }
 {
-    is_priority(priority);
+    priority_fits(priority);
     if !has_entity(setting, draft, entity) {
         return Ok(());
     }
