@@ -183,9 +183,10 @@ subject_holds s (choices.Deliver a) x sound deployed now is room =
   where
     delivery : (x : Receipt) → delivery_at s a.0 ≡ Some x → HasRoom (after_subject (Delivering x) s) → AreReadableHolds (Delivering x) s
     delivery x found room =
-        let facts = delivered_first s a.0 x found in
-        (has_bits x.activity s.next_activity (there_is_below s x.activity sound (head_is s x.activity x.event sound facts.0).there) now.activity,
-        holds_told x.entity.number.0 _ (marked_entity x s) (sound_marked s a.0 x sound found) deployed room)
+        let facts = delivered_first s a.0 x found in (
+          has_bits x.activity s.next_activity (there_is_below s x.activity sound (head_is s x.activity x.event sound facts.0).there) now.activity,
+          holds_told x.entity.number.0 _ (marked_entity x s) (sound_marked s a.0 x sound found) deployed room,
+        )
 subject_holds s (choices.Finish a) x sound deployed now is room =
     mapped_some (λ y. AreReadableHolds y s) Finishing (finish_at s a.0) x is
     (λ done found. mapped_some (λ (y : Finish). y.activity < 2 ^ 64) (λ v. record { activity = a.0; event = v }) (head_event s.events a.0) done found

@@ -88,10 +88,11 @@ heads s (choices.Deliver a) x sound room is = mapped_some IsReadableSubject Deli
     delivery x found =
         let facts = delivered_first s a.0 x found in
         let head = head_is s x.activity x.event sound facts.0 in
-        let passes = passes_in (is_entity_row s.deployment s.entities s.next_entity) s.entities x.entity (passes_eligible s x.activity x.event x.entity facts.1) (and_parts (rises_in (λ (r : Entity). r.number.0) s.entities) _ sound.entities).1 in
-        (has_bits x.activity s.next_activity (there_is_below s x.activity sound head.there) room.activity,
-        has_bits x.event.id.0 s.next_event (ltb-true x.event.id.0 s.next_event (drawn_below s.next_event x.event.id.0 head.drawn)) room.event,
-        has_bits x.entity.number.0 s.next_entity (ltb-true x.entity.number.0 s.next_entity (drawn_below s.next_entity x.entity.number.0 (and_parts (is_drawn s.next_entity x.entity.number.0) _ passes).0)) room.entity)
+        let passes = passes_in (is_entity_row s.deployment s.entities s.next_entity) s.entities x.entity (passes_eligible s x.activity x.event x.entity facts.1) (and_parts (rises_in (λ (r : Entity). r.number.0) s.entities) _ sound.entities).1 in (
+          has_bits x.activity s.next_activity (there_is_below s x.activity sound head.there) room.activity,
+          has_bits x.event.id.0 s.next_event (ltb-true x.event.id.0 s.next_event (drawn_below s.next_event x.event.id.0 head.drawn)) room.event,
+          has_bits x.entity.number.0 s.next_entity (ltb-true x.entity.number.0 s.next_entity (drawn_below s.next_entity x.entity.number.0 (and_parts (is_drawn s.next_entity x.entity.number.0) _ passes).0)) room.entity,
+        )
 heads s (choices.Finish a) x sound room is =
     mapped_some IsReadableSubject Finishing (finish_at s a.0) x is
     (λ done found. mapped_some (λ (y : Finish). (y.activity < 2 ^ 64) × (y.event.id.0 < 2 ^ 64)) (λ v. record { activity = a.0; event = v }) (head_event s.events a.0) done found
@@ -122,6 +123,7 @@ told_all s [] sound deployed words about legal read room count = tt
 told_all s (e ∷ es) sound deployed words about legal read room count =
     let t = after s e.choice in
     let can = step_can s e es legal read room count in
-    let same = same_after s e.choice in
-    (told_step s e.choice sound deployed words can about.0,
-    told_all t es (sound_after s e.choice sound deployed can) (subst IsDeployed (sym same.0) deployed) (subst AreWords (sym same.0) words) about.1 legal.3 read.1 room count)
+    let same = same_after s e.choice in (
+      told_step s e.choice sound deployed words can about.0,
+      told_all t es (sound_after s e.choice sound deployed can) (subst IsDeployed (sym same.0) deployed) (subst AreWords (sym same.0) words) about.1 legal.3 read.1 room count,
+    )
