@@ -99,7 +99,7 @@ roots_drawn d all next (row ∷ rows) passes =
     positive : (n : ℕ) → nat_lt 0 n ≡ true → (n == 0) ≡ false
     positive n is = grind (arith, nat_tests)
 
-sound_without_loose : (s : State) → IsSound s → IsSound (without_loose s)
+pub sound_without_loose : (s : State) → IsSound s → IsSound (without_loose s)
 sound_without_loose s sound =
     sound_close_roots (roots s.entities) s sound (roots_drawn s.deployment s.entities s.next_entity s.entities (and_parts (rises_in (λ (r : Entity). r.number.0) s.entities) (list_all (is_entity_row s.deployment s.entities s.next_entity) s.entities) sound.entities).1)
 
@@ -169,7 +169,7 @@ inactive_row rows n row state isnt is = elim (or_cases (row.activity.0 == 0) _ i
     by None is = is
     by (Some x) is = and_from (is_of_service n x.kind) _ (and_parts (is_of_service n x.kind) _ is).0 (rw isnt refl)
 
-sound_close_services : (n : ℕ) (rows : List Service) (s : State) → IsSound s → are_services_from s.activities n rows ≡ true → IsSound (close_services n rows s)
+pub sound_close_services : (n : ℕ) (rows : List Service) (s : State) → IsSound s → are_services_from s.activities n rows ≡ true → IsSound (close_services n rows s)
 sound_close_services n [] s sound all = sound
 sound_close_services n (row ∷ rows) s sound all =
     let parts = and_parts (is_service_row s.activities n row) _ all in
@@ -181,15 +181,15 @@ sound_close_services n (row ∷ rows) s sound all =
 
 -- null activities
 
-grown_close_null : (a : ℕ) (s : State) → IsGrown s (close_null a s)
+pub grown_close_null : (a : ℕ) (s : State) → IsGrown s (close_null a s)
 grown_close_null a s =
     grown_if (is_idle_at s a) s (ended s a) s (record { entity = omega arith; activity = omega arith; timer = omega arith; event = omega arith }) (grown_same s s (refl, refl, refl, refl))
 
-grown_close_nulls : (all : List ℕ) (s : State) → IsGrown s (close_nulls all s)
+pub grown_close_nulls : (all : List ℕ) (s : State) → IsGrown s (close_nulls all s)
 grown_close_nulls [] s = grown_same s s (refl, refl, refl, refl)
 grown_close_nulls (a ∷ rest) s = grown_then s (close_null a s) (close_nulls rest (close_null a s)) (grown_close_null a s) (grown_close_nulls rest (close_null a s))
 
-sound_close_null : (a : ℕ) (s : State) → IsSound s → IsDeployed s.deployment → HasRoom (close_null a s) → IsSound (close_null a s)
+pub sound_close_null : (a : ℕ) (s : State) → IsSound s → IsDeployed s.deployment → HasRoom (close_null a s) → IsSound (close_null a s)
 sound_close_null a s sound deployed room = elim (cases_Bool (is_idle_at s a)) [
   | inl idle ↦
       let end : HasRoom (ended s a) = rw idle at room in

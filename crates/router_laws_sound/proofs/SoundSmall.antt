@@ -242,7 +242,7 @@ sound_cancelled s t sound =
 -- suspensions
 
 -- an event waits where some entity has received it
-waits_where_delivered : (events : List Queued) (n a : ℕ) (marks : List EntityMark) → list_all (is_entity_mark events n) marks ≡ true → not (is_undelivered marks a) ≡ true → is_waiting events a ≡ true
+pub waits_where_delivered : (events : List Queued) (n a : ℕ) (marks : List EntityMark) → list_all (is_entity_mark events n) marks ≡ true → not (is_undelivered marks a) ≡ true → is_waiting events a ≡ true
 waits_where_delivered events n a [] all some = absurd (cc)
 waits_where_delivered events n a (m ∷ marks) all some =
     let parts = and_parts (is_entity_mark events n m) (list_all (is_entity_mark events n) marks) all in

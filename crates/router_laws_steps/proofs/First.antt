@@ -145,8 +145,8 @@ sound_initial d program room = record {
   apart = refl;
   fields = refl;
   activities = and_from (rises_in (λ (r : Activity). r.number.0) (table_activities 0 d.tables)) _ (rises_first 0 d.tables)
-  (and_from (list_all (is_activity_row d (length d.tables + 1)) (table_activities 0 d.tables)) _ (rows_first d 0 d.tables (from_none (length d.tables)))
-  (and_from (all_differ (λ (x y : Activity). differ_in_kind x.kind y.kind) (table_activities 0 d.tables)) _ (differ_first 0 d.tables) (tables_first d.tables d.tables 0 (from_none (length d.tables)))));
+      (and_from (list_all (is_activity_row d (length d.tables + 1)) (table_activities 0 d.tables)) _ (rows_first d 0 d.tables (from_none (length d.tables)))
+      (and_from (all_differ (λ (x y : Activity). differ_in_kind x.kind y.kind) (table_activities 0 d.tables)) _ (differ_first 0 d.tables) (tables_first d.tables d.tables 0 (from_none (length d.tables)))));
   attributes = refl;
   links = refl;
   masks = refl;

@@ -232,7 +232,7 @@ gone_close_nulls : (all : List ℕ) (s : State) → StaysGone s (close_nulls all
 gone_close_nulls [] s = gone_still s
 gone_close_nulls (a ∷ rest) s = gone_then s (close_null a s) (close_nulls rest (close_null a s)) (gone_if (is_idle_at s a) s (ended s a) s (gone_ended s a) (gone_still s)) (gone_close_nulls rest (close_null a s))
 
-gone_closing : (s : State) → StaysGone s (closing s)
+pub gone_closing : (s : State) → StaysGone s (closing s)
 gone_closing s =
     let loose = without_loose s in
     let stopped = without_stopped loose in

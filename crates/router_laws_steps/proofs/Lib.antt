@@ -7,3 +7,9 @@ pub mod Selecting
 pub mod WholeSteps
 pub mod First
 pub mod Gone
+pub mod Told
+pub mod EndLemmas
+pub mod ToldLines
+pub mod ToldSteps
+pub mod HoldsTold
+pub mod RunLemmas

@@ -103,14 +103,14 @@ of_timer rows next to t is (k ∷ ks) =
     let one = and_parts (is_drawn next t.number.0) _ is in
     (((and_parts (is_active rows t.activity.0) _ one.1).0, drawn_below next t.number.0 one.0), of_timer rows next to t is ks)
 
-of_timers : (rows : List Activity) (next to : ℕ) (timers : List Timer) → list_all (is_timer_row rows next) timers ≡ true → AllByRecursion (λ (x : Occurrence). (is_active rows x.activity ≡ true) × (nat_lt x.timer next ≡ true)) (flat_map (fired_of to) timers)
+pub of_timers : (rows : List Activity) (next to : ℕ) (timers : List Timer) → list_all (is_timer_row rows next) timers ≡ true → AllByRecursion (λ (x : Occurrence). (is_active rows x.activity ≡ true) × (nat_lt x.timer next ≡ true)) (flat_map (fired_of to) timers)
 of_timers rows next to [] all = tt
 of_timers rows next to (t ∷ timers) all =
     let parts = and_parts (is_timer_row rows next t) (list_all (is_timer_row rows next) timers) all in
     all_append (λ (x : Occurrence). (is_active rows x.activity ≡ true) × (nat_lt x.timer next ≡ true)) (fired_of to t) (flat_map (fired_of to) timers)
     (of_timer rows next to t parts.0 (range_with_len (due_count t to - fired_count to t) (fired_count to t))) (of_timers rows next to timers parts.1)
 
-all_sorted : {X : Type 0} (P : X → Type 0) (before : X → X → Bool) (xs : List X) → AllByRecursion P xs → AllByRecursion P (sorted before xs)
+pub all_sorted : {X : Type 0} (P : X → Type 0) (before : X → X → Bool) (xs : List X) → AllByRecursion P xs → AllByRecursion P (sorted before xs)
 all_sorted {X = X} P before xs all = from (sorted before xs) (λ x there. all_in P xs x (in_sorted before x xs there) all)
   where
     from : (ys : List X) → ((x : X) → IsIn x ys → P x) → AllByRecursion P ys

@@ -62,7 +62,7 @@ andthen_ok : {A B : Type 0} (r : Result A Refusal) (f : A → Result B Refusal) 
 andthen_ok (Ok x) f y is = (x, refl, is)
 andthen_ok (Err why) f y is = absurd (cc)
 
-there_ok : {A : Type 0} (why : Refusal) (o : Option A) (x : A) → there_or why o ≡ Ok x → o ≡ Some x
+pub there_ok : {A : Type 0} (why : Refusal) (o : Option A) (x : A) → there_or why o ≡ Ok x → o ≡ Some x
 there_ok why None x is = absurd (cc)
 there_ok why (Some y) x is = ap Some (ok_same y x (Ok y) refl is)
 
@@ -103,12 +103,12 @@ at_number (x ∷ rows) row order (inr more) =
     apart x y less = grind (arith, nat_tests)
 
 -- the row of an external activity that isn't Ending
-record IsOpen (s : State) (row : Activity) : Type 0 where
-  found : activity_at s.activities row.number.0 ≡ Some row
-  awake : row.ending ≡ false
-  kind : (table : not (is_table row.kind) ≡ true) × ((k : ℕ) → is_of_service k row.kind ≡ false)
+pub record IsOpen (s : State) (row : Activity) : Type 0 where
+  pub found : activity_at s.activities row.number.0 ≡ Some row
+  pub awake : row.ending ≡ false
+  pub kind : (table : not (is_table row.kind) ≡ true) × ((k : ℕ) → is_of_service k row.kind ≡ false)
 
-external_open : (s : State) (name : List ℕ) (row : Activity) → IsSound s → open_activity s name ≡ Ok row → IsOpen s row
+pub external_open : (s : State) (name : List ℕ) (row : Activity) → IsSound s → open_activity s name ≡ Ok row → IsOpen s row
 external_open s name row sound is =
     let p = open_found s name row is in
     let order = order_from_rises (λ (x y : Activity). nat_lt x.number.0 y.number.0) number_joins s.activities (sound_ordered s sound).activities in
@@ -196,7 +196,7 @@ keeps_deactivate s key counts =
 
 -- rows of tables
 
-table_there : (s : State) (name : List ℕ) (n : ℕ) → table_of_name s name ≡ Ok n → nat_lt n (length s.deployment.tables) ≡ true
+pub table_there : (s : State) (name : List ℕ) (n : ℕ) → table_of_name s name ≡ Ok n → nat_lt n (length s.deployment.tables) ≡ true
 table_there s name n is = place s.deployment.tables n (there_ok refusals.UnknownTable (table_named s.deployment name) n is)
   where
     place : (tables : List DeployedTable) (n : ℕ) → position (λ (x : DeployedTable). bytes_eq x.name name) tables ≡ Some n → nat_lt n (length tables) ≡ true

@@ -123,16 +123,19 @@ grown_replay s (e ∷ es) = grown_then s (after s e.choice) (replay (after s e.c
 
 -- what a step is about
 
-passes_eligible : (s : State) (a : ℕ) (v : Event) (row : Entity) → IsIn row (eligible s a v) → IsIn row s.entities
+pub passes_eligible : (s : State) (a : ℕ) (v : Event) (row : Entity) → IsIn row (eligible s a v) → IsIn row s.entities
 passes_eligible s a v row there = (in_filter (is_eligible s a v) row s.entities there).0
 
-sound_delivery : (s : State) (a : ℕ) (x : Receipt) → IsSound s → IsDeployed s.deployment → delivery_at s a ≡ Some x → HasRoom (after_subject (Delivering x) s) → IsSound (after_subject (Delivering x) s)
-sound_delivery s a x sound deployed found room =
+-- the entity that receives the head event is marked
+pub sound_marked : (s : State) (a : ℕ) (x : Receipt) → IsSound s → delivery_at s a ≡ Some x → IsSound (marked_entity x s)
+sound_marked s a x sound found =
     let facts = delivered_first s a x found in
     let head = head_is s x.activity x.event sound facts.0 in
-    let there = passes_eligible s x.activity x.event x.entity facts.1 in
-    let passes = passes_in (is_entity_row s.deployment s.entities s.next_entity) s.entities x.entity there (and_parts (rises_in (λ (r : Entity). r.number.0) s.entities) _ sound.entities).1 in
-    sound_done x.entity.number.0 x.delivered.effects (marked_entity x s) (sound_marked_entity s x.activity x.entity.number.0 sound head.waits (and_parts (is_drawn s.next_entity x.entity.number.0) _ passes).0) deployed room
+    let passes = passes_in (is_entity_row s.deployment s.entities s.next_entity) s.entities x.entity (passes_eligible s x.activity x.event x.entity facts.1) (and_parts (rises_in (λ (r : Entity). r.number.0) s.entities) _ sound.entities).1 in
+    sound_marked_entity s x.activity x.entity.number.0 sound head.waits (and_parts (is_drawn s.next_entity x.entity.number.0) _ passes).0
+
+sound_delivery : (s : State) (a : ℕ) (x : Receipt) → IsSound s → IsDeployed s.deployment → delivery_at s a ≡ Some x → HasRoom (after_subject (Delivering x) s) → IsSound (after_subject (Delivering x) s)
+sound_delivery s a x sound deployed found room = sound_done x.entity.number.0 x.delivered.effects (marked_entity x s) (sound_marked s a x sound found) deployed room
 
 sound_finish : (s : State) (x : Finish) → IsSound s → head_event s.events x.activity ≡ Some x.event → is_suspended s.suspensions x.activity ≡ false → IsSound (finished x s)
 sound_finish s x sound head free = elim (cases_Bool (is_end x)) [
@@ -140,7 +143,7 @@ sound_finish s x sound head free = elim (cases_Bool (is_end x)) [
   | inr isnt ↦ rw isnt (sound_popped s x.activity x.event sound head isnt free)
 ]
 
-sound_before : (s : State) (c : Choice) → IsSound s → IsDeployed s.deployment → is_enabled s c ≡ true → IsReadChoice c → is_u64 (after s c).inputs ≡ true → HasRoom (before_closing s c) → IsSound (before_closing s c)
+pub sound_before : (s : State) (c : Choice) → IsSound s → IsDeployed s.deployment → is_enabled s c ≡ true → IsReadChoice c → is_u64 (after s c).inputs ≡ true → HasRoom (before_closing s c) → IsSound (before_closing s c)
 sound_before s (choices.Input signal) sound deployed on read count room =
     sound_taken s signal sound deployed read (subst (λ n. is_u64 n ≡ true) (counted_inputs s (choices.Input signal)) count) room
 sound_before s (choices.Initial a) sound deployed on read count room = by (due_at s a.0) refl room
