@@ -58,7 +58,7 @@ pub data Action : Type 0 where
   SetClock : ℕ → List Suspension → List Occurrence → Action
   -- the service of this number becomes Active
   ActivateService : ℕ → Action
-  -- the service of this number stops, and its activity ends, 0 being none
+  -- the service of this number stops, and its activity ends where it is Active
   StopService : ℕ → ℕ → Action
   -- the row of this name of the table of this number changes
   ChangeRow : ℕ → List ℕ → RowChange → Action

@@ -1,5 +1,5 @@
 -- When resolved effects apply: what each refers to is there at its turn, and is as it was declared.
-use Rattle.std.specs.Prelude.{ℕ, nat_lt, nat_le, ◌==◌, Bool, true, false, ◌&&◌, ◌||◌, not, is_some, is_none, IsTrue, List, [], ◌∷◌, Option, map, length}
+use Rattle.std.specs.Prelude.{ℕ, nat_lt, nat_le, ◌==◌, Bool, true, false, ◌&&◌, ◌||◌, not, if◌then◌else◌, is_some, is_none, IsTrue, List, [], ◌∷◌, Option, map, length}
 use Rattle.std.specs.List.{list_any, list_all}
 use Rattle.std.specs.Option.{option_map_or}
 use Rattle.std.specs.Str.{bytes_eq}
@@ -20,7 +20,7 @@ use Rattle.router_state.specs.Queues.{is_undelivered}
 use Rattle.router_state.specs.Timers.{last_moment}
 use Rattle.router_state.specs.Trees.{entity_at, tree_of}
 use Rattle.router_state.specs.declared.rows.Entity.{Entity}
-use Rattle.router_steps.specs.Effects.{number_in, plain, plain_field, relation_at, service_for, after_effect}
+use Rattle.router_steps.specs.Effects.{number_in, plain, plain_field, relation_at, service_for, resolved_in, after_effect, after_effects, lines_of_effects}
 
 -- a value fits, and is of this kind
 abbrev pub suits : State → Val → Kind → Bool
@@ -83,3 +83,20 @@ all_apply me (x ∷ xs) s = applies me x s && all_apply me xs (after_effect x s)
 -- the same as a statement
 abbrev pub Apply : ℕ → List Effect → State → Type 0
 Apply me xs s = IsTrue (all_apply me xs s)
+
+-- Those of these effects that apply, each at its turn; one that doesn't apply does nothing. That all effects of a delivery apply is a law that is owed (docs/DECISIONS).
+abbrev pub applying : ℕ → List Effect → State → List Effect
+applying me [] s = []
+applying me (x ∷ xs) s = if applies me x s then x ∷ applying me xs (after_effect x s) else applying me xs s
+
+-- the effects of an entity's run that apply in a state, what is new with the numbers that come next there
+abbrev pub applied_in : ℕ → State → List Effect → List Effect
+applied_in me s xs = applying me (resolved_in s xs) s
+
+-- the state after them
+abbrev pub done_effects : ℕ → List Effect → State → State
+done_effects me xs s = after_effects (applied_in me s xs) s
+
+-- their lines
+abbrev pub lines_of_done_effects : ℕ → List Effect → State → List (List ℕ)
+lines_of_done_effects me xs s = lines_of_effects (applied_in me s xs) s

@@ -117,11 +117,3 @@ next_in s = record { entity = s.next_entity; activity = s.next_activity; timer =
 -- a run's effects in a state, what is new with the numbers that come next there
 abbrev pub resolved_in : State → List Effect → List Effect
 resolved_in s xs = map (resolved_effect (next_in s)) xs
-
--- the state after a run's effects
-abbrev pub done_effects : List Effect → State → State
-done_effects xs s = after_effects (resolved_in s xs) s
-
--- the lines of a run's effects
-abbrev pub lines_of_done_effects : List Effect → State → List (List ℕ)
-lines_of_done_effects xs s = lines_of_effects (resolved_in s xs) s

@@ -25,7 +25,7 @@ use Rattle.router_steps.specs.declared.refusal.Refusal.{Refusal}
 use Rattle.router_steps.specs.Actions.{Action, action_of}
 use Rattle.router_steps.specs.Closing.{closing, lines_of_closing}
 use Rattle.router_steps.specs.Creating.{with_root}
-use Rattle.router_steps.specs.Effects.{done_effects, lines_of_done_effects}
+use Rattle.router_steps.specs.Applying.{done_effects, lines_of_done_effects}
 use Rattle.router_steps.specs.Lines.{input_heading, initial_heading, initial_none_heading, deliver_heading, finish_heading, exception_line, rolled_back_line, gone_line}
 use Rattle.router_steps.specs.Moves.{attached, lines_of_attached, dropped}
 use Rattle.router_steps.specs.Scripts.{delivered_in}
@@ -129,7 +129,7 @@ abbrev pub lines_of_delivery : Receipt → State → List (List ℕ)
 lines_of_delivery x s =
     deliver_heading x.activity x.event.id.0 x.entity.number.0 x.delivered.outcome
     ∷ (line_of_callback exception_line x.delivered.exception
-    ++ (line_of_callback rolled_back_line x.delivered.rolled_back ++ lines_of_done_effects x.delivered.effects (marked_entity x s)))
+    ++ (line_of_callback rolled_back_line x.delivered.rolled_back ++ lines_of_done_effects x.entity.number.0 x.delivered.effects (marked_entity x s)))
 
 -- the event ends its activity
 abbrev pub is_end : Finish → Bool
@@ -149,7 +149,7 @@ lines_of_finish x = finish_heading x.activity x.event.id.0 ∷ (if is_end x then
 abbrev pub after_subject : Subject → State → State
 after_subject (Taking signal action) s = taken action s
 after_subject (Selecting x) s = with_root_attached x x.root (marked_service x s)
-after_subject (Delivering x) s = done_effects x.delivered.effects (marked_entity x s)
+after_subject (Delivering x) s = done_effects x.entity.number.0 x.delivered.effects (marked_entity x s)
 after_subject (Finishing x) s = finished x s
 
 -- the heading without its number, and the lines below it, before those of closing

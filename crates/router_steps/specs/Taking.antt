@@ -1,5 +1,5 @@
 -- Taking a line: the state after what it does, before closing, and its lines.
-use Rattle.std.specs.Prelude.{ℕ, ◌==◌, if◌then◌else◌, List, [], ◌∷◌, ◌++◌, codes, Some, None, Result, Ok, Err}
+use Rattle.std.specs.Prelude.{ℕ, if◌then◌else◌, List, [], ◌∷◌, ◌++◌, codes, Some, None, Result, Ok, Err}
 use Rattle.built_in_events.specs.declared.built_in.BuiltInEvent.TheVariants as built_in_events
 use Rattle.built_in_events.specs.BuiltIn.{name_of as built_in_name}
 use Rattle.slee_value.specs.declared.value.Value.{Value}
@@ -7,6 +7,7 @@ use Rattle.slee_value.specs.declared.value.Value.TheVariants as values
 use Rattle.deploy_model.specs.Deployed.{service_key}
 use Rattle.router_state.specs.State.{State}
 use Rattle.router_state.specs.Changes.{after_change}
+use Rattle.router_state.specs.Contexts.{is_active}
 use Rattle.router_state.specs.Initial.{table_activity}
 use Rattle.router_state.specs.declared.change.Change.TheVariants as changes
 use Rattle.router_state.specs.declared.rows.AcKind.TheVariants as kinds
@@ -59,13 +60,13 @@ lines_of_activated n s =
     ∷ started_line s.next_activity (codes "service " ++ service_key s.deployment n)
     ∷ lines_of_queued s s.next_activity (built_in_name built_in_events.ServiceStarted)
 
--- the activity of this number ends, where there is one
+-- the activity of this number ends where it is Active
 abbrev pub ended_if : ℕ → State → State
-ended_if a s = if a == 0 then s else ended s a
+ended_if a s = if is_active s.activities a then ended s a else s
 
 -- its lines
 abbrev pub lines_of_ended_if : ℕ → State → List (List ℕ)
-lines_of_ended_if a s = if a == 0 then [] else lines_of_ended s a
+lines_of_ended_if a s = if is_active s.activities a then lines_of_ended s a else []
 
 -- A row changes, and this is told on its table's activity, with the row's name (JSR 240, chapter 10).
 abbrev pub row_changed : ℕ → List ℕ → RowChange → State → State
