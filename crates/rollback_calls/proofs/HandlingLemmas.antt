@@ -1,14 +1,14 @@
 -- Where the handler of an event stands, among handlers in memory and among those of a program.
-use Rattle.std.proofs.Common.{◌≡◌, ◌<◌, ℕ, zero, suc, Bool, true, false, true≢false, List, [], ◌∷◌, length, map, Option, Some, None, is_some, refl, sym, ap, ◌∙◌, arith}
+use Rattle.std.proofs.Common.{◌≡◌, ◌<◌, ℕ, zero, suc, Bool, true, false, true≢false, List, [], ◌∷◌, length, map, Option, Some, None, is_some, refl, sym, subst, ap, ◌∙◌, arith}
 use Rattle.std.specs.Prelude.{◌↔◌, IsTrue, position, find, slice_get, bytes_eq, cond, nat_lt, option_map}
 use Rattle.std.specs.List.{position_or_len}
 use Rattle.std.specs.Option.{option_and_then}
-use Rattle.std.proofs.lemmas.Option.{slice_get-map}
+use Rattle.std.proofs.lemmas.List.Folds.{find_at}
+use Rattle.std.proofs.lemmas.Option.{slice_get-map, slice_get_past}
 use Rattle.script_types.specs.declared.checked_script.HandlerSteps.{HandlerSteps}
 use Rattle.script_types.specs.declared.checked_script.BlockSteps.{BlockSteps}
 use Rattle.script_types.specs.ProgramOf.{handler_program_of, block_program_of, steps_of}
 use Rattle.script_types.specs.Program.{HandlerProgram, BlockProgram, Program, Steps}
-use Rattle.script_types.proofs.PlaceLemmas.{item_at}
 use Rattle.script_meaning.specs.Delivery.{steps_in, handler_of}
 use Rattle.script_meaning.specs.declared.which.Part.TheVariants as part
 use Rattle.script_meaning.specs.Meaning.{steps_of_handler}
@@ -27,32 +27,25 @@ found_is : (event : List ℕ) (handlers : List HandlerSteps) → find (λ h. byt
 found_is event [] = refl
 found_is event (x ∷ handlers) = found_in (bytes_eq x.event event) x (find (λ h. bytes_eq h.event event) handlers) (find (λ h. bytes_eq h.event event) (map handler_program_of handlers)) (found_is event handlers)
 
--- a first place is one of the list
-within : (m n len : ℕ) (b : Bool) → nat_lt m len ≡ b → cond b (Some m) None ≡ Some n → n < len
-within m n len true told is = grind arith
-within m n len false told is = cc
-
 at_place : {A : Type 0} (xs : List A) (n : ℕ) → n < length xs → (x : A) × (slice_get xs n ≡ Some x)
 at_place [] n h = absurd (omega (arith, h))
 at_place (x ∷ xs) zero h = (x, refl)
 at_place (x ∷ xs) (suc n) h = at_place xs n (omega (arith, h))
 
-position_within : {A : Type 0} (p : A → Bool) (xs : List A) (n : ℕ) → position p xs ≡ Some n → n < length xs
-position_within p xs n is = within (position_or_len p xs) n (length xs) (nat_lt (position_or_len p xs) (length xs)) refl is
-
-stands_by : (event : List ℕ) (handlers : List HandlerSteps) (place : Option ℕ) → find (λ h. bytes_eq h.event event) handlers ≡ option_and_then (slice_get handlers) place → ((n : ℕ) → place ≡ Some n → n < length handlers) → StandsAt event (map handler_program_of handlers) place
-stands_by event handlers None h few = ap steps_in (found_is event handlers ∙ ap (option_map handler_program_of) h)
-stands_by event handlers (Some place) h few =
-    let there = at_place handlers place (few place refl) in (
+stands_by : (event : List ℕ) (handlers : List HandlerSteps) (n : ℕ) (b : Bool) → nat_lt n (length handlers) ≡ b → find (λ h. bytes_eq h.event event) handlers ≡ slice_get handlers n → StandsAt event (map handler_program_of handlers) (cond b (Some n) None)
+stands_by event handlers n true told found =
+    let there = at_place handlers n (grind arith) in (
       steps_of there.0.steps,
-      ap steps_in (found_is event handlers ∙ ap (option_map handler_program_of) (h ∙ there.1)),
-      ap steps_of_handler (slice_get-map handler_program_of handlers place ∙ ap (option_map handler_program_of) there.1),
+      ap steps_in (found_is event handlers ∙ ap (option_map handler_program_of) (found ∙ there.1)),
+      ap steps_of_handler (slice_get-map handler_program_of handlers n ∙ ap (option_map handler_program_of) there.1),
     )
+stands_by event handlers n false told found =
+    ap steps_in (found_is event handlers ∙ ap (option_map handler_program_of) (found ∙ slice_get_past handlers n (grind arith)))
 
 pub stands_at : (event : List ℕ) (handlers : List HandlerSteps) (place : Option ℕ) → place ≡ position (λ h. bytes_eq h.event event) handlers → StandsAt event (map handler_program_of handlers) place
 stands_at event handlers place is =
-    stands_by event handlers place (item_at (λ h. bytes_eq h.event event) handlers ∙ ap (option_and_then (slice_get handlers)) (sym is))
-    (λ n at. position_within (λ h. bytes_eq h.event event) handlers n (sym is ∙ at))
+    subst (StandsAt event (map handler_program_of handlers)) (sym is)
+    (stands_by event handlers (position_or_len (λ h. bytes_eq h.event event) handlers) _ refl (find_at (λ h. bytes_eq h.event event) handlers))
 
 -- where a handler stands among those of a block it stands in the program
 pub in_block : (blocks : List BlockSteps) (number : ℕ) (event : List ℕ) (block : BlockSteps) (place : Option ℕ) → slice_get blocks number ≡ Some block → StandsAt event (map handler_program_of block.handlers) place → PlaceIn (map block_program_of blocks) number event place
