@@ -1,4 +1,5 @@
 -- What is asked of a deployment, and of the numbers that come next, so that what is done keeps states sound.
+use Rattle.std.specs.Prelude.{Some, true, ℕ, ◌≡◌, ◌≤◌}
 use Rattle.deploy_model.specs.Deployed.{Deployed, DeployedService, block_fields, is_event, masked_on_attach, service_at}
 use Rattle.router_laws_sound.specs.Moves.{AreOwnNames}
 use Rattle.router_state.specs.Fits.{is_priority, is_u64}
@@ -6,11 +7,10 @@ use Rattle.router_state.specs.State.{State}
 use Rattle.rows_sorted.specs.Orders.{rises_by}
 use Rattle.script_types.specs.declared.codes.FieldCode.{FieldCode}
 use Rattle.slee_value.specs.Order.{is_below}
-use Rattle.std.proofs.Common.{Some, true, ℕ, ◌≡◌, ◌≤◌}
 use Rattle.std.specs.List.{list_all}
 
--- What holds of each deployment that is read: no declared event has the name of one that is built in, what is masked on
--- attaching are events, the fields of a block rise, and priorities lie in their range.
+-- No declared event has the name of one that is built in, what is masked on attaching are events, the fields of a block rise,
+-- and priorities lie in their range.
 pub record IsDeployed (d : Deployed) : Type 0 where
   pub own : AreOwnNames d
   pub masked : (block : ℕ) → list_all (is_event d) (masked_on_attach d block) ≡ true

@@ -1,10 +1,9 @@
 -- Choices whose lines were read: a signal that a line can give, whose texts are texts.
+use Rattle.std.specs.Prelude.{Bool, List, [], true, ℕ, ◌∷◌, ◌≡◌, ◌&&◌}
 use Rattle.router_state.specs.Fits.{is_text}
 use Rattle.signal_script.specs.Signals.{is_signal}
 use Rattle.signal_script.specs.declared.signal.Signal.{Signal}
-use Rattle.std.proofs.Common.{Bool, List, [], true, ℕ, ◌∷◌, ◌≡◌}
 use Rattle.std.specs.List.{list_all}
-use Rattle.std.specs.Prelude.{◌&&◌}
 use Rattle.trace_history.specs.declared.choice.Choice.{Choice}
 use Rattle.trace_history.specs.declared.entry.Entry.{Entry}
 use Rattle.trace_history.specs.declared.choice.Choice.TheVariants as choices
