@@ -1,4 +1,4 @@
--- What planning asks of every state, and of the deployment that is lent to it.
+-- Which deployment is lent to a state.
 use Rattle.std.specs.Prelude.{◌≡◌}
 use Rattle.deploy_model.specs.Resolving.{deployed_of}
 use Rattle.script_types.specs.ProgramOf.{IsChecked, kept_program}

@@ -1,7 +1,9 @@
-//! The router of any deployment: what is next, what a step changes and tells, and the step made in memory that was taken before.
+//! The state of the router: what is next, whether a choice may be made, and what is seen at a key.
 #![tactic(auto)]
 
 mod choosing;
+mod sight;
 mod state;
 
+pub use sight::Sight;
 pub use state::State;
