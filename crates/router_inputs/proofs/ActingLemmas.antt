@@ -126,7 +126,7 @@ apart s n row values (x ∷ rows) none =
   where
     by : (b u : Bool)
         → (list_any (λ other. if is_row n row other then false else not (are_unique s.deployment (record { table = n; row = row; attributes = values }) other)) rows ≡ false
-            → list_all (λ other. is_row n row other || are_unique s.deployment (record { table = n; row = row; attributes = values }) other) rows ≡ true)
+        → list_all (λ other. is_row n row other || are_unique s.deployment (record { table = n; row = row; attributes = values }) other) rows ≡ true)
         → ((if b then false else not u) || list_any (λ other. if is_row n row other then false else not (are_unique s.deployment (record { table = n; row = row; attributes = values }) other)) rows) ≡ false
         → ((b || u) && list_all (λ other. is_row n row other || are_unique s.deployment (record { table = n; row = row; attributes = values }) other) rows) ≡ true
     by true u more is = more is

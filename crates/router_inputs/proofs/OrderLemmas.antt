@@ -72,13 +72,13 @@ passes p q [] x all none = absurd (cc)
 passes p q (y ∷ xs) x all found =
     let parts = and_parts (q y) (list_all q xs) all in
     elim (cases_Bool (p y)) [
-    | inl here ↦
-        let first : Some y ≡ Some x = rw here at found in
-        let own : y ≡ x = cc in
-        rw (← own) parts.0
-    | inr apart ↦
-        let later : find p xs ≡ Some x = rw apart at found in
-        passes p q xs x parts.1 later
+      | inl here ↦
+          let first : Some y ≡ Some x = rw here at found in
+          let own : y ≡ x = cc in
+          rw (← own) parts.0
+      | inr apart ↦
+          let later : find p xs ≡ Some x = rw apart at found in
+          passes p q xs x parts.1 later
     ]
 
 event_rises : (d : Deployed) (event : List ℕ) (declared : EventCode) → are_in_order d ≡ true → named (λ (e : EventCode). e.name) event d.events ≡ Some declared → are_rising declared.fields ≡ true
@@ -107,6 +107,7 @@ attributes_rise d n order = by (table_at d n)
     by_profile : (o : Option DeployedProfile) → ((p : DeployedProfile) → o ≡ Some p → are_rising p.attributes ≡ true) → are_rising (option_map_or (λ (p : DeployedProfile). p.attributes) o []) ≡ true
     by_profile None each = refl
     by_profile (Some p) each = each p refl
+
     by : (o : Option DeployedTable) → are_rising (option_map_or (λ (p : DeployedProfile). p.attributes) (option_and_then (λ (t : DeployedTable). slice_get d.profiles t.profile) o) []) ≡ true
     by None = refl
     by (Some t) = by_profile (slice_get d.profiles t.profile) (λ p found.

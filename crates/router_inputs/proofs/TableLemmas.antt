@@ -3,8 +3,6 @@ use Rattle.std.proofs.Common.{◌≡◌, ℕ, List, [], Option, Some, None, map,
 use Rattle.std.specs.Prelude.{slice_get, option_map, option_and_then}
 use Rattle.std.specs.Option.{option_map_or}
 use Rattle.std.proofs.lemmas.Option.{slice_get-map}
-use Rattle.script_types.specs.declared.checked_script.BlockSteps.{BlockSteps}
-use Rattle.script_types.specs.declared.codes.Codes.{Codes}
 use Rattle.script_types.specs.declared.codes.TableCode.{TableCode}
 use Rattle.deploy_model.specs.Deployed.{DeployedProfile, DeployedTable, table_attributes}
 use Rattle.deploy_model.specs.Resolving.{deployed_of, field_of, number_of, profile_of, table_of}
@@ -13,10 +11,10 @@ use Rattle.deploy_model.specs.Tables.{key_number}
 use Rattle.deploy_model.specs.declared.parts.Parts.{Parts}
 use Rattle.deploy_model.specs.declared.parts.ProfileSpec.{ProfileSpec}
 use Rattle.deploy_model.specs.declared.parts.Table.{Table}
-use Rattle.slee_descriptor.specs.CodesOfParts.{codes_in, table_code}
+use Rattle.slee_descriptor.specs.CodesOfParts.{table_code}
 use Rattle.router_stores.proofs.PartLemmas.{attributes_at}
 
-attributes_are : (parts : Parts) (n : ℕ)
+pub attributes_are : (parts : Parts) (n : ℕ)
     → option_map_or (λ (t : TableCode). t.attributes) (slice_get (map (table_code (key_number (λ (p : ProfileSpec). p.key) parts.profiles) parts.profiles) parts.tables) n) [] ≡ table_attributes (deployed_of parts) n
 attributes_are parts n =
     let numbers : Numbering = key_number (λ (p : ProfileSpec). p.key) parts.profiles in
@@ -29,12 +27,3 @@ attributes_are parts n =
         ≡ option_map_or (λ (p : DeployedProfile). p.attributes) (option_and_then (λ (t : DeployedTable). slice_get (map profile_of parts.profiles) t.profile) (option_map (table_of (key_number (λ (p : ProfileSpec). p.key) parts.profiles)) found)) []
     by None = refl
     by (Some t) = attributes_at parts.profiles (number_of (key_number (λ (p : ProfileSpec). p.key) parts.profiles) t.profile)
-
--- those of the table that is found, and none where none is
-pub attributes_some : (parts : Parts) (programs : List BlockSteps) (codes : Codes) (n : ℕ) (code : TableCode) → codes ≡ codes_in parts programs → slice_get codes.tables n ≡ Some code → code.attributes ≡ table_attributes (deployed_of parts) n
-attributes_some parts programs codes n code is found =
-    sym (ap (λ o. option_map_or (λ (t : TableCode). t.attributes) o []) (sym (ap (λ (all : Codes). slice_get all.tables n) is) ∙ found)) ∙ attributes_are parts n
-
-pub attributes_none : (parts : Parts) (programs : List BlockSteps) (codes : Codes) (n : ℕ) → codes ≡ codes_in parts programs → slice_get codes.tables n ≡ None → [] ≡ table_attributes (deployed_of parts) n
-attributes_none parts programs codes n is none =
-    sym (ap (λ o. option_map_or (λ (t : TableCode). t.attributes) o []) (sym (ap (λ (all : Codes). slice_get all.tables n) is) ∙ none)) ∙ attributes_are parts n

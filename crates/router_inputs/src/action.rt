@@ -19,9 +19,13 @@ pub enum RowChange {
 #[derive(Drop)]
 pub enum Action {
     /// An external activity of this name starts.
-    StartActivity { name: Name },
+    StartActivity {
+        name: Name,
+    },
     /// The activity ends.
-    EndActivity { activity: ActivityId },
+    EndActivity {
+        activity: ActivityId,
+    },
     /// An event is fired on the activity, for the service alone where there is one.
     FireEvent {
         activity: ActivityId,
@@ -36,9 +40,14 @@ pub enum Action {
         occurrences: Vec<Due>,
     },
     /// The service becomes Active.
-    ActivateService { service: u32 },
+    ActivateService {
+        service: u32,
+    },
     /// The service stops, and its activity ends where it is Active.
-    StopService { service: u32, activity: ActivityId },
+    StopService {
+        service: u32,
+        activity: ActivityId,
+    },
     /// The row of this name of the table changes.
     ChangeRow {
         table: u32,

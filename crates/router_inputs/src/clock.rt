@@ -34,11 +34,7 @@ fn put_in_order(list: &mut Vec<Suspension>) -> Result<(), NoMemory>
 }
 
 /// The suspensions that end at the moment, by moment and then by activity.
-fn ending_suspensions(
-    alloc: Global,
-    queues: &Queues,
-    to: u64,
-) -> Result<Vec<Suspension>, NoMemory>
+fn ending_suspensions(alloc: Global, queues: &Queues, to: u64) -> Result<Vec<Suspension>, NoMemory>
     ensures { IfOk result (λ list. list.items ≡ ending_suspensions to queues.now.suspensions) }
 {
     let mut list = Vec::new(alloc);

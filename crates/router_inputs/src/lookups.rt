@@ -60,10 +60,7 @@ pub fn declared_event<'a>(
 }
 
 /// The number of the service for which an event is, where it is for one alone.
-pub fn target_of(
-    deployment: &Deployment,
-    service: &Option<Name>,
-) -> Result<Option<u32>, Refusal>
+pub fn target_of(deployment: &Deployment, service: &Option<Name>) -> Result<Option<u32>, Refusal>
     ensures { result ≡ target_of (deployed_of deployment.now.parts) service.now }
 {
     match service {
@@ -94,11 +91,7 @@ pub fn service_of_key(
 }
 
 /// The number of the table of this name.
-pub fn table_of_name(
-    stores: &Stores,
-    deployment: &Deployment,
-    name: &Name,
-) -> Result<u32, Refusal>
+pub fn table_of_name(stores: &Stores, deployment: &Deployment, name: &Name) -> Result<u32, Refusal>
     requires { deployed_of deployment.now.parts ≡ stores.now.state.deployment }
     ensures same { result ≡ table_of_name stores.now.state name.now }
     ensures there { IfOk result (λ n. IsTrue (has_table stores.now.state.deployment n)) }

@@ -1,5 +1,6 @@
 //! Rows of profile tables that lines add, change and remove.
-ghost use Rattle.std.specs.Prelude.{◌≡◌, false, true, is_some, IfOk, IsTrue};
+ghost use Rattle.std.specs.Prelude.{◌≡◌, [], false, true, slice_get, IfOk, IsTrue};
+ghost use Rattle.std.specs.Option.{option_map_or};
 ghost use Rattle.deploy_model.specs.Deployed.{table_attributes};
 ghost use Rattle.deploy_model.specs.Resolving.{deployed_of};
 ghost use Rattle.router_state.specs.Fits.{are_declared};
@@ -9,29 +10,32 @@ ghost use Rattle.router_steps.specs.Values.{fields_given};
 ghost use Rattle.router_inputs.specs.Acting.{answer_in};
 ghost use Rattle.router_inputs.specs.InOrder.{AreInOrder};
 
-use crate::values;
-use crate::{Action, RowChange};
+use crate::{Action, RowChange, values};
 use router_steps::Refusal;
 use router_stores::Stores;
-use script_types::FieldCode;
+use script_types::{FieldCode, TableCode};
 use signal_script::{Fields, Word};
 use slee_descriptor::Deployment;
 use slee_value::{NoMemory, Payload, Text};
 use std::alloc::Global;
 
-/// The attributes that are declared for the rows of the table.
-#[tactic(auto, using(crate::proofs::TableLemmas::attributes_some, crate::proofs::TableLemmas::attributes_none))]
-fn attributes_of(deployment: &Deployment, table: u32) -> &[FieldCode]
-    ensures { result.now ≡ table_attributes (deployed_of deployment.now.parts) table }
+fn attributes_at(tables: &[TableCode], table: u32) -> &[FieldCode]
+    ensures { result.now ≡ option_map_or (λ t. t.attributes) (slice_get tables.now table) [] }
 {
-    match deployment.codes().tables.as_slice().get(table as usize) {
+    match tables.get(table as usize) {
         Some(code) => code.attributes.as_slice(),
         None => &[],
     }
 }
 
+/// The attributes that are declared for the rows of the table.
+fn attributes_of(deployment: &Deployment, table: u32) -> &[FieldCode]
+    ensures { result.now ≡ table_attributes (deployed_of deployment.now.parts) table }
+{
+    attributes_at(deployment.codes().tables.as_slice(), table)
+}
+
 /// The values that the words give to the attributes of a row of the table.
-#[tactic(auto, using(crate::proofs::OrderLemmas::attributes_rise, crate::proofs::GivenLemmas::given_are_declared))]
 fn values_of(
     alloc: Global,
     deployment: &Deployment,

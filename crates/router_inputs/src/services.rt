@@ -32,11 +32,7 @@ pub fn activating(
 }
 
 /// The service stops.
-pub fn stopping(
-    stores: &Stores,
-    deployment: &Deployment,
-    service: &Name,
-) -> Result<Action, Refusal>
+pub fn stopping(stores: &Stores, deployment: &Deployment, service: &Name) -> Result<Action, Refusal>
     requires { deployed_of deployment.now.parts ≡ stores.now.state.deployment }
     ensures { answer_in result ≡ action_of stores.now.state (signals.Deactivate service.now) }
 {

@@ -45,11 +45,7 @@ fn text_given<'a>(name: &Name, words: &'a Fields) -> Option<&'a str>
 }
 
 /// The value that the words give to a declared field.
-fn value_given(
-    alloc: Global,
-    field: &FieldCode,
-    words: &Fields,
-) -> Result<Option<Value>, NoMemory>
+fn value_given(alloc: Global, field: &FieldCode, words: &Fields) -> Result<Option<Value>, NoMemory>
     ensures { IfOk result (λ value. value ≡ value_given field.now words.now) }
 {
     match text_given(&field.name, words) {
@@ -71,7 +67,10 @@ fn values_given(
     let mut values = Payload::new(alloc);
     'fields: for field in fields {
         match value_given(alloc, field, words)? {
-            Some(value) => values.push(field.name.copy(alloc)?, value)?,
+            Some(value) => {
+                let _len = values.len();
+                values.push(field.name.copy(alloc)?, value)?;
+            }
             None => return Ok(None),
         }
     }
