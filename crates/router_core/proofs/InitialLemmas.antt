@@ -1,5 +1,5 @@
 -- In a state in which nothing has happened nothing is to be closed.
-use Rattle.std.proofs.Common.{◌≡◌, ℕ, ◌+◌, Bool, true, false, List, [], ◌∷◌, map, refl, inl, inr, IsTrue}
+use Rattle.std.proofs.Common.{◌≡◌, ℕ, ◌+◌, Bool, true, false, List, [], ◌∷◌, map, refl, inl, inr}
 use Rattle.std.proofs.lemmas.Bool.{cases_Bool}
 use Rattle.script_types.specs.Program.{Program}
 use Rattle.deploy_model.specs.Deployed.{Deployed, DeployedService, DeployedTable}
@@ -7,8 +7,6 @@ use Rattle.router_state.specs.Closed.{are_nulls_in_use, are_stopping_with_trees,
 use Rattle.router_state.specs.Initial.{initial, service_deployed, table_activities}
 use Rattle.router_state.specs.State.{State}
 use Rattle.router_state.specs.Well.{IsClosed}
-use Rattle.router_state.specs.declared.rows.Service.{Service}
-use Rattle.router_state.specs.declared.rows.ServiceState.TheVariants as states
 
 -- no service is Stopping
 runs : (n : ℕ) (service : DeployedService) → is_stopped [] n (service_deployed service) ≡ false
