@@ -1,14 +1,11 @@
--- The root above an entity is the one in whose tree it is.
-use Rattle.std.proofs.Common.{◌≡◌, ℕ, zero, suc, ◌+◌, ◌<◌, ◌≤◌, ◌==◌, ◌⊎◌, inl, inr, true, false, Bool, List, [], ◌∷◌, ◌++◌, Option, Some, None, length, flat_map, refl, sym, ◌∙◌, ap, subst, arith, if◌then◌else◌}
+-- Members of trees, and the rows of entities.
+use Rattle.std.proofs.Common.{◌≡◌, ℕ, zero, suc, ◌≤◌, ◌==◌, ◌⊎◌, inl, inr, true, false, List, [], ◌∷◌, Some, flat_map, refl, sym, ◌∙◌, ap, subst, arith, if◌then◌else◌}
 use Rattle.std.proofs.lemmas.Bool.{cases_Bool}
-use Rattle.std.proofs.lemmas.Bool.Decides.{nat_tests}
-use Rattle.router_state.specs.Trees.{entity_at, parent_of, tree, tree_of}
+use Rattle.router_state.specs.Trees.{entity_at, parent_of, tree}
 use Rattle.router_state.specs.declared.rows.Entity.{Entity}
 use Rattle.router_laws.proofs.ForestLemmas.{from_branches, in_branches, in_either, in_left, tree_top}
 use Rattle.router_laws_closing.proofs.LooseLemmas.{number_same, same_number}
 use Rattle.router_laws.specs.Forest.{IsIn, AreBelowChildren}
-use Rattle.router_laws_closing.specs.Loose.{IsForest}
-use Rattle.router_laws_closing.specs.Candidates.{root_above}
 
 -- the parent of a member is a member
 pub parent_in : (rows : List Entity) (k x m : ℕ) → IsIn m (tree k rows x) → (m ≡ x) ⊎ ((c : Entity) × IsIn c rows × (c.number.0 ≡ m) × IsIn (parent_of c) (tree k rows x))
@@ -50,24 +47,4 @@ found_once (r ∷ rs) row once is = elim (cases_Bool (r.number.0 == row.number.0
     | inl here ↦ let wrong : true ≡ false = sym (same_number r.number.0 row.number.0 (ap (λ (x : Entity). x.number.0) (sym here))) ∙ other in absurd (cc)
     | inr more ↦ rw other (found_once rs row (λ x y one two same. once x y (inr one) (inr two) same) more)
   ]
-]
-
-pub root_above_is : (rows : List Entity) (root : Entity) → IsForest rows → IsIn root rows → parent_of root ≡ 0 → (n m : ℕ) → m ≤ n → IsIn m (tree_of rows root.number.0) → root_above n rows m ≡ root.number.0
-root_above_is rows root forest there bare zero m fits is =
-    let low = forest.below root there in
-    let high = not_below rows forest.below (length rows) root.number.0 m is in
-    absurd (omega (arith, low, high, fits))
-root_above_is rows root forest there bare (suc n) m fits is = elim (parent_in rows (length rows) root.number.0 m is) [
-  | inl same ↦
-      let found : entity_at rows m ≡ Some root = ap (entity_at rows) same ∙ found_once rows root forest.once there in
-      let none : (parent_of root == 0) ≡ true = same_number (parent_of root) 0 bare in
-      rw (found, none) same
-  | inr more ↦
-      let found : entity_at rows m ≡ Some more.0 = ap (entity_at rows) (sym more.2) ∙ found_once rows more.0 forest.once more.1 in
-      let low = forest.below more.0 more.1 in
-      let root_low = forest.below root there in
-      let high = not_below rows forest.below (length rows) root.number.0 (parent_of more.0) more.3 in
-      let some : (parent_of more.0 == 0) ≡ false = grind (arith, nat_tests, root_low, high) in
-      let upper = root_above_is rows root forest there bare n (parent_of more.0) (omega (arith, low, more.2, fits)) more.3 in
-      rw (found, some) upper
 ]

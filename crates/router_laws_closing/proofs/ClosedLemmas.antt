@@ -1,7 +1,7 @@
 -- After closing nothing is left to close.
-use Rattle.std.proofs.Common.{◌≡◌, ℕ, suc, ◌+◌, ◌==◌, Bool, true, false, ◌&&◌, ◌||◌, not, List, [], ◌∷◌, ◌++◌, length, map, refl, sym, ◌∙◌, ap, subst, inl, inr, arith}
-use Rattle.std.specs.Prelude.{nat_lt, Option, option_map, Some, None}
-use Rattle.std.specs.List.{AllByRecursion, list_all, list_any}
+use Rattle.std.proofs.Common.{◌≡◌, ℕ, suc, ◌+◌, ◌==◌, Bool, true, false, ◌&&◌, not, List, [], ◌∷◌, ◌++◌, length, map, refl, sym, ◌∙◌, ap, subst, inl, inr, arith}
+use Rattle.std.specs.Prelude.{nat_lt, option_map, Some, None}
+use Rattle.std.specs.List.{AllByRecursion, list_all}
 use Rattle.std.specs.Option.{option_map_or}
 use Rattle.std.proofs.lemmas.Bool.{cases_Bool, cond_both, and_parts, and_from, not_from_false, eqb-true, false_from_ne_true, false≢true}
 use Rattle.std.proofs.lemmas.Bool.Decides.{nat_tests}
@@ -12,25 +12,19 @@ use Rattle.router_laws_closing.proofs.HeldLemmas.{AreApart, IsHeld, roots_held}
 use Rattle.router_laws_closing.proofs.FreedLemmas.{once_in, tops_differ}
 use Rattle.router_laws_closing.proofs.GoingLemmas.{gone_activities}
 use Rattle.router_laws_closing.proofs.IdleLemmas.{end_at, kept_number, still_closed}
-use Rattle.router_laws.proofs.ListRules.{append_nil, filter_in, in_filter}
-use Rattle.router_laws.proofs.Queues.{waiting_more}
-use Rattle.router_laws.proofs.Tests.{tests_map, any_filter}
+use Rattle.router_laws.proofs.ListRules.{filter_in, in_filter}
 use Rattle.router_state.specs.State.{State}
 use Rattle.router_state.specs.Changes.{after_change}
-use Rattle.router_state.specs.Closed.{is_loose, is_stopped, is_in_use, is_unused, are_stopping_with_trees}
+use Rattle.router_state.specs.Closed.{is_loose, is_stopped, are_stopping_with_trees}
 use Rattle.router_state.specs.Contexts.{activity_at, is_null, ends, with_end}
-use Rattle.router_state.specs.Queues.{is_waiting}
 use Rattle.router_state.specs.Services.{with_service as service_set}
 use Rattle.router_state.specs.Trees.{number_of, parent_of, roots, children, tree_of}
 use Rattle.router_state.specs.Well.{IsClosed}
 use Rattle.router_state.specs.declared.change.Change.TheVariants as changes
 use Rattle.router_state.specs.declared.rows.Activity.{Activity}
 use Rattle.router_state.specs.declared.rows.Entity.{Entity}
-use Rattle.router_state.specs.declared.rows.Link.{Link}
-use Rattle.router_state.specs.declared.rows.Named.{Named}
 use Rattle.router_state.specs.declared.rows.Service.{Service}
 use Rattle.router_state.specs.declared.rows.ServiceState.TheVariants as states
-use Rattle.router_state.specs.declared.rows.Timer.{Timer}
 use Rattle.router_steps.specs.Closing.{activity_numbers, close_root, close_roots, close_service, close_services, close_null, close_nulls, is_idle, is_idle_at, closing, without_loose, without_stopped}
 use Rattle.router_steps.specs.Moves.{ended}
 use Rattle.router_steps.specs.Going.{all_removed, removed, tree_removed}
@@ -130,7 +124,7 @@ none_idle (a ∷ rest) s those b = none_idle rest (close_null a s) (λ c idle. b
     by c idle (inr more) = more
 
 -- an activity that is found has its number among all
-found_among : (f : Activity → Bool) (rows : List Activity) (b : ℕ) → option_map_or f (activity_at rows b) false ≡ true → IsIn b (map (λ (row : Activity). row.number.0) rows)
+pub found_among : (f : Activity → Bool) (rows : List Activity) (b : ℕ) → option_map_or f (activity_at rows b) false ≡ true → IsIn b (map (λ (row : Activity). row.number.0) rows)
 found_among f [] b is = absurd (cc)
 found_among f (row ∷ rows) b is = elim (cases_Bool (row.number.0 == b)) [
   | inl own ↦ inl (sym (eqb-true row.number.0 b own))
@@ -199,7 +193,7 @@ each_row f (row ∷ rows) rises none =
 
 -- what closing services and null activities leaves as it was
 
-services_keep : (n : ℕ) (rows : List Service) (s : State) → ((close_services n rows s).entities ≡ s.entities) × ((close_services n rows s).links ≡ s.links) × ((close_services n rows s).activities ≡ s.activities)
+pub services_keep : (n : ℕ) (rows : List Service) (s : State) → ((close_services n rows s).entities ≡ s.entities) × ((close_services n rows s).links ≡ s.links) × ((close_services n rows s).activities ≡ s.activities)
 services_keep n [] s = (refl, refl, refl)
 services_keep n (row ∷ rows) s =
     let one = cond_both (is_stopped s.entities n row) (after_change (changes.Service n states.Inactive row.activity) s) s (λ (t : State). (t.entities ≡ s.entities) × (t.links ≡ s.links) × (t.activities ≡ s.activities)) (λ _. (refl, refl, refl)) (λ _. (refl, refl, refl)) in
@@ -219,23 +213,23 @@ held_all : (s : State) (es : List ℕ) → ((f : ℕ) → IsIn f es → IsHeld s
 held_all s [] each = refl
 held_all s (e ∷ es) each = and_from _ _ (not_from_false (is_loose s.entities s.links e) (each e (inl refl))) (held_all s es (λ f there. each f (inr there)))
 
-mapped_in : (e : ℕ) (rows : List Entity) → IsIn e (map number_of rows) → (row : Entity) × IsIn row rows × (row.number.0 ≡ e)
+pub mapped_in : (e : ℕ) (rows : List Entity) → IsIn e (map number_of rows) → (row : Entity) × IsIn row rows × (row.number.0 ≡ e)
 mapped_in e [] there = elim there [ ]
 mapped_in e (r ∷ rs) (inl same) = (r, inl refl, sym same)
 mapped_in e (r ∷ rs) (inr more) = let found = mapped_in e rs more in (found.0, inr found.1, found.2)
 
-in_mapped : (row : Entity) (rows : List Entity) → IsIn row rows → IsIn row.number.0 (map number_of rows)
+pub in_mapped : (row : Entity) (rows : List Entity) → IsIn row rows → IsIn row.number.0 (map number_of rows)
 in_mapped row [] there = elim there [ ]
 in_mapped row (r ∷ rs) (inl same) = inl (ap (λ (x : Entity). x.number.0) same)
 in_mapped row (r ∷ rs) (inr more) = inr (in_mapped row rs more)
 
-root_of_list : (rows : List Entity) (e : ℕ) → IsIn e (roots rows) → IsRoot rows e
+pub root_of_list : (rows : List Entity) (e : ℕ) → IsIn e (roots rows) → IsRoot rows e
 root_of_list rows e there =
     let found = mapped_in e (children rows 0) there in
     let kept = in_filter (λ (row : Entity). parent_of row == 0) found.0 rows found.1 in
     (found.0, kept.0, found.2, eqb-true (parent_of found.0) 0 kept.1)
 
-list_of_root : (rows : List Entity) (e : ℕ) → IsRoot rows e → IsIn e (roots rows)
+pub list_of_root : (rows : List Entity) (e : ℕ) → IsRoot rows e → IsIn e (roots rows)
 list_of_root rows e root =
     subst (λ n. IsIn n (roots rows)) root.2 (in_mapped root.0 (children rows 0) (filter_in (λ (row : Entity). parent_of row == 0) root.0 rows root.1 (zero_is (parent_of root.0) root.3)))
   where

@@ -1,30 +1,29 @@
 -- Behind changes of a closed state only roots that were freed may be loose.
-use Rattle.std.proofs.Common.{◌≡◌, ℕ, ℤ, zero, suc, ◌+◌, ◌<◌, ◌≤◌, ◌==◌, ◌⊎◌, inl, inr, true, false, Bool, List, [], ◌∷◌, ◌++◌, Option, Some, None, length, filter, map, flat_map, find, refl, sym, ◌∙◌, ap, subst, arith, if◌then◌else◌, IsTrue, nat_lt}
-use Rattle.std.specs.Prelude.{not, ◌||◌, ◌&&◌, is_some, sum}
+use Rattle.std.proofs.Common.{◌≡◌, ℕ, ℤ, zero, suc, ◌+◌, ◌<◌, ◌==◌, ◌⊎◌, inl, inr, true, false, Bool, List, [], ◌∷◌, ◌++◌, length, filter, map, flat_map, refl, sym, ◌∙◌, ap, subst, arith, if◌then◌else◌, nat_lt}
+use Rattle.std.specs.Prelude.{not, ◌||◌, ◌&&◌, sum}
 use Rattle.std.specs.List.{list_any, list_all, AllByRecursion}
 use Rattle.std.proofs.lemmas.Bool.{cases_Bool, cond_both, and_parts, not-true}
 use Rattle.std.proofs.lemmas.Bool.Decides.{nat_tests}
 use Rattle.router_state.specs.State.{State}
-use Rattle.rows_sorted.specs.Orders.{put}
 use Rattle.router_state.specs.Closed.{is_loose}
-use Rattle.router_state.specs.Fitting.{FitsChange, FitChanges, has_entity, is_childless, is_detached}
+use Rattle.router_state.specs.Fitting.{has_entity, is_childless, is_detached}
+use Rattle.router_laws_closing.specs.Keeping.{KeepsTrees, AllKeepTrees}
 use Rattle.rows_sorted.specs.Orders.{rises_in}
 use Rattle.router_state.specs.Well.{IsClosed}
 use Rattle.router_state.specs.Contexts.{is_link, link_before, with_link, without_link, without_links_on}
 use Rattle.router_state.specs.Changes.{after_change, after_changes}
-use Rattle.router_state.specs.Trees.{attachment_count, children, count_of, entity_at, has_priority, links_of, number_of, parent_of, roots, tree, tree_of, with_entity, with_priority, without_entity}
+use Rattle.router_state.specs.Trees.{attachment_count, children, count_of, has_priority, links_of, number_of, parent_of, roots, tree, tree_of, with_priority, without_entity}
 use Rattle.router_state.specs.declared.change.Change.{Change}
 use Rattle.router_state.specs.declared.change.Change.TheVariants as changes
 use Rattle.router_state.specs.declared.rows.Entity.{Entity}
-use Rattle.router_state.specs.declared.rows.Stem.{Stem}
 use Rattle.router_state.specs.declared.rows.Stem.TheVariants as stems
 use Rattle.router_state.specs.declared.rows.Link.{Link}
-use Rattle.router_laws.proofs.ForestLemmas.{from_branches, in_either, in_left, in_right, tree_top, trees_whole}
-use Rattle.router_laws.proofs.ListLemmas.{any_joined, any_kept}
+use Rattle.router_laws.proofs.ForestLemmas.{from_branches, in_either, in_left, tree_top, trees_whole}
+use Rattle.router_laws.proofs.ListLemmas.{any_kept}
 use Rattle.router_laws_closing.proofs.IdleLemmas.{any_more, filter_stays, or_left, or_right, put_stays}
 use Rattle.router_laws_closing.proofs.LooseLemmas.{count_is_none, to_member, none_attached, number_same, same_number, some_rows, still_in, was_in}
 use Rattle.router_laws.specs.Forest.{IsIn, AreBelowChildren, AreWhole}
-use Rattle.router_laws_closing.specs.Loose.{AreLooseAmong, AreLooseRootsAmong, DoDiffer, IsForest, IsNumbered, IsRoot, frees, freed_by, is_member}
+use Rattle.router_laws_closing.specs.Loose.{AreLooseAmong, AreLooseRootsAmong, DoDiffer, IsNumbered, IsRoot, frees, freed_by, is_member}
 
 -- nothing is attached where no attachment is found
 
@@ -246,15 +245,14 @@ tops_created among rows links new next number below known row is top loose = eli
       or_right (among row.number.0) (next == row.number.0) (same_number next row.number.0 (sym (ap (λ (x : Entity). x.number.0) same ∙ number)))
 ]
 
-tops_after : (among : ℕ → Bool) (c : Change) (s : State) → AreBelowChildren (after_change c s).entities → AreBelowChildren s.entities → FitsChange c s → AreLooseRootsAmong among s.entities s.links
+tops_after : (among : ℕ → Bool) (c : Change) (s : State) → AreBelowChildren (after_change c s).entities → AreBelowChildren s.entities → KeepsTrees c s → AreLooseRootsAmong among s.entities s.links
     → AreLooseRootsAmong (or_frees among c s) (after_change c s).entities (after_change c s).links
 tops_after among (changes.CreateRoot block service priority) s later below fits known =
     tops_created among s.entities s.links (record { number = record { 0 = s.next_entity }; block = block; stem = stems.Root service; priority = priority }) s.next_entity refl later known
 tops_after among (changes.CreateChild parent relation block priority) s later below fits known =
     tops_created among s.entities s.links (record { number = record { 0 = s.next_entity }; block = block; stem = stems.Child parent relation; priority = priority }) s.next_entity refl later known
 tops_after among (changes.Remove e) s later below fits known = λ row is top loose.
-    let parts = and_parts (has_entity s.entities e.0) (is_childless s.entities e.0 && is_detached s.links e.0) fits in
-    let bare = and_parts (is_childless s.entities e.0) (is_detached s.links e.0) parts.1 in
+    let bare = and_parts (is_childless s.entities e.0) (is_detached s.links e.0) fits in
     or_left (among row.number.0) false (known row (was_in (λ row. not (row.number.0 == e.0)) s.entities row is) top (removed_back s.entities s.links e.0 row below (not-true _ bare.0) (not-true _ bare.1) is loose))
 tops_after among (changes.SetPriority e priority) s later below fits known = λ row is top loose.
     let found = prior_in e.0 priority s.entities row is in
@@ -292,11 +290,10 @@ numbered_created s new numbered number parent = record {
   some = omega arith;
 }
 
-pub numbered_after : (c : Change) (s : State) → FitsChange c s → IsNumbered s → IsNumbered (after_change c s)
+pub numbered_after : (c : Change) (s : State) → KeepsTrees c s → IsNumbered s → IsNumbered (after_change c s)
 numbered_after (changes.CreateRoot block service priority) s fits numbered = numbered_created s (record { number = record { 0 = s.next_entity }; block = block; stem = stems.Root service; priority = priority }) numbered refl numbered.some
 numbered_after (changes.CreateChild parent relation block priority) s fits numbered =
-    let parts = and_parts _ _ fits in
-    let found = found_in s.entities parent.0 parts.0 in
+    let found = found_in s.entities parent.0 fits in
     let lower = numbered.drawn found.0 found.1 in
     numbered_created s (record { number = record { 0 = s.next_entity }; block = block; stem = stems.Child parent relation; priority = priority }) numbered refl (omega (arith, lower, found.2))
 numbered_after (changes.Remove e) s fits numbered = record {
@@ -319,7 +316,7 @@ regroup : (a b c : Bool) → (a || (b || c)) ≡ ((a || b) || c)
 regroup true b c = refl
 regroup false b c = refl
 
-freed_through : (cs : List Change) (among : ℕ → Bool) (s : State) → IsNumbered s → FitChanges cs s → AreLooseRootsAmong among s.entities s.links
+freed_through : (cs : List Change) (among : ℕ → Bool) (s : State) → IsNumbered s → AllKeepTrees cs s → AreLooseRootsAmong among s.entities s.links
     → AreLooseRootsAmong (λ e. among e || freed_by cs s e) (after_changes cs s).entities (after_changes cs s).links
 freed_through [] among s numbered fits known row is top loose = or_left (among row.number.0) false (known row is top loose)
 freed_through (c ∷ cs) among s numbered fits known row is top loose =
@@ -328,7 +325,7 @@ freed_through (c ∷ cs) among s numbered fits known row is top loose =
     regroup (among row.number.0) (frees c s row.number.0) (freed_by cs (after_change c s) row.number.0)
     ∙ freed_through cs (or_frees among c s) (after_change c s) later fits.1 one row is top loose
 
-numbered_through : (cs : List Change) (s : State) → IsNumbered s → FitChanges cs s → IsNumbered (after_changes cs s)
+numbered_through : (cs : List Change) (s : State) → IsNumbered s → AllKeepTrees cs s → IsNumbered (after_changes cs s)
 numbered_through [] s numbered fits = numbered
 numbered_through (c ∷ cs) s numbered fits = numbered_through cs (after_change c s) (numbered_after c s fits.0 numbered) fits.1
 
@@ -402,7 +399,7 @@ known_roots among rows links rises below known = record {
 }
 
 -- behind changes of a closed state each loose root was freed
-pub only_freed : (cs : List Change) (s : State) → IsClosed s → IsNumbered s → FitChanges cs s → rises_in number_of (after_changes cs s).entities ≡ true
+pub only_freed : (cs : List Change) (s : State) → IsClosed s → IsNumbered s → AllKeepTrees cs s → rises_in number_of (after_changes cs s).entities ≡ true
     → AreLooseAmong (freed_by cs s) (after_changes cs s).entities (after_changes cs s).links (roots (after_changes cs s).entities)
 only_freed cs s closed numbered fits rises =
     known_roots (freed_by cs s) (after_changes cs s).entities (after_changes cs s).links rises (numbered_through cs s numbered fits).below

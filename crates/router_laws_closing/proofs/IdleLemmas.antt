@@ -1,6 +1,6 @@
 -- Null activities that changes may leave idle, and what closing looks at of them.
 use Rattle.std.proofs.Common.{◌≡◌, ℕ, ◌==◌, Bool, true, false, List, [], ◌∷◌, ◌++◌, filter, map, refl, sym, ap, subst, ◌∙◌, arith, inl, inr}
-use Rattle.std.specs.Prelude.{not, ◌||◌, ◌&&◌, if◌then◌else◌, Option, option_map, Some, None}
+use Rattle.std.specs.Prelude.{not, ◌||◌, ◌&&◌, Option, option_map, Some, None}
 use Rattle.std.specs.Option.{option_map_or}
 use Rattle.std.specs.List.{list_any, list_all, AllByRecursion}
 use Rattle.std.specs.Str.{bytes_eq}
@@ -23,7 +23,7 @@ use Rattle.router_state.specs.declared.rows.Named.{Named}
 use Rattle.router_state.specs.declared.rows.Queued.{Queued}
 use Rattle.router_state.specs.declared.rows.Timer.{Timer}
 use Rattle.router_steps.specs.Closing.{is_idle, is_idle_at, close_null, close_nulls, lines_of_null, lines_of_nulls}
-use Rattle.router_steps.specs.Moves.{ended, lines_of_ended}
+use Rattle.router_steps.specs.Moves.{ended}
 use Rattle.router_laws.proofs.ListLemmas.{any_joined, any_kept, any_put_own, any_put_other}
 use Rattle.router_laws_closing.proofs.TextLemmas.{one_below}
 use Rattle.router_laws_closing.specs.Idle.{AreIdleAmong, releases, released_by}

@@ -6,7 +6,11 @@ pub mod FreedLemmas
 pub mod AboveLemmas
 pub mod OrderLemmas
 pub mod GoingLemmas
-pub mod CandidateLemmas
 pub mod MeetingLemmas
 pub mod HeldLemmas
 pub mod ClosedLemmas
+pub mod KeepingLemmas
+pub mod MemberLemmas
+pub mod ParentLemmas
+pub mod TouchedRootLemmas
+pub mod TouchedActivityLemmas

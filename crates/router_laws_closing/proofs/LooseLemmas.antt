@@ -1,21 +1,12 @@
 -- Roots in whose trees nothing is attached, and what their going leaves of the others.
-use Rattle.std.proofs.Common.{◌≡◌, ℕ, zero, suc, ◌+◌, ◌<◌, ◌≤◌, ◌==◌, ◌⊎◌, inl, inr, true, false, Bool, List, [], ◌∷◌, ◌++◌, length, filter, map, flat_map, refl, sym, ◌∙◌, ap, subst, arith, if◌then◌else◌}
-use Rattle.std.specs.Prelude.{not, ◌||◌, ◌&&◌, sum}
-use Rattle.std.specs.List.{list_any, list_all, AllByRecursion, sum_by}
-use Rattle.std.proofs.lemmas.Bool.{cases_Bool, and_parts, not-true}
+use Rattle.std.proofs.Common.{◌≡◌, ℕ, zero, suc, ◌+◌, ◌<◌, ◌==◌, inl, inr, true, false, Bool, List, [], ◌∷◌, length, filter, map, flat_map, refl, sym, ◌∙◌, ap, subst, arith, if◌then◌else◌}
+use Rattle.std.specs.Prelude.{not, sum}
+use Rattle.std.proofs.lemmas.Bool.{cases_Bool}
 use Rattle.std.proofs.lemmas.Bool.Decides.{nat_tests}
 use Rattle.std.proofs.lemmas.List.Sums.{sum_by-cons, sum-map}
-use Rattle.router_state.specs.State.{State}
-use Rattle.router_state.specs.Closed.{is_loose}
-use Rattle.router_state.specs.Changes.{after_change, after_changes}
-use Rattle.router_state.specs.Trees.{attachment_count, children, count_of, links_of, parent_of, tree, tree_of, without_entity}
-use Rattle.router_state.specs.declared.change.Change.{Change}
-use Rattle.router_state.specs.declared.change.Change.TheVariants as changes
+use Rattle.router_state.specs.Trees.{attachment_count, children, count_of, links_of, parent_of, tree, tree_of}
 use Rattle.router_state.specs.declared.rows.Entity.{Entity}
 use Rattle.router_state.specs.declared.rows.Link.{Link}
-use Rattle.router_steps.specs.Closing.{close_root, close_roots, lines_of_root, lines_of_roots}
-use Rattle.router_steps.specs.Going.{all_removed, removed, tree_removed, lines_of_tree_removed}
-use Rattle.router_steps.specs.Moves.{changes_of_detaching}
 use Rattle.router_laws.proofs.ForestLemmas.{from_branches, in_branches, in_either, in_left, tree_top, trees_whole}
 use Rattle.router_laws.specs.Forest.{IsIn, AreBelowChildren, AreWhole}
 use Rattle.router_laws_closing.specs.Loose.{is_member}

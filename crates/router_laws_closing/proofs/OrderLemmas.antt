@@ -1,25 +1,24 @@
 -- A tree goes in order: nothing is below an entity when its turn comes.
-use Rattle.std.proofs.Common.{◌≡◌, ℕ, zero, suc, ◌+◌, ◌<◌, ◌≤◌, ◌==◌, ◌⊎◌, inl, inr, true, false, Bool, List, [], ◌∷◌, ◌++◌, length, filter, flat_map, refl, sym, ◌∙◌, ap, subst, arith, if◌then◌else◌, IsTrue}
+use Rattle.std.proofs.Common.{◌≡◌, ℕ, zero, suc, ◌<◌, ◌==◌, inl, inr, true, false, Bool, List, [], ◌∷◌, ◌++◌, filter, flat_map, refl, ◌∙◌, ap, subst, arith, if◌then◌else◌}
 use Rattle.std.specs.Prelude.{not, ◌||◌, ◌&&◌}
-use Rattle.std.specs.List.{list_any, AllByRecursion}
-use Rattle.std.proofs.lemmas.Bool.{cases_Bool, cond_both, and_parts}
+use Rattle.std.specs.List.{list_any}
+use Rattle.std.proofs.lemmas.Bool.{cases_Bool}
 use Rattle.std.proofs.lemmas.Bool.Decides.{nat_tests}
 use Rattle.router_state.specs.State.{State}
-use Rattle.router_state.specs.Contexts.{is_link, without_link}
-use Rattle.router_state.specs.Fitting.{FitsChange, FitChanges, has_activity, has_entity, is_childless, is_detached}
+use Rattle.router_state.specs.Contexts.{is_link}
+use Rattle.router_state.specs.Fitting.{is_childless, is_detached}
 use Rattle.router_state.specs.Changes.{after_change, after_changes}
-use Rattle.router_state.specs.Trees.{parent_of, tree, tree_of, without_entity}
+use Rattle.router_state.specs.Trees.{parent_of, tree}
 use Rattle.router_state.specs.declared.change.Change.{Change}
 use Rattle.router_state.specs.declared.change.Change.TheVariants as changes
-use Rattle.router_state.specs.declared.rows.Activity.{Activity}
 use Rattle.router_state.specs.declared.rows.Entity.{Entity}
 use Rattle.router_state.specs.declared.rows.Link.{Link}
-use Rattle.router_steps.specs.Going.{changes_of_removal, removed}
+use Rattle.router_steps.specs.Going.{changes_of_removal}
 use Rattle.router_steps.specs.Moves.{changes_of_detaching}
-use Rattle.router_laws.proofs.ForestLemmas.{above_all, above_child, above_top, in_branches, tree_top}
-use Rattle.router_laws_closing.proofs.LooseLemmas.{to_member, number_same, same_number, was_in}
+use Rattle.router_laws.proofs.ForestLemmas.{above_child, in_branches, tree_top}
+use Rattle.router_laws_closing.proofs.LooseLemmas.{number_same}
 use Rattle.router_laws.specs.Forest.{IsIn, AreBelowChildren, above}
-use Rattle.router_laws_closing.specs.Loose.{is_member}
+use Rattle.router_laws_closing.specs.Keeping.{KeepsTrees, AllKeepTrees}
 
 -- each of these, when its turn comes, has no child but those that were seen before
 abbrev pub Bare : List Entity → List ℕ → List ℕ → Type 0
@@ -72,16 +71,16 @@ bare_tree (suc k) rows e seen below fits =
 
 -- attachments that are cut, one after another
 
-pub fit_both : (cs ds : List Change) (s : State) → FitChanges cs s → FitChanges ds (after_changes cs s) → FitChanges (cs ++ ds) s
-fit_both [] ds s one two = two
-fit_both (c ∷ cs) ds s one two = (one.0, fit_both cs ds (after_change c s) one.1 two)
+pub keep_both : (cs ds : List Change) (s : State) → AllKeepTrees cs s → AllKeepTrees ds (after_changes cs s) → AllKeepTrees (cs ++ ds) s
+keep_both [] ds s one two = two
+keep_both (c ∷ cs) ds s one two = (one.0, keep_both cs ds (after_change c s) one.1 two)
 
 abbrev pub cuts : List Link → List Change
 cuts ls = flat_map changes_of_detaching ls
 
-cuts_fit : (ls : List Link) (s : State) → AllByRecursion (λ l. has_activity s.activities l.activity.0 ≡ true) ls → FitChanges (cuts ls) s
-cuts_fit [] s there = tt
-cuts_fit (l ∷ ls) s there = (there.0, (refl, cuts_fit ls (after_changes (changes_of_detaching l) s) there.1))
+cuts_keep : (ls : List Link) (s : State) → AllKeepTrees (cuts ls) s
+cuts_keep [] s = tt
+cuts_keep (l ∷ ls) s = (refl, (refl, cuts_keep ls (after_changes (changes_of_detaching l) s)))
 
 pub cut_entities : (ls : List Link) (s : State) → (after_changes (cuts ls) s).entities ≡ s.entities
 cut_entities [] s = refl
@@ -150,20 +149,13 @@ all_cut m links (l ∷ ls) part = elim (cases_Bool (l.entity.0 == m)) [
   | inr other ↦ rw other (all_cut m links ls (λ k is. part k (inr is)))
 ]
 
-pub all_kept : {X : Type 0} (P : X → Type 0) (p : X → Bool) (xs : List X) → AllByRecursion P xs → AllByRecursion P (filter p xs)
-all_kept P p [] all = tt
-all_kept P p (x ∷ xs) all = cond_both (p x) (x ∷ filter p xs) (filter p xs) (AllByRecursion P) (λ _. (all.0, all_kept P p xs all.1)) (λ _. all_kept P p xs all.1)
-
--- an entity goes, which is there and has no child
-pub removal_fits : (m : ℕ) (s : State) → AllByRecursion (λ (l : Link). has_activity s.activities l.activity.0 ≡ true) s.links → has_entity s.entities m ≡ true → is_childless s.entities m ≡ true → FitChanges (changes_of_removal s m) s
-removal_fits m s there own bare =
+-- an entity goes that has no child
+pub removal_keeps : (m : ℕ) (s : State) → is_childless s.entities m ≡ true → AllKeepTrees (changes_of_removal s m) s
+removal_keeps m s bare =
     let ls = filter (λ (l : Link). l.entity.0 == m) s.links in
     let t = after_changes (cuts ls) s in
     let none : list_any (λ (l : Link). l.entity.0 == m) t.links ≡ false = cut_links m ls s (all_cut m s.links s.links (λ l is. is)) in
-    let has : has_entity t.entities m ≡ true = ap (λ rows. has_entity rows m) (cut_entities ls s) ∙ own in
     let childless : is_childless t.entities m ≡ true = ap (λ rows. is_childless rows m) (cut_entities ls s) ∙ bare in
     let detached : is_detached t.links m ≡ true = ap not none in
-    let last : FitsChange (changes.Remove (record { 0 = m })) (after_change (changes.ForgetFields (record { 0 = m })) t) = rw (has, childless, detached) refl in
-    fit_both (cuts ls) (changes.ForgetFields (record { 0 = m }) ∷ changes.Remove (record { 0 = m }) ∷ []) s
-    (cuts_fit ls s (all_kept (λ (l : Link). has_activity s.activities l.activity.0 ≡ true) (λ (l : Link). l.entity.0 == m) s.links there))
-    (refl, (last, tt))
+    let last : KeepsTrees (changes.Remove (record { 0 = m })) (after_change (changes.ForgetFields (record { 0 = m })) t) = rw (childless, detached) refl in
+    keep_both (cuts ls) (changes.ForgetFields (record { 0 = m }) ∷ changes.Remove (record { 0 = m }) ∷ []) s (cuts_keep ls s) (refl, (last, tt))

@@ -1,24 +1,23 @@
 -- When roots go one after another, only those are looked at that may be loose.
-use Rattle.std.proofs.Common.{◌≡◌, ℕ, zero, suc, ◌+◌, ◌<◌, ◌≤◌, ◌==◌, ◌⊎◌, inl, inr, true, false, Bool, List, [], ◌∷◌, ◌++◌, length, filter, flat_map, refl, sym, ◌∙◌, ap, subst, arith, if◌then◌else◌}
-use Rattle.std.specs.Prelude.{not, ◌||◌, ◌&&◌}
-use Rattle.std.specs.List.{list_any, AllByRecursion}
+use Rattle.std.proofs.Common.{◌≡◌, ℕ, zero, suc, ◌<◌, ◌≤◌, ◌==◌, ◌⊎◌, inl, inr, true, false, Bool, List, [], ◌∷◌, ◌++◌, length, filter, flat_map, refl, sym, ◌∙◌, ap, subst, arith, if◌then◌else◌}
+use Rattle.std.specs.Prelude.{not}
+use Rattle.std.specs.List.{AllByRecursion}
 use Rattle.std.proofs.lemmas.Bool.{cases_Bool, cond_both}
 use Rattle.std.proofs.lemmas.Bool.Decides.{nat_tests}
 use Rattle.router_state.specs.State.{State}
 use Rattle.router_state.specs.Closed.{is_loose}
-use Rattle.router_state.specs.Changes.{after_change, after_changes}
+use Rattle.router_state.specs.Changes.{after_changes}
 use Rattle.router_state.specs.Trees.{count_of, links_of, parent_of, tree, tree_of, without_entity}
-use Rattle.router_state.specs.declared.change.Change.{Change}
 use Rattle.router_state.specs.declared.change.Change.TheVariants as changes
 use Rattle.router_state.specs.declared.rows.Entity.{Entity}
 use Rattle.router_state.specs.declared.rows.Link.{Link}
 use Rattle.router_steps.specs.Closing.{close_root, close_roots, lines_of_root, lines_of_roots}
-use Rattle.router_steps.specs.Going.{all_removed, removed, tree_removed, lines_of_tree_removed}
+use Rattle.router_steps.specs.Going.{all_removed, removed, tree_removed}
 use Rattle.router_steps.specs.Moves.{changes_of_detaching}
 use Rattle.router_laws.proofs.ForestLemmas.{from_branches, in_either}
-use Rattle.router_laws_closing.proofs.LooseLemmas.{below_left, from_member, to_member, left_of, none_attached, number_same, same_number, stays_held, still_in, was_in}
+use Rattle.router_laws_closing.proofs.LooseLemmas.{below_left, from_member, left_of, none_attached, number_same, same_number, stays_held, still_in, was_in}
 use Rattle.router_laws.specs.Forest.{IsIn, AreBelowChildren}
-use Rattle.router_laws_closing.specs.Loose.{AreLooseAmong, DoDiffer, IsForest, IsRoot, is_member}
+use Rattle.router_laws_closing.specs.Loose.{AreLooseAmong, IsForest, IsRoot, is_member}
 
 -- an entity that is attached nowhere goes: its row goes, and no attachment
 
@@ -141,7 +140,7 @@ known_gone among s e es are loose =
     } in
     subst (λ rows. AreLooseAmong among rows (tree_removed s e).links es) (sym after.0) (subst (λ ls. AreLooseAmong among kept ls es) (sym after.1) here)
 
-known_closed : (among : ℕ → Bool) (s : State) (e : ℕ) (es : List ℕ) → AreLooseAmong among s.entities s.links (e ∷ es) → AreLooseAmong among (close_root e s).entities (close_root e s).links es
+pub known_closed : (among : ℕ → Bool) (s : State) (e : ℕ) (es : List ℕ) → AreLooseAmong among s.entities s.links (e ∷ es) → AreLooseAmong among (close_root e s).entities (close_root e s).links es
 known_closed among s e es are =
     cond_both (is_loose s.entities s.links e) (tree_removed s e) s (λ (t : State). AreLooseAmong among t.entities t.links es)
     (λ loose. known_gone among s e es are loose)

@@ -1,3 +1,5 @@
 pub mod Idle
 pub mod Loose
-pub mod Candidates
+pub mod Keeping
+pub mod TouchedRoots
+pub mod TouchedActivities

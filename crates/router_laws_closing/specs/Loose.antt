@@ -5,7 +5,6 @@ use Rattle.router_state.specs.State.{State}
 use Rattle.router_state.specs.Closed.{is_loose}
 use Rattle.router_state.specs.Trees.{parent_of, tree_of}
 use Rattle.router_state.specs.Changes.{after_change}
-use Rattle.router_state.specs.Fitting.{has_activity}
 use Rattle.router_state.specs.declared.change.Change.{Change}
 use Rattle.router_state.specs.declared.change.Change.TheVariants as changes
 use Rattle.router_state.specs.declared.rows.Entity.{Entity}
@@ -59,7 +58,3 @@ frees _ s e = false
 abbrev pub freed_by : List Change → State → ℕ → Bool
 freed_by [] s e = false
 freed_by (c ∷ cs) s e = frees c s e || freed_by cs (after_change c s) e
-
--- the activity of each attachment is there
-abbrev pub AreLinksThere : State → Type 0
-AreLinksThere s = AllByRecursion (λ l. has_activity s.activities l.activity.0 ≡ true) s.links

@@ -1,7 +1,7 @@
 -- Each effect of a run that names an activity was made where the run had seen the activity there, and for some effects Active.
-use Rattle.std.proofs.Common.{◌≡◌, inl, inr, ℕ, zero, suc, ◌+◌, Bool, true, false, ◌&&◌, not, List, [], ◌∷◌, ◌++◌, length, map, sym, ◌∙◌, ap, subst, Option, Some, None}
+use Rattle.std.proofs.Common.{◌≡◌, refl, inl, inr, ℕ, ℤ, zero, suc, ◌+◌, Bool, true, false, ◌&&◌, not, List, [], ◌∷◌, ◌++◌, length, map, sym, ◌∙◌, ap, subst, Option, Some, None}
 use Rattle.std.specs.Prelude.{nat_lt, nat_le, is_none, bytes_eq, slice_get, slice_set, take, int_le, pos, negsuc, ◌+ℤ◌, unsigned_abs, option_and_then}
-use Rattle.std.proofs.lemmas.Bool.{cases_Bool}
+use Rattle.std.proofs.lemmas.Bool.{cases_Bool, not-true}
 use Rattle.slee_value.specs.declared.kind.Kind.{Kind}
 use Rattle.slee_effect.specs.declared.effect.Effect.{Effect}
 use Rattle.slee_effect.specs.declared.effect.Effect.TheVariants as ef
@@ -15,12 +15,12 @@ use Rattle.script_types.specs.declared.step.Range.{Range}
 use Rattle.script_types.specs.declared.step.Range.TheVariants as range
 use Rattle.script_types.specs.declared.step.Who.{Who}
 use Rattle.script_types.specs.declared.step.Who.TheVariants as w
-use Rattle.script_meaning.specs.Answers.{Answers, activity_in}
+use Rattle.script_meaning.specs.Answers.{Answers, activity_in, flag_in, number_in, refers_in}
 use Rattle.script_meaning.specs.Calls.{apart, result_of, keep_result, setting_in, call_at}
 use Rattle.script_meaning.specs.Doing as doing
 use Rattle.script_meaning.specs.Observing as read
-use Rattle.script_meaning.specs.Overlay.{count_of, entities_by, activities_by, timers_by, overlay, activity_after}
-use Rattle.script_meaning.specs.Running.{Setting, Variable, Holds, Child, Gave, Run, then_run, ◌>>=◌, give, tested, ticked, tick, effect, effect_limit, effect_bytes_limit, bytes_of, effects_of, declare, assign, scoped, found, break, Stays}
+use Rattle.script_meaning.specs.Overlay.{count_of, entities_by, activities_by, timers_by, overlay, activity_after, attached_after, named_after}
+use Rattle.script_meaning.specs.Running.{Setting, Variable, Holds, Child, Gave, Run, then_run, ◌>>=◌, give, tested, ticked, tick, effect, effect_limit, effect_bytes_limit, bytes_of, effects_of, declare, assign, scoped, found, break, look, Stays}
 use Rattle.script_meaning.specs.Running as running
 use Rattle.script_meaning.specs.Values.{with_flag}
 use Rattle.slee_value.specs.declared.value.Value.TheVariants as v
@@ -28,8 +28,12 @@ use Rattle.script_meaning.specs.Steps.{Flow, Next, Returned, Calling, next, foll
 use Rattle.script_meaning.specs.Terms.{eval}
 use Rattle.script_meaning.specs.declared.key.Key.TheVariants as keys
 use Rattle.script_meaning.specs.declared.seen.AcSeen.{AcSeen}
-use Rattle.router_laws_effects.specs.Guards.{Guard, Guarded, IsUsed, IsUsedActive, SeenAfter}
-use Rattle.router_laws_effects.proofs.GuardLemmas.{gave_parts, then_gave, used_gave, used_active_gave}
+use Rattle.router_laws_effects.specs.Guards.{AttachedAfter, Guard, Guarded, IsUsed, IsUsedActive, NameAfter, SeenAfter}
+use Rattle.script_meaning.specs.declared.key.Key.{Key}
+use Rattle.script_meaning.specs.declared.outcome.FailKind.{FailKind}
+use Rattle.script_meaning.specs.declared.outcome.FailKind.TheVariants as failures
+use Rattle.script_meaning.specs.declared.seen.Seen.{Seen}
+use Rattle.router_laws_effects.proofs.GuardLemmas.{gave_parts, look_gave, tested_gave, then_gave, used_gave, used_active_gave}
 use Rattle.router_laws.proofs.ListRules.{append_nil, append_joins}
 use Rattle.router_laws_effects.proofs.TermsKeep.{Keeps, keeps_then, keeps_give, keeps_stay, keeps_break, keeps_tested, keeps_eval, keeps_int, keeps_text, keeps_activity, keeps_timer_of, keeps_attached, keeps_named, keeps_child, keeps_children, keeps_activities, keeps_now, keeps_effects_of, keeps_found, keeps_tick_at, no_break, no_stay}
 
@@ -98,6 +102,75 @@ adds_used s r g e made guard = record {
       (e ∷ [], (made q.0).makes x q.1 su q.3 ∙ ap (λ es. es ++ e ∷ []) seen.1, (guard (s.effects ++ st.effects) (q.0, seen.0), tt));
 }
 
+-- What a part that makes no effect tells of what it gives, by the effects before it.
+record Knows {A : Type 0} (s : Setting) (m : Run A) (K : A → List Effect → Type 0) : Type 0 where
+  knows : (x : A) (st su : running.State) → m st ≡ Gave x su → (su.effects ≡ st.effects) × K x (s.effects ++ st.effects)
+
+-- a part that makes this one effect, guarded where this is known
+record Checks {A : Type 0} (s : Setting) (m : Run A) (e : Effect) (P : List Effect → Type 0) : Type 0 where
+  checks : (x : A) (st su : running.State) → m st ≡ Gave x su → P (s.effects ++ st.effects) → (su.effects ≡ st.effects ++ e ∷ []) × Guard s.answers (s.effects ++ st.effects) e
+
+checks_effect : (s : Setting) (e : Effect) (P : List Effect → Type 0) → ((before : List Effect) → P before → Guard s.answers before e) → Checks s (effect e) e P
+checks_effect s e P follows = record { checks = λ x st su is known. (made_effect e x st su is, follows (s.effects ++ st.effects) known) }
+
+checks_keep : {A B : Type 0} (s : Setting) (m : Run A) (g : A → Run B) (e : Effect) (P : List Effect → Type 0) → Keeps m → ((x : A) → Checks s (g x) e P) → Checks s (m >>= g) e P
+checks_keep s m g e P one two = record {
+  checks = λ x st su is known.
+      let q = then_gave (m st) g x su is in
+      let same = one.keeps q.0 st q.1 q.2 in
+      let r = (two q.0).checks x q.1 su q.3 (subst (λ es. P (s.effects ++ es)) (sym same) known) in
+      (r.0 ∙ ap (λ es. es ++ e ∷ []) same, subst (λ es. Guard s.answers (s.effects ++ es) e) same r.1);
+}
+
+checks_know : {A B : Type 0} (s : Setting) (m : Run A) (g : A → Run B) (e : Effect) (P : List Effect → Type 0) (K : A → List Effect → Type 0) → Knows s m K → ((x : A) → Checks s (g x) e (λ before. P before × K x before)) → Checks s (m >>= g) e P
+checks_know s m g e P K one two = record {
+  checks = λ x st su is known.
+      let q = then_gave (m st) g x su is in
+      let told = one.knows q.0 st q.1 q.2 in
+      let r = (two q.0).checks x q.1 su q.3 (subst (λ es. P (s.effects ++ es) × K q.0 (s.effects ++ es)) (sym told.0) (known, told.1)) in
+      (r.0 ∙ ap (λ es. es ++ e ∷ []) told.0, subst (λ es. Guard s.answers (s.effects ++ es) e) told.0 r.1);
+}
+
+adds_checked : {A : Type 0} (s : Setting) (m : Run A) (e : Effect) → Checks s m e (λ before. Unit {0}) → Adds s m
+adds_checked s m e one = record { adds = λ x st su is. let r = one.checks x st su is tt in (e ∷ [], r.0, (r.1, tt)) }
+
+knows_tested : (s : Setting) (kind : FailKind) (b : Bool) → Knows s (tested kind b) (λ x before. b ≡ true)
+knows_tested s kind b = record { knows = λ x st su is. let r = tested_gave kind b x st su is in (ap (λ (v : running.State). v.effects) r.1, r.0) }
+
+knows_used : (s : Setting) (r : Ref) → Knows s (read.used s r) (λ x before. SeenAfter s.answers before r x)
+knows_used s r = record { knows = λ x st su is. let g = used_gave s r x st su is in (g.1, g.0) }
+
+knows_active : (s : Setting) (r : Ref) → Knows s (read.used_active s r) (λ x before. SeenAfter s.answers before r x × (x.ending ≡ false))
+knows_active s r = record { knows = λ x st su is. let g = used_active_gave s r x st su is in (g.2, (g.0, g.1)) }
+
+-- what is read at a key, the effects before laid over
+laid_gave : {A : Type 0} (s : Setting) (key : Option Key) (f : List Effect → Option Seen → A) (x : A) (st su : running.State) → (look s key >>= (λ seen. effects_of s >>= (λ es. give (f es seen)))) st ≡ Gave x su
+    → (su.effects ≡ st.effects) × (x ≡ f (s.effects ++ st.effects) (option_and_then s.answers key))
+laid_gave s key f x st su is =
+    let first = then_gave (look s key st) (λ seen. effects_of s >>= (λ es. give (f es seen))) x su is in
+    let looked = look_gave s key first.0 st first.1 first.2 in
+    let same = gave_parts (f (s.effects ++ first.1.effects) first.0) x first.1 su first.3 in
+    (ap (λ (v : running.State). v.effects) (sym same.1) ∙ looked.1, sym same.0 ∙ rw (looked.0, looked.1) refl)
+
+knows_named : (s : Setting) (name : List ℕ) → Knows s (read.named s name) (λ x before. x ≡ NameAfter s.answers before name)
+knows_named s name = record {
+  knows = λ x st su is. laid_gave s (Some (keys.Named name)) (λ es seen. overlay activities_by (named_after name) es (refers_in seen)) x st su is;
+}
+
+knows_attached : (s : Setting) (r : Ref) → Knows s (read.attached s r) (λ x before. x ≡ AttachedAfter s.answers before s.me r)
+knows_attached s r = record {
+  knows = λ x st su is. laid_gave s (read.key_of_two (λ m n. keys.Attached (record { 0 = m }) (record { 0 = n })) s.me r) (λ es seen. overlay activities_by (attached_after s.me r) es (flag_in seen)) x st su is;
+}
+
+knows_now : (s : Setting) → Knows s (read.now s) (λ x before. x ≡ number_in (s.answers keys.Now))
+knows_now s = record {
+  knows = λ x st su is.
+      let first = then_gave (look s (Some keys.Now) st) (λ seen. give (number_in seen)) x su is in
+      let looked = look_gave s (Some keys.Now) first.0 st first.1 first.2 in
+      let same = gave_parts (number_in first.0) x first.1 su first.3 in
+      (ap (λ (v : running.State). v.effects) (sym same.1) ∙ looked.1, sym same.0 ∙ ap number_in looked.0);
+}
+
 -- terms of a kind
 
 keeps_int_of : (s : Setting) (a : Term) → Keeps (doing.int_of s a)
@@ -133,8 +206,10 @@ adds_on_activities s (p.Detach someone a) =
     (λ r. adds_used s r (λ _. effect (ef.Detach e r)) (ef.Detach e r) (λ _. makes_effect (ef.Detach e r)) (λ before used. used)))
 adds_on_activities s (p.Mask event on a) =
     adds_then s (doing.activity_of s a) _ (adds_keeps s _ (keeps_activity_of s a))
-    (λ r. adds_used s r _ (ef.SetMask s.me r event.name on) (λ _. makes_then (read.attached s r) _ (ef.SetMask s.me r event.name on) (keeps_attached s r)
-    (λ b. makes_then (tested _ b) (λ _. effect (ef.SetMask s.me r event.name on)) (ef.SetMask s.me r event.name on) (keeps_tested _ b) (λ _. makes_effect (ef.SetMask s.me r event.name on)))) (λ before used. used))
+    (λ r. adds_checked s _ (ef.SetMask s.me r event.name on) (checks_know s (read.used s r) _ (ef.SetMask s.me r event.name on) (λ before. Unit {0}) (λ x before. SeenAfter s.answers before r x) (knows_used s r)
+    (λ seen. checks_know s (read.attached s r) _ (ef.SetMask s.me r event.name on) (λ before. Unit {0} × SeenAfter s.answers before r seen) (λ x before. x ≡ AttachedAfter s.answers before s.me r) (knows_attached s r)
+    (λ b. checks_know s (tested failures.Detached b) (λ _. effect (ef.SetMask s.me r event.name on)) (ef.SetMask s.me r event.name on) (λ before. (Unit {0} × SeenAfter s.answers before r seen) × (b ≡ AttachedAfter s.answers before s.me r)) (λ x before. b ≡ true) (knows_tested s failures.Detached b)
+    (λ _. checks_effect s (ef.SetMask s.me r event.name on) (λ before. ((Unit {0} × SeenAfter s.answers before r seen) × (b ≡ AttachedAfter s.answers before s.me r)) × (b ≡ true)) (λ before known. ((seen, known.0.0.1), sym known.0.1 ∙ known.1)))))))
 adds_on_activities s (p.Fire event a service fields) =
     adds_then s (doing.activity_of s a) _ (adds_keeps s _ (keeps_activity_of s a)) (λ r. adds_then s (doing.fields_of s fields []) _ (adds_keeps s _ (keeps_fields s fields []))
     (λ xs. adds_active s r (λ _. effect (ef.Fire r event service xs)) (ef.Fire r event service xs) (λ _. makes_effect (ef.Fire r event service xs)) (λ before used. used)))
@@ -142,21 +217,42 @@ adds_on_activities s p.Null =
     adds_then s (effects_of s) _ (adds_keeps s _ (keeps_effects_of s)) (λ es. adds_plain s _ ef.NewNull (makes_before (effect ef.NewNull) _ ef.NewNull (makes_effect ef.NewNull) (λ _. keeps_declare (Holds (NewActivity (count_of activities_by es))))) (λ before. tt))
 adds_on_activities s (p.End a) =
     adds_then s (doing.activity_of s a) _ (adds_keeps s _ (keeps_activity_of s a))
-    (λ r. adds_active s r _ (ef.EndNull r) (λ seen. makes_then (tested _ seen.null) (λ _. effect (ef.EndNull r)) (ef.EndNull r) (keeps_tested _ seen.null) (λ _. makes_effect (ef.EndNull r))) (λ before used. used))
+    (λ r. adds_checked s _ (ef.EndNull r) (checks_know s (read.used_active s r) _ (ef.EndNull r) (λ before. Unit {0}) (λ x before. SeenAfter s.answers before r x × (x.ending ≡ false)) (knows_active s r)
+    (λ seen. checks_know s (tested failures.NotNull seen.null) (λ _. effect (ef.EndNull r)) (ef.EndNull r) (λ before. Unit {0} × (SeenAfter s.answers before r seen × (seen.ending ≡ false))) (λ x before. seen.null ≡ true) (knows_tested s failures.NotNull seen.null)
+    (λ _. checks_effect s (ef.EndNull r) (λ before. (Unit {0} × (SeenAfter s.answers before r seen × (seen.ending ≡ false))) × (seen.null ≡ true)) (λ before known. (seen, known.0.1.0, known.0.1.1, known.1))))))
 adds_on_activities s (p.Bind a b) =
     adds_then s (doing.text_of s a) _ (adds_keeps s _ (keeps_text_of s a)) (λ name. adds_then s (doing.activity_of s b) _ (adds_keeps s _ (keeps_activity_of s b))
-    (λ r. adds_then s (tested _ (not (bytes_eq name []))) _ (adds_keeps s _ (keeps_tested _ (not (bytes_eq name []))))
-    (λ _. adds_active s r _ (ef.Bind name r) (λ _. makes_then (read.named s name) _ (ef.Bind name r) (keeps_named s name)
-    (λ o. makes_then (tested _ (is_none o)) (λ _. effect (ef.Bind name r)) (ef.Bind name r) (keeps_tested _ (is_none o)) (λ _. makes_effect (ef.Bind name r)))) (λ before used. used))))
+    (λ r. adds_checked s _ (ef.Bind name r) (checks_know s (tested failures.Range (not (bytes_eq name []))) _ (ef.Bind name r) (λ before. Unit {0}) (λ x before. not (bytes_eq name []) ≡ true) (knows_tested s failures.Range (not (bytes_eq name [])))
+    (λ _. checks_know s (read.used_active s r) _ (ef.Bind name r) (λ before. Unit {0} × (not (bytes_eq name []) ≡ true)) (λ x before. SeenAfter s.answers before r x × (x.ending ≡ false)) (knows_active s r)
+    (λ seen. checks_know s (read.named s name) _ (ef.Bind name r) (λ before. (Unit {0} × (not (bytes_eq name []) ≡ true)) × (SeenAfter s.answers before r seen × (seen.ending ≡ false))) (λ x before. x ≡ NameAfter s.answers before name) (knows_named s name)
+    (λ o. checks_know s (tested failures.Bound (is_none o)) (λ _. effect (ef.Bind name r)) (ef.Bind name r) (λ before. ((Unit {0} × (not (bytes_eq name []) ≡ true)) × (SeenAfter s.answers before r seen × (seen.ending ≡ false))) × (o ≡ NameAfter s.answers before name)) (λ x before. is_none o ≡ true) (knows_tested s failures.Bound (is_none o))
+    (λ _. checks_effect s (ef.Bind name r) (λ before. (((Unit {0} × (not (bytes_eq name []) ≡ true)) × (SeenAfter s.answers before r seen × (seen.ending ≡ false))) × (o ≡ NameAfter s.answers before name)) × (is_none o ≡ true))
+    (λ before known. (not-true (bytes_eq name []) known.0.0.0.1, (seen, known.0.0.1.0, known.0.0.1.1), ap is_none (sym known.0.1) ∙ known.1)))))))))
 adds_on_activities s (p.Unbind a) =
-    adds_then s (doing.text_of s a) _ (adds_keeps s _ (keeps_text_of s a)) (λ name. adds_plain s _ (ef.Unbind name) (makes_then (read.named s name) _ (ef.Unbind name) (keeps_named s name)
-    (λ o. makes_then (tested _ (not (is_none o))) (λ _. effect (ef.Unbind name)) (ef.Unbind name) (keeps_tested _ (not (is_none o))) (λ _. makes_effect (ef.Unbind name)))) (λ before. tt))
+    adds_then s (doing.text_of s a) _ (adds_keeps s _ (keeps_text_of s a)) (λ name. adds_checked s _ (ef.Unbind name) (checks_know s (read.named s name) _ (ef.Unbind name) (λ before. Unit {0}) (λ x before. x ≡ NameAfter s.answers before name) (knows_named s name)
+    (λ o. checks_know s (tested failures.Unbound (not (is_none o))) (λ _. effect (ef.Unbind name)) (ef.Unbind name) (λ before. Unit {0} × (o ≡ NameAfter s.answers before name)) (λ x before. not (is_none o) ≡ true) (knows_tested s failures.Unbound (not (is_none o)))
+    (λ _. checks_effect s (ef.Unbind name) (λ before. (Unit {0} × (o ≡ NameAfter s.answers before name)) × (not (is_none o) ≡ true)) (λ before known. ap is_none (sym known.0.1) ∙ not-true (is_none o) known.1)))))
 adds_on_activities s (p.Resume a) =
     adds_then s (doing.activity_of s a) _ (adds_keeps s _ (keeps_activity_of s a)) (λ r. adds_used s r (λ _. effect (ef.Resume r)) (ef.Resume r) (λ _. makes_effect (ef.Resume r)) (λ before used. used))
 adds_on_activities s (p.Suspend a) =
-    adds_then s (doing.int_of s a) _ (adds_keeps s _ (keeps_int_of s a)) (λ n. adds_then s (tested _ (doing.is_within (pos 1) doing.last_moment n)) _ (adds_keeps s _ (keeps_tested _ (doing.is_within (pos 1) doing.last_moment n)))
-    (λ _. adds_then s (read.now s) _ (adds_keeps s _ (keeps_now s)) (λ time. adds_then s (tested _ (int_le (time +ℤ n) doing.last_moment)) _ (adds_keeps s _ (keeps_tested _ (int_le (time +ℤ n) doing.last_moment)))
-    (λ _. adds_plain s _ (ef.Suspend (Known s.arguments.activity.0) (unsigned_abs (time +ℤ n))) (makes_effect (ef.Suspend (Known s.arguments.activity.0) (unsigned_abs (time +ℤ n)))) (λ before. tt)))))
+    adds_then s (doing.int_of s a) _ (adds_keeps s _ (keeps_int_of s a)) (λ n. adds_suspend s n)
+  where
+    adds_suspend : (s : Setting) (n : ℤ) → Adds s (tested failures.Range (doing.is_within (pos 1) doing.last_moment n) >>= (λ _. read.now s >>= (λ time. tested failures.Range (int_le (time +ℤ n) doing.last_moment) >>= (λ _. effect (ef.Suspend (Known s.arguments.activity.0) (unsigned_abs (time +ℤ n)))))))
+    adds_suspend s n = record {
+      adds = λ x st su is.
+          let one = then_gave (tested failures.Range (doing.is_within (pos 1) doing.last_moment n) st) _ x su is in
+          let range = (knows_tested s failures.Range (doing.is_within (pos 1) doing.last_moment n)).knows one.0 st one.1 one.2 in
+          let two = then_gave (read.now s one.1) _ x su one.3 in
+          let time = (knows_now s).knows two.0 one.1 two.1 two.2 in
+          let three = then_gave (tested failures.Range (int_le (two.0 +ℤ n) doing.last_moment) two.1) _ x su two.3 in
+          let limit = (knows_tested s failures.Range (int_le (two.0 +ℤ n) doing.last_moment)).knows three.0 two.1 three.1 three.2 in
+          let e = ef.Suspend (Known s.arguments.activity.0) (unsigned_abs (two.0 +ℤ n)) in
+          let made = made_effect e x three.1 su three.3 in (
+            e ∷ [],
+            made ∙ ap (λ es. es ++ e ∷ []) (limit.0 ∙ (time.0 ∙ range.0)),
+            ((n, range.1, subst (λ z. int_le (z +ℤ n) doing.last_moment ≡ true) time.1 limit.1, ap (λ z. unsigned_abs (z +ℤ n)) time.1), tt),
+          );
+    }
 
 -- steps on entities and timers, and what gives values
 
@@ -167,14 +263,32 @@ keeps_rank : (s : Setting) (x : Rank) → Keeps (doing.rank_of s x)
 keeps_rank s (p.Given n) = keeps_give n
 keeps_rank s (p.Asked a) = keeps_asked s a
 
+-- a priority that was asked for lies in its range
+knows_rank : (s : Setting) (a : Term) → Knows s (doing.asked_rank s a) (λ n before. doing.is_within (negsuc 127) (pos 127) n ≡ true)
+knows_rank s a = record {
+  knows = λ x st su is.
+      let one = then_gave (doing.int_of s a st) (λ n. tested failures.Range (doing.is_within (negsuc 127) (pos 127) n) >>= (λ _. give n)) x su is in
+      let two = then_gave (tested failures.Range (doing.is_within (negsuc 127) (pos 127) one.0) one.1) (λ _. give one.0) x su one.3 in
+      let test = tested_gave failures.Range (doing.is_within (negsuc 127) (pos 127) one.0) two.0 one.1 two.1 two.2 in
+      let same = gave_parts one.0 x two.1 su two.3 in
+      (ap (λ (v : running.State). v.effects) (sym same.1 ∙ test.1) ∙ (keeps_int_of s a).keeps one.0 st one.1 one.2, subst (λ n. doing.is_within (negsuc 127) (pos 127) n ≡ true) same.0 test.0);
+}
+
+adds_rank : (s : Setting) (a : Term) (e : Ref) → Adds s (doing.asked_rank s a >>= (λ n. effect (ef.SetPriority e n)))
+adds_rank s a e = record {
+  adds = λ x st su is.
+      let q = then_gave (doing.asked_rank s a st) (λ n. effect (ef.SetPriority e n)) x su is in
+      let told = (knows_rank s a).knows q.0 st q.1 q.2 in
+      let made = ef.SetPriority e q.0 in
+      (made ∷ [], made_effect made x q.1 su q.3 ∙ ap (λ es. es ++ made ∷ []) told.0, (told.1, tt));
+}
+
 adds_on_entities : (s : Setting) (x : OnEntities) → Adds s (doing.on_entities s x)
 adds_on_entities s (p.Create relation rank) =
     adds_then s (doing.rank_of s rank) _ (adds_keeps s _ (keeps_rank s rank)) (λ n. adds_then s (effects_of s) _ (adds_keeps s _ (keeps_effects_of s))
     (λ es. adds_plain s _ (ef.Create s.me relation.name n) (makes_before (effect (ef.Create s.me relation.name n)) _ (ef.Create s.me relation.name n) (makes_effect (ef.Create s.me relation.name n)) (λ _. keeps_declare (Child (Fresh (count_of entities_by es))))) (λ before. tt)))
 adds_on_entities s (p.Remove i) = adds_then s (read.child s i) _ (adds_keeps s _ (keeps_child s i)) (λ e. adds_plain s _ (ef.Remove e) (makes_effect (ef.Remove e)) (λ before. tt))
-adds_on_entities s (p.Priority i a) =
-    adds_then s (read.child s i) _ (adds_keeps s _ (keeps_child s i)) (λ e. adds_then s (doing.asked_rank s a) _ (adds_keeps s _ (keeps_asked s a))
-    (λ n. adds_plain s _ (ef.SetPriority e n) (makes_effect (ef.SetPriority e n)) (λ before. tt)))
+adds_on_entities s (p.Priority i a) = adds_then s (read.child s i) _ (adds_keeps s _ (keeps_child s i)) (λ e. adds_rank s a e)
 
 keeps_repeat : (s : Setting) (o : Option (Term × Term)) → Keeps (doing.repeat_of s o)
 keeps_repeat s None = keeps_give _

@@ -17,8 +17,9 @@ ghost use Rattle.router_state.specs.Contexts.{is_active};
 ghost use Rattle.router_steps.specs.Effects.{after_effects, number_in, resolved_in};
 ghost use Rattle.router_steps.specs.Scripts.{answers_in};
 
-/// Each effect of a run that names an activity was made where the run had seen it there, with the effects before it laid over,
-/// and Active where the effect asks that.
+/// Each effect of a run was made where the run had seen, with the effects before it laid over, that it may be: an activity that it
+/// names was there, and Active, null or attached where the effect asks that; a name was free, or stood for something; numbers lie
+/// in their ranges.
 #[tactic(auto, using(crate::proofs::GuardedRuns::run_is_guarded))]
 pub fn effects_are_guarded()
     ensures { (s : Setting) (program : Program) (steps : Steps) (flow : Flow) (st su : RunState) → act_all s (call_at s program 8) steps st ≡ Gave flow su → (new : List Effect) × (su.effects ≡ st.effects ++ new) × Guarded s.answers (s.effects ++ st.effects) new }

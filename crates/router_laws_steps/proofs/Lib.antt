@@ -1,0 +1,15 @@
+pub mod LineMoves
+pub mod Values
+pub mod LineFacts
+pub mod Taken
+pub mod Names
+pub mod Selecting
+pub mod WholeSteps
+pub mod First
+pub mod Gone
+pub mod Told
+pub mod EndLemmas
+pub mod ToldLines
+pub mod ToldSteps
+pub mod HoldsTold
+pub mod RunLemmas

@@ -1,0 +1,15 @@
+-- the parts put behind one another are the whole text
+use Rattle.std.proofs.Common.{ap, map, ◌∙◌}
+use Rattle.std.proofs.lemmas.Result.{on_ok_weaker}
+use Rattle.deploy_model.specs.Resolving.{deployed_of}
+use Rattle.router_show.specs.Names.{names_seen}
+use Rattle.router_show.proofs.ShowLemmas.{shown_of}
+use Rattle.router_show.proofs.text.show.Goals as goal
+
+pub returns : goal.returns
+returns c =
+    on_ok_weaker c.put_rows.result
+    (λ last. shown_of c.args.stores.now.state (deployed_of c.args.deployment.now.parts) c.services.result.now c.contexts.result.now.activities (names_seen c.deref.result.now) c.timers.result.now.timers
+    (map (λ row. row.now) c.deref-2.result.now) c.args.into.now.items _ _ _ _ _ _ _ _ _ c.requires c.services.ensures c.contexts.ensures.activities (ap names_seen c.deref.ensures.value ∙ c.in_ok-names_in_order.ensures) c.timers.ensures.timers (ap (map (λ row. row.now)) c.deref-2.ensures.value ∙ c.in_ok-rows_in_order.ensures)
+    c.in_ok-put_counts.ensures c.in_ok-put_services.ensures c.in_ok-put_activities.ensures c.in_ok-put_entities.ensures c.in_ok-put_links.ensures c.in_ok-put_events.ensures c.in_ok-put_names.ensures c.in_ok-put_timers.ensures last)
+    c.put_rows.ensures

@@ -1,0 +1,6 @@
+-- each call has an item less
+use Rattle.std.proofs.Common.{length}
+use Rattle.tx_attempt.proofs.same.+are_same_fields.Given as goal
+
+abbrev pub decreases-are_same_fields : goal.decreases-are_same_fields
+decreases-are_same_fields l = length l.one.now
