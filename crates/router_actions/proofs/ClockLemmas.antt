@@ -20,7 +20,7 @@ pub occurred_same : (xs : List Occurrence) (s t : State) → s.next_event ≡ t.
 occurred_same [] s t same = refl
 occurred_same (x ∷ xs) s t same =
     let rest = occurred_same xs (occurred x s) (occurred x t) (ap (λ n. n + 1) same) in
-    rw (same, rest) refl
+    rw (rest, same) refl
 
 pub lines_resumed : (rows : List Suspension) (to : ℕ) (s : State) → lines_of_all_resumed rows (after_change (changes.Clock to) s) ≡ lines_of_all_resumed rows s
 lines_resumed rows to s = resumed_same rows (after_change (changes.Clock to) s) s refl refl

@@ -21,19 +21,19 @@ lines_activated lines more last s n told is =
     ∙ append_assoc lines (service_line (service_key s.deployment n) (codes "active") ∷ started_line s.next_activity (codes "service " ++ service_key s.deployment n) ∷ []) last
     ∙ ap (λ (rest : List (List ℕ)). lines ++ rest) (sym is)
 
-pub active_some : (rows : List Activity) (a : ℕ) (null ending : Bool) → Some (null, ending) ≡ option_map (λ (row : Activity). (is_null row.kind, row.ending)) (activity_at rows a) → not ending ≡ is_active rows a
+pub active_some : (rows : List Activity) (a : ℕ) (null ending : Bool) → ◌≡◌ {A = Option (Bool × Bool)} (Some (null, ending)) (option_map (λ (row : Activity). (is_null row.kind, row.ending)) (activity_at rows a)) → not ending ≡ is_active rows a
 active_some rows a null ending is = by (activity_at rows a) refl is
   where
-    by : (o : Option Activity) → activity_at rows a ≡ o → Some (null, ending) ≡ option_map (λ (row : Activity). (is_null row.kind, row.ending)) o → not ending ≡ is_active rows a
+    by : (o : Option Activity) → activity_at rows a ≡ o → ◌≡◌ {A = Option (Bool × Bool)} (Some (null, ending)) (option_map (λ (row : Activity). (is_null row.kind, row.ending)) o) → not ending ≡ is_active rows a
     by None found none = absurd (cc)
     by (Some row) found some =
-        let pair : (null, ending) ≡ (is_null row.kind, row.ending) = cc in
+        let pair : ◌≡◌ {A = Bool × Bool} (null, ending) (is_null row.kind, row.ending) = cc in
         let own : ending ≡ row.ending = ap (λ (x : Bool × Bool). x.1) pair in
         rw (found, own) refl
 
-pub active_none : (rows : List Activity) (a : ℕ) → None ≡ option_map (λ (row : Activity). (is_null row.kind, row.ending)) (activity_at rows a) → false ≡ is_active rows a
+pub active_none : (rows : List Activity) (a : ℕ) → ◌≡◌ {A = Option (Bool × Bool)} None (option_map (λ (row : Activity). (is_null row.kind, row.ending)) (activity_at rows a)) → false ≡ is_active rows a
 active_none rows a is = by (activity_at rows a) refl is
   where
-    by : (o : Option Activity) → activity_at rows a ≡ o → None ≡ option_map (λ (row : Activity). (is_null row.kind, row.ending)) o → false ≡ is_active rows a
+    by : (o : Option Activity) → activity_at rows a ≡ o → ◌≡◌ {A = Option (Bool × Bool)} None (option_map (λ (row : Activity). (is_null row.kind, row.ending)) o) → false ≡ is_active rows a
     by None found none = rw found refl
     by (Some row) found some = absurd (cc)

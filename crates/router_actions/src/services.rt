@@ -35,7 +35,7 @@ fn words_of(alloc: Global, key: &str) -> Result<Text, NoMemory>
 }
 
 /// The lines of a service that becomes Active, and of its activity.
-#[tactic(auto, using(crate::proofs::ServiceLemmas::told_activated, crate::proofs::ServiceLemmas::key_laid))]
+#[tactic(auto, using(crate::proofs::ServiceLemmas::told_activated, crate::proofs::LaidLemmas::key_laid))]
 fn tell_activated<K: Keys>(
     alloc: Global,
     keys: &K,
@@ -117,7 +117,7 @@ pub fn activate<K: Keys>(
 }
 
 /// Whether the activity is there and isn't Ending.
-#[tactic(auto, using(crate::proofs::ServiceLemmas::active_is))]
+#[tactic(auto, using(crate::proofs::ServiceLemmas::active_some, crate::proofs::ServiceLemmas::active_none))]
 fn is_active<B: Base>(base: &B, draft: &Draft, activity: ActivityId) -> bool
     ensures { result ≡ is_active (laid (B.state base.now) draft.now).activities activity.0 }
 {
@@ -148,7 +148,7 @@ fn end_if<B: Base>(
 }
 
 /// The line of a service that stops.
-#[tactic(auto, using(crate::proofs::ServiceLemmas::key_laid))]
+#[tactic(auto, using(crate::proofs::LaidLemmas::key_laid))]
 fn tell_stopping<K: Keys>(
     alloc: Global,
     keys: &K,

@@ -4,18 +4,17 @@ use Rattle.std.specs.Prelude.{not, nat_lt, ◌&&◌, ◌||◌, slice_get, positi
 use Rattle.std.specs.List.{list_all, list_any, position_from}
 use Rattle.std.specs.Str.{bytes_eq}
 use Rattle.std.proofs.lemmas.Iterator.Adapters.{position_from-zero}
-use Rattle.std.proofs.lemmas.Bool.{cases_Bool, and_parts}
+use Rattle.std.proofs.lemmas.Bool.{cases_Bool}
 use Rattle.std.proofs.lemmas.Bool.Decides.{nat_tests}
 use Rattle.std.proofs.lemmas.Option.{slice_get_within}
 use Rattle.slee_value.specs.declared.value.Value.{Value}
 use Rattle.signal_script.specs.declared.signal.Signal.{Signal}
 use Rattle.signal_script.specs.declared.signal.Signal.TheVariants as signals
-use Rattle.deploy_model.specs.Deployed.{Deployed, DeployedTable, table_attributes, table_named, service_named}
+use Rattle.deploy_model.specs.Deployed.{DeployedTable, table_attributes, table_named, service_named}
 use Rattle.router_state.specs.State.{State}
 use Rattle.router_state.specs.Ordered.{IsOrdered}
 use Rattle.router_state.specs.Contexts.{external, is_active, has_name}
-use Rattle.router_state.specs.Fits.{are_declared}
-use Rattle.router_state.specs.Fitting.{has_row, has_table, is_fit_row}
+use Rattle.router_state.specs.Fitting.{has_table, is_fit_row}
 use Rattle.router_state.specs.Profiles.{is_row, row_at, are_unique}
 use Rattle.router_state.specs.Timing.{ending_suspensions, fired, fired_in_all, occurrence_limit}
 use Rattle.router_state.specs.Services.{is_inactive, is_active as is_active_service}
@@ -26,7 +25,7 @@ use Rattle.router_steps.specs.declared.refusal.Refusal.{Refusal}
 use Rattle.router_steps.specs.declared.refusal.Refusal.TheVariants as refusals
 use Rattle.router_steps.specs.Actions.{Action, StartActivity, EndActivity, FireEvent, SetClock, ActivateService, StopService, ChangeRow, RowAdded, RowUpdated, RowRemoved, action_of, adding, updating, removing, and_then, there_or, refused_if, open_activity, declared_event, target_of, values_of, firing, service_of_key, is_duplicate, row_values, table_of_name}
 use Rattle.router_steps.specs.Values.{fields_given}
-use Rattle.router_inputs.specs.Acting.{can_act, can_take}
+use Rattle.router_inputs.specs.Acting.{can_take}
 use Rattle.router_inputs.proofs.GivenLemmas.{given_are_declared}
 use Rattle.router_inputs.proofs.LookupLemmas.{found_by_number}
 

@@ -1,12 +1,7 @@
 -- Values that words give are of the declared types, and their names are the declared ones.
-use Rattle.std.proofs.Common.{◌≡◌, ℕ, Bool, true, false, List, [], ◌∷◌, ◌++◌, Option, Some, None, ℤ, refl, sym, ap, ◌∙◌}
-use Rattle.std.specs.Prelude.{◌&&◌, ◌==◌, bytes_eq, option_map, option_and_then, length, map, if◌then◌else◌}
-use Rattle.std.specs.List.{list_all}
-use Rattle.std.proofs.lemmas.Bool.{and_parts}
+use Rattle.std.proofs.Common.{◌≡◌, ℕ, Bool, true, false, List, [], ◌∷◌, Option, Some, None, ℤ, refl}
+use Rattle.std.specs.Prelude.{◌==◌, bytes_eq, option_map, option_and_then, length, if◌then◌else◌}
 use Rattle.std.proofs.lemmas.Slice.Eq.{bytes_eq-Decides}
-use Rattle.slee_value.specs.Fields.{are_fields}
-use Rattle.slee_value.specs.Name.{is_name}
-use Rattle.slee_value.specs.Order.{is_below, rises, names_of}
 use Rattle.slee_value.specs.declared.kind.Kind.{Kind}
 use Rattle.slee_value.specs.declared.kind.Kind.TheVariants as kinds
 use Rattle.slee_value.specs.declared.value.Value.{Value}

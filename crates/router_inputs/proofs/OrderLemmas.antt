@@ -1,6 +1,6 @@
 -- Names that rise: those of values that are given one after another, and those of what a deployment declares.
-use Rattle.std.proofs.Common.{◌≡◌, ℕ, zero, suc, ◌+◌, ◌<◌, Bool, true, false, List, [], ◌∷◌, ◌++◌, Option, Some, None, Result, Ok, Err, drop, length, refl, sym, ap, ◌∙◌, arith, inl, inr}
-use Rattle.std.specs.Prelude.{◌&&◌, bytes_eq, find, map, slice_get, slice_index_or, option_and_then}
+use Rattle.std.proofs.Common.{◌≡◌, ℕ, zero, suc, ◌+◌, ◌<◌, Bool, true, List, [], ◌∷◌, ◌++◌, Option, Some, None, Ok, drop, length, refl, sym, ap, ◌∙◌, inl, inr}
+use Rattle.std.specs.Prelude.{bytes_eq, find, map, slice_get, slice_index_or, option_and_then}
 use Rattle.std.specs.List.{list_all}
 use Rattle.std.specs.Option.{option_map_or}
 use Rattle.std.proofs.Math.Numerals.{add-one}
@@ -16,10 +16,9 @@ use Rattle.script_types.specs.Codes.{named}
 use Rattle.script_types.specs.declared.codes.EventCode.{EventCode}
 use Rattle.script_types.specs.declared.codes.FieldCode.{FieldCode}
 use Rattle.deploy_model.specs.Deployed.{Deployed, DeployedProfile, DeployedTable, table_at, table_attributes}
-use Rattle.deploy_model.specs.Resolving.{deployed_of, event_of, field_of, profile_of}
+use Rattle.deploy_model.specs.Resolving.{event_of, field_of, profile_of}
 use Rattle.deploy_model.specs.declared.parts.EventType.{EventType}
 use Rattle.deploy_model.specs.declared.parts.ProfileSpec.{ProfileSpec}
-use Rattle.deploy_model.specs.declared.parts.Parts.{Parts}
 use Rattle.router_steps.specs.Actions.{declared_event, there_or}
 use Rattle.router_steps.specs.declared.refusal.Refusal.TheVariants as refusals
 use Rattle.router_inputs.specs.InOrder.{are_in_order, are_rising}

@@ -3,10 +3,9 @@ use Rattle.std.proofs.Common.{◌≡◌, ℕ, zero, suc, ◌+◌, Bool, true, fa
 use Rattle.std.specs.Prelude.{◌==◌, not, nat_lt, ◌&&◌, ◌||◌, find, slice_get, is_some, is_none, option_map, option_and_then, if◌then◌else◌}
 use Rattle.std.specs.List.{list_all, list_any, position_from}
 use Rattle.std.specs.List.Sorted.{IsPermutation}
-use Rattle.std.specs.Option.{option_map_or}
 use Rattle.std.specs.Result.{is_err}
 use Rattle.std.specs.Str.{bytes_eq}
-use Rattle.std.proofs.lemmas.Bool.{cases_Bool, and_parts}
+use Rattle.std.proofs.lemmas.Bool.{cases_Bool}
 use Rattle.std.proofs.lemmas.Bool.Decides.{nat_tests}
 use Rattle.std.proofs.lemmas.List.Sorted.{list_any-IsPermutation}
 use Rattle.std.proofs.lemmas.Option.{slice_get-map}
@@ -17,8 +16,8 @@ use Rattle.router_state.specs.State.{State}
 use Rattle.router_state.specs.declared.rows.ProfileRow.{ProfileRow}
 use Rattle.router_state.specs.Fitting.{has_row, has_table}
 use Rattle.router_state.specs.Fits.{are_declared}
-use Rattle.router_state.specs.Profiles.{is_row, are_unique, differ_in}
-use Rattle.profile_tables.specs.Faults.{alike_in, fault_in, fault_of, fault_of_add, fault_of_asking, fault_of_update, fault_of_values, is_rival, place_of_rival}
+use Rattle.router_state.specs.Profiles.{is_row, are_unique}
+use Rattle.profile_tables.specs.Faults.{alike_in, fault_of, fault_of_add, fault_of_asking, fault_of_update, fault_of_values, is_rival, place_of_rival}
 use Rattle.profile_tables.specs.declared.fault.RowFault.{RowFault}
 use Rattle.profile_tables.specs.declared.fault.RowFault.TheVariants as faults
 use Rattle.profile_tables.specs.declared.table_spec.TableSpec.{TableSpec}

@@ -1,11 +1,11 @@
 -- The attributes of a table are those that scripts know of it.
-use Rattle.std.proofs.Common.{◌≡◌, ℕ, List, [], Option, Some, None, map, refl, sym, ap, ◌∙◌}
+use Rattle.std.proofs.Common.{◌≡◌, ℕ, [], Option, Some, None, map, refl, sym, ap, ◌∙◌}
 use Rattle.std.specs.Prelude.{slice_get, option_map, option_and_then}
 use Rattle.std.specs.Option.{option_map_or}
 use Rattle.std.proofs.lemmas.Option.{slice_get-map}
 use Rattle.script_types.specs.declared.codes.TableCode.{TableCode}
 use Rattle.deploy_model.specs.Deployed.{DeployedProfile, DeployedTable, table_attributes}
-use Rattle.deploy_model.specs.Resolving.{deployed_of, field_of, number_of, profile_of, table_of}
+use Rattle.deploy_model.specs.Resolving.{deployed_of, number_of, profile_of, table_of}
 use Rattle.deploy_model.specs.Rules.{Numbering}
 use Rattle.deploy_model.specs.Tables.{key_number}
 use Rattle.deploy_model.specs.declared.parts.Parts.{Parts}

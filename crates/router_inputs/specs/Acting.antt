@@ -1,5 +1,5 @@
 -- What a line does, as code has it and as it is defined; and what it asks of the state, so that its changes can be made.
-use Rattle.std.specs.Prelude.{ℕ, nat_lt, Bool, true, is_none, IsTrue, List, length, Result, Ok, Err, map}
+use Rattle.std.specs.Prelude.{nat_lt, Bool, true, is_none, IsTrue, length, Result, Ok, Err, map}
 use Rattle.router_state.specs.State.{State}
 use Rattle.router_state.specs.Contexts.{external, is_active}
 use Rattle.router_steps.specs.declared.refusal.Refusal.{Refusal}

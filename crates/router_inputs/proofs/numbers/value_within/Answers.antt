@@ -1,5 +1,5 @@
 -- a number that is too great stays so
-use Rattle.std.proofs.Common.{arith, sym, ◌∙◌}
+use Rattle.std.proofs.Common.{arith}
 use Rattle.router_inputs.proofs.NumberLemmas.{too_far}
 use Rattle.router_inputs.proofs.numbers.value_within.Goals as goal
 

@@ -1,5 +1,5 @@
 -- the number so far with the other digits behind it is that of all
-use Rattle.std.proofs.Common.{◌≡◌, ℕ, ◌+◌, ◌-◌, ◌*◌, ◌^◌, ◌≤◌, drop}
+use Rattle.std.proofs.Common.{◌≡◌, ◌+◌, ◌-◌, ◌*◌, ◌^◌, ◌≤◌, drop}
 use Rattle.std.specs.List.{fold}
 use Rattle.trace_history.specs.Decimals.{decimal_value}
 use Rattle.router_inputs.proofs.numbers.value_within.Given as goal

@@ -1,7 +1,6 @@
 -- the values that are given are the declared ones
-use Rattle.std.proofs.Common.{◌≡◌, Some, ap, sym}
+use Rattle.std.proofs.Common.{◌≡◌, Some, ap}
 use Rattle.deploy_model.specs.Deployed.{Deployed, table_attributes}
-use Rattle.deploy_model.specs.Resolving.{deployed_of}
 use Rattle.router_steps.specs.Values.{fields_given}
 use Rattle.router_inputs.proofs.GivenLemmas.{given_are_declared}
 use Rattle.router_inputs.proofs.rows.adding.Goals as goal
