@@ -7,7 +7,6 @@ ghost use Rattle.router_laws_closing.specs.TouchedRoots.{numbers_between};
 use slee_value::NoMemory;
 
 /// The numbers from the first one on, up to the last one, without that.
-#[tactic(auto, using(crate::proofs::NumberLemmas::between_on))]
 pub fn push_between(all: &mut Vec<u64>, first: u64, last: u64) -> Result<(), NoMemory>
     ensures { OnOk result (all.new.items ≡ all.old.items ++ numbers_between first last) }
 {
