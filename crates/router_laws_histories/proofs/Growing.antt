@@ -204,8 +204,3 @@ pub grows_if : (b : Bool) (s t : State) (lines : List (List ℕ)) (fires : List 
     → Grows s (if b then t else s) (if b then lines else []) (if b then fires else [])
 grows_if true s t lines fires below grows = grows
 grows_if false s t lines fires below grows = still s below
-
-pub grows_unless : (b : Bool) (s t : State) (lines : List (List ℕ)) (fires : List Firing) → AreEventsBelow s.next_event s.events → Grows s t lines fires
-    → Grows s (if b then s else t) (if b then [] else lines) (if b then [] else fires)
-grows_unless true s t lines fires below grows = still s below
-grows_unless false s t lines fires below grows = grows

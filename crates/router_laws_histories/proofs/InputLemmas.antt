@@ -11,6 +11,7 @@ use Rattle.router_laws_histories.proofs.PlainLines.{attached_leaves, closing_lea
 use Rattle.router_laws_histories.proofs.SuspendedSteps.{root_leaves}
 use Rattle.router_laws_histories.specs.Restarts.{IsPrefix}
 use Rattle.router_state.specs.State.{State}
+use Rattle.router_state.specs.Contexts.{is_active}
 use Rattle.router_state.specs.Changes.{after_change}
 use Rattle.router_state.specs.declared.change.Change.TheVariants as changes
 use Rattle.router_state.specs.declared.rows.ServiceState.TheVariants as states
@@ -18,7 +19,8 @@ use Rattle.router_state.specs.declared.rows.Suspension.{Suspension}
 use Rattle.router_steps.specs.declared.refusal.Refusal.{Refusal}
 use Rattle.router_steps.specs.Actions.{Action, StartActivity, EndActivity, FireEvent, SetClock, ActivateService, StopService, ChangeRow, RowChange, RowAdded, RowUpdated, RowRemoved, action_of, change_of_row}
 use Rattle.router_steps.specs.Closing.{closing}
-use Rattle.router_steps.specs.Effects.{after_effect, after_effects, number_in, relation_at, resolved_in}
+use Rattle.router_steps.specs.Applying.{applied_in}
+use Rattle.router_steps.specs.Effects.{after_effect, after_effects, number_in, relation_at}
 use Rattle.router_steps.specs.Histories.{replay}
 use Rattle.router_steps.specs.Moves.{dropped, ended, resumed, with_service}
 use Rattle.router_steps.specs.Steps.{Due, Finish, Receipt, Subject, Taking, Selecting, Delivering, Finishing, after, after_subject, before_closing, delivery_at, due_at, finish_at, finished, is_end, marked_entity, subject_of}
@@ -75,7 +77,7 @@ action_inputs (SetClock to suspensions occurrences) s =
     (occurred_leave occurrences (after_change (changes.Advance to) (all_resumed suspensions set))).0.1 ∙ resumed_inputs suspensions set
 action_inputs (ActivateService n) s = refl
 action_inputs (StopService n a) s =
-    let t = with_service s n states.Stopping a in cond_both (a == 0) t (ended t a) (λ (u : State). u.inputs ≡ s.inputs) (λ _. refl) (λ _. refl)
+    let t = with_service s n states.Stopping a in cond_both (is_active s.activities a) (ended t a) t (λ (u : State). u.inputs ≡ s.inputs) (λ _. refl) (λ _. refl)
 action_inputs (ChangeRow table row change) s = row_inputs table row change s
 
 taken_inputs : (x : Result Action Refusal) (s : State) → (taken x s).inputs ≡ s.inputs + 1
@@ -97,7 +99,7 @@ nothing_more n m is = omega (arith, is)
 subject_inputs : (x : Subject) (s : State) → (after_subject x s).inputs ≡ s.inputs + lines_taken x
 subject_inputs (Taking signal action) s = taken_inputs action s
 subject_inputs (Selecting x) s = nothing_more _ s.inputs (root_leaves x x.root s).0.1
-subject_inputs (Delivering x) s = nothing_more _ s.inputs (effects_inputs (resolved_in (marked_entity x s) x.delivered.effects) (marked_entity x s))
+subject_inputs (Delivering x) s = nothing_more _ s.inputs (effects_inputs (applied_in x.entity.number.0 (marked_entity x s) x.delivered.effects) (marked_entity x s))
 subject_inputs (Finishing x) s =
     let t = after_change (changes.Pop (record { 0 = x.activity })) s in
     nothing_more _ s.inputs (cond_both (is_end x) (dropped t x.activity) t (λ (u : State). u.inputs ≡ s.inputs) (λ _. (kept_dropped x.activity t).1) (λ _. refl))

@@ -21,7 +21,7 @@ use Rattle.router_state.specs.declared.change.Change.TheVariants as changes
 use Rattle.router_state.specs.declared.rows.Event.{Event}
 use Rattle.router_steps.specs.Closing.{closing, lines_of_closing}
 use Rattle.router_steps.specs.Creating.{with_root, root_of}
-use Rattle.router_steps.specs.Effects.{done_effects, lines_of_done_effects, resolved_in}
+use Rattle.router_steps.specs.Applying.{applied_in, done_effects, lines_of_done_effects}
 use Rattle.router_steps.specs.Lines.{input_heading, initial_heading, initial_none_heading, deliver_heading, finish_heading, exception_line, rolled_back_line, gone_line, outcome_words}
 use Rattle.router_steps.specs.Moves.{attached, lines_of_attached, dropped}
 use Rattle.router_steps.specs.Steps.{Subject, Taking, Selecting, Delivering, Finishing, Root, NoRoot, OldRoot, NewRoot, Due, Finish, after_subject, subject_of, lines_of_subject, lines_of_root, lines_of_finish, line_of_callback, with_root_attached, marked_service, marked_entity, finished, is_end, due_at, delivery_at, finish_at}
@@ -142,13 +142,13 @@ subject_grows (Taking signal action) s is below = headed s _ (input_heading (spe
 subject_grows (Selecting x) s is below = root_grows x x.root s below
 subject_grows (Delivering x) s is below =
     let t = marked_entity x s in
-    let u = done_effects x.delivered.effects t in
+    let u = done_effects x.entity.number.0 x.delivered.effects t in
     let callbacks = line_of_callback exception_line x.delivered.exception in
     let more = line_of_callback rolled_back_line x.delivered.rolled_back in
-    let effects = effects_grow (resolved_in t x.delivered.effects) t below in
-    headed t u (deliver_heading x.activity x.event.id.0 x.entity.number.0 x.delivered.outcome) (callbacks ++ (more ++ lines_of_done_effects x.delivered.effects t)) _ below (λ a. refl)
-    (grows_then t t u callbacks (more ++ lines_of_done_effects x.delivered.effects t) [] _ (quietly t t callbacks below (refl, refl, refl) (λ a. quiet_callback a exception_line (quiet_exception a) x.delivered.exception))
-    (grows_then t t u more (lines_of_done_effects x.delivered.effects t) [] _ (quietly t t more below (refl, refl, refl) (λ a. quiet_callback a rolled_back_line (quiet_rolled_back a) x.delivered.rolled_back)) effects))
+    let effects = effects_grow (applied_in x.entity.number.0 t x.delivered.effects) t below in
+    headed t u (deliver_heading x.activity x.event.id.0 x.entity.number.0 x.delivered.outcome) (callbacks ++ (more ++ lines_of_done_effects x.entity.number.0 x.delivered.effects t)) _ below (λ a. refl)
+    (grows_then t t u callbacks (more ++ lines_of_done_effects x.entity.number.0 x.delivered.effects t) [] _ (quietly t t callbacks below (refl, refl, refl) (λ a. quiet_callback a exception_line (quiet_exception a) x.delivered.exception))
+    (grows_then t t u more (lines_of_done_effects x.entity.number.0 x.delivered.effects t) [] _ (quietly t t more below (refl, refl, refl) (λ a. quiet_callback a rolled_back_line (quiet_rolled_back a) x.delivered.rolled_back)) effects))
 subject_grows (Finishing x) s is below =
     let t = finished x s in
     quietly t t (lines_of_finish x) (finished_below x s below) (refl, refl, refl)

@@ -19,11 +19,11 @@ use Rattle.router_laws.proofs.Queues.{AreEventsBelow}
 use Rattle.router_laws.proofs.ListRules.{all_append}
 use Rattle.router_laws_histories.proofs.Reading.{quiet_verb}
 use Rattle.router_laws_histories.specs.Fires.{Firing, fires_of_ended, fires_of_effect, fires_of_effects, fires_of_nulls, fires_of_closing, fires_of_occurrences, fires_of_ended_if, fires_of_action, fires_of_taken}
-use Rattle.router_laws_histories.proofs.Growing.{told_on, Grows, grows_then, queued_grows, quiet_append, quiet_one, quiet_more, quiet_if, quiet_unless, quiet_option, SameQueues, AreQuiet, leaves_queues, same_queues, same_then, same_changes, same_if, same_option, quietly, still, grows_if, grows_unless}
+use Rattle.router_laws_histories.proofs.Growing.{told_on, Grows, grows_then, queued_grows, quiet_append, quiet_one, quiet_more, quiet_if, quiet_unless, quiet_option, SameQueues, AreQuiet, leaves_queues, same_queues, same_then, same_changes, same_if, same_option, quietly, still, grows_if}
 use Rattle.router_state.specs.State.{State}
 use Rattle.router_state.specs.Changes.{after_change, after_changes}
 use Rattle.router_state.specs.Closed.{is_loose, is_stopped}
-use Rattle.router_state.specs.Contexts.{is_linked, links_on, external}
+use Rattle.router_state.specs.Contexts.{is_active as is_active_activity, is_linked, links_on, external}
 use Rattle.router_state.specs.Trees.{roots, tree_of, entity_at}
 use Rattle.router_state.specs.Queues.{head_event, is_suspended}
 use Rattle.router_state.specs.declared.change.Change.TheVariants as changes
@@ -336,7 +336,7 @@ action_grows (StopService n a) s below =
     let key = service_key s.deployment n in
     grows_then s t (ended_if a t) (service_line key (codes "stopping") ∷ []) (lines_of_ended_if a s) [] (fires_of_ended_if a (counted s))
     (quietly s t (service_line key (codes "stopping") ∷ []) below (refl, refl, refl) (λ b. quiet_one b (service_line key (codes "stopping")) (quiet_service b key (codes "stopping"))))
-    (grows_unless (a == 0) t (ended t a) (lines_of_ended t a) (fires_of_ended t a) below (ended_grows t a below))
+    (grows_if (is_active_activity s.activities a) t (ended t a) (lines_of_ended t a) (fires_of_ended t a) below (ended_grows t a below))
 action_grows (ChangeRow table row change) s below =
     let t = after_change (change_of_row table row change) (counted s) in
     let same : SameQueues s t = same_then s (counted s) t (refl, refl, refl) (same_queues (change_of_row table row change) (counted s) (row_leaves table row change)) in

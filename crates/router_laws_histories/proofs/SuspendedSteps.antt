@@ -15,7 +15,7 @@ use Rattle.router_laws.proofs.Queues.{AreEventsBelow, first_of, head_is_first, p
 use Rattle.router_laws_histories.proofs.AtMostOnce.{fired_below}
 use Rattle.router_laws_histories.proofs.Growing.{Grows, RisesFrom}
 use Rattle.router_laws_histories.proofs.HeadLemmas.{first_stays}
-use Rattle.router_laws_histories.proofs.PlainLines.{ArePlain, IsKept, IsPlain, Leaves, attached_leaves, closing_leaves, detached_leaves, ended_leaves, kept_child, kept_dropped, kept_root, kept_then, leaves_then, occurred_leave, plain_created, plain_emitted, plain_exceptions, plain_gone, plain_refused, plain_rollbacks, plain_service, plain_started, plain_timer, plain_told, plain_usage, queued_leaves, tree_leaves}
+use Rattle.router_laws_histories.proofs.PlainLines.{ArePlain, IsKept, IsPlain, Leaves, attached_leaves, closing_leaves, detached_leaves, ended_leaves, kept_child, kept_dropped, kept_root, kept_then, leaves_if, leaves_then, occurred_leave, plain_created, plain_emitted, plain_exceptions, plain_gone, plain_refused, plain_rollbacks, plain_service, plain_started, plain_timer, plain_told, plain_usage, queued_leaves, tree_leaves}
 use Rattle.router_laws_histories.proofs.Stepped.{IsLookedUp, begun, dropped_same, subject_grows}
 use Rattle.router_laws_histories.proofs.Stepping.{closing_grows, effect_grows, effects_grow, taken_grows}
 use Rattle.router_laws_histories.proofs.Suspending.{IsHeldBack, Suspends, resume_suspends, suspend_suspends, suspends_then}
@@ -24,6 +24,7 @@ use Rattle.router_laws_histories.specs.Suspended.{AreReadableEnds, AreReadableHo
 use Rattle.router_laws_histories.specs.Words.{fires_of_subject}
 use Rattle.router_state.specs.State.{State}
 use Rattle.router_state.specs.Changes.{after_change}
+use Rattle.router_state.specs.Contexts.{is_active}
 use Rattle.router_state.specs.Queues.{head_event, is_suspended, queue, without_suspension}
 use Rattle.router_state.specs.Timing.{Occurrence}
 use Rattle.router_state.specs.declared.change.Change.TheVariants as changes
@@ -36,7 +37,8 @@ use Rattle.router_steps.specs.declared.refusal.Refusal.{Refusal}
 use Rattle.router_steps.specs.Actions.{Action, StartActivity, EndActivity, FireEvent, SetClock, ActivateService, StopService, ChangeRow, RowChange, RowAdded, RowUpdated, RowRemoved, change_of_row, event_of_row}
 use Rattle.router_steps.specs.Closing.{closing, lines_of_closing}
 use Rattle.router_steps.specs.Creating.{with_root}
-use Rattle.router_steps.specs.Effects.{after_effect, after_effects, lines_of_effect, lines_of_effects, lines_of_done_effects, number_in, plain_field, relation_at, resolved_in, service_for}
+use Rattle.router_steps.specs.Applying.{applied_in, lines_of_done_effects}
+use Rattle.router_steps.specs.Effects.{after_effect, after_effects, lines_of_effect, lines_of_effects, number_in, plain_field, relation_at, service_for}
 use Rattle.router_steps.specs.Lines.{created_line, deliver_heading, exception_line, finish_heading, gone_line, initial_heading, initial_none_heading, input_heading, refused_line, rolled_back_line, service_line, started_line, timer_line, usage_line}
 use Rattle.router_steps.specs.Moves.{attached, dropped, ended, lines_of_attached, lines_of_queued, lines_of_resumed, resumed, with_service}
 use Rattle.router_steps.specs.Steps.{Due, Finish, Root, NoRoot, OldRoot, NewRoot, Subject, Taking, Selecting, Delivering, Finishing, after_subject, finished, is_end, line_of_callback, lines_of_finish, lines_of_root, lines_of_subject, marked_entity, marked_service, with_root_attached}
@@ -177,11 +179,7 @@ action_suspends (StopService n a) s below few fits =
     let t = with_service (counted s) n states.Stopping a in
     taken_leaves (StopService n a) s below
     (leaves_then (counted s) t (ended_if a t) (service_line (service_key s.deployment n) (codes "stopping") ∷ []) (lines_of_ended_if a s) ((refl, refl), (plain_service (service_key s.deployment n) (codes "stopping"), tt))
-    (by (a == 0) t (ended t a) _ (ended_leaves t a)))
-  where
-    by : (b : Bool) (t u : State) (lines : List (List ℕ)) → Leaves t u lines → Leaves t (if b then t else u) (if b then [] else lines)
-    by true t u lines leaves = ((refl, refl), tt)
-    by false t u lines leaves = leaves
+    (leaves_if (is_active s.activities a) t (ended t a) _ (ended_leaves t a)))
 action_suspends (ChangeRow table row change) s below few fits =
     taken_leaves (ChangeRow table row change) s below (kept_row table row change (counted s), (queued_leaves s _ (event_of_row change) [] None).1)
 
@@ -241,11 +239,11 @@ subject_suspends (Selecting x) s is free below few fits =
     plainly s (after_subject (Selecting x) s) (lines_of_root x x.root s) _ (subject_grows (Selecting x) s is below) (root_leaves x x.root s).0.0 (root_leaves x x.root s).1
 subject_suspends (Delivering x) s is free below few fits =
     let t = marked_entity x s in
-    let done = effects_suspend (resolved_in t x.delivered.effects) t below few fits.1 in
-    headed s (after_effects (resolved_in t x.delivered.effects) t) (deliver_heading x.activity x.event.id.0 x.entity.number.0 x.delivered.outcome)
-    (line_of_callback exception_line x.delivered.exception ++ (line_of_callback rolled_back_line x.delivered.rolled_back ++ lines_of_done_effects x.delivered.effects t)) (λ a was. refl)
-    (behind s (after_effects (resolved_in t x.delivered.effects) t) (line_of_callback exception_line x.delivered.exception) (line_of_callback rolled_back_line x.delivered.rolled_back ++ lines_of_done_effects x.delivered.effects t) (plain_exceptions x.delivered.exception)
-    (behind s (after_effects (resolved_in t x.delivered.effects) t) (line_of_callback rolled_back_line x.delivered.rolled_back) (lines_of_done_effects x.delivered.effects t) (plain_rollbacks x.delivered.rolled_back) done))
+    let done = effects_suspend (applied_in x.entity.number.0 t x.delivered.effects) t below few fits.1 in
+    headed s (after_effects (applied_in x.entity.number.0 t x.delivered.effects) t) (deliver_heading x.activity x.event.id.0 x.entity.number.0 x.delivered.outcome)
+    (line_of_callback exception_line x.delivered.exception ++ (line_of_callback rolled_back_line x.delivered.rolled_back ++ lines_of_done_effects x.entity.number.0 x.delivered.effects t)) (λ a was. refl)
+    (behind s (after_effects (applied_in x.entity.number.0 t x.delivered.effects) t) (line_of_callback exception_line x.delivered.exception) (line_of_callback rolled_back_line x.delivered.rolled_back ++ lines_of_done_effects x.entity.number.0 x.delivered.effects t) (plain_exceptions x.delivered.exception)
+    (behind s (after_effects (applied_in x.entity.number.0 t x.delivered.effects) t) (line_of_callback rolled_back_line x.delivered.rolled_back) (lines_of_done_effects x.entity.number.0 x.delivered.effects t) (plain_rollbacks x.delivered.rolled_back) done))
 subject_suspends (Finishing x) s is free below few fits = finish_suspends x s free
 
 -- a step

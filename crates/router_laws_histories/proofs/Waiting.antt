@@ -48,7 +48,7 @@ next_free s a test on = elim (cases_Bool (is_suspended s.suspensions a)) [
   | inl held ↦ (let none : next s a ≡ None = suspended_waits s a held in absurd (false≢true (rw none at on)))
 ]
 
-free_subject : (s : State) (c : Choice) (x : Subject) → is_enabled s c ≡ true → subject_of s c ≡ Some x → IsFree x s
+pub free_subject : (s : State) (c : Choice) (x : Subject) → is_enabled s c ≡ true → subject_of s c ≡ Some x → IsFree x s
 free_subject s (choices.Input signal) x on is = subst (λ y. IsFree y s) (some_same is) tt
 free_subject s (choices.Initial a) x on is =
     let free = next_free s a.0 is_initial (and_parts (not (is_used_up s)) (is_next s (choices.Initial a)) on).1 in

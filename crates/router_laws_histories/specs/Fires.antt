@@ -8,6 +8,7 @@ use Rattle.slee_effect.specs.declared.effect.Effect.{Effect}
 use Rattle.slee_effect.specs.declared.effect.Effect.TheVariants as effects
 use Rattle.router_state.specs.State.{State}
 use Rattle.router_state.specs.Changes.{after_change}
+use Rattle.router_state.specs.Contexts.{is_active}
 use Rattle.router_state.specs.Initial.{table_activity}
 use Rattle.router_state.specs.Queues.{activity_end}
 use Rattle.router_state.specs.declared.change.Change.TheVariants as changes
@@ -84,9 +85,9 @@ abbrev pub fires_of_occurrences : List Occurrence → State → List Firing
 fires_of_occurrences [] s = []
 fires_of_occurrences (x ∷ xs) s = fires_of_occurrence x s ++ fires_of_occurrences xs (occurred x s)
 
--- the end of an activity, 0 being none
+-- the end of an activity where it is Active
 abbrev pub fires_of_ended_if : ℕ → State → List Firing
-fires_of_ended_if a s = if a == 0 then [] else fires_of_ended s a
+fires_of_ended_if a s = if is_active s.activities a then fires_of_ended s a else []
 
 -- what a line fires
 abbrev pub fires_of_action : Action → State → List Firing

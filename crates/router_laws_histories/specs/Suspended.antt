@@ -8,7 +8,8 @@ use Rattle.router_state.specs.State.{State}
 use Rattle.router_state.specs.declared.rows.Suspension.{Suspension}
 use Rattle.router_steps.specs.declared.refusal.Refusal.{Refusal}
 use Rattle.router_steps.specs.Actions.{Action, SetClock}
-use Rattle.router_steps.specs.Effects.{number_in, resolved_in}
+use Rattle.router_steps.specs.Applying.{applied_in}
+use Rattle.router_steps.specs.Effects.{number_in}
 use Rattle.router_steps.specs.Steps.{Subject, Taking, Selecting, Delivering, Finishing, after, marked_entity, subject_of}
 use Rattle.trace_history.specs.Reading.{activity_word, heading_of}
 use Rattle.trace_history.specs.Totals.{words_in}
@@ -55,7 +56,7 @@ AreReadableEnds _ = Unit {0}
 abbrev pub AreReadableHolds : Subject → State → Type 0
 AreReadableHolds (Taking signal action) s = AreReadableEnds action
 AreReadableHolds (Selecting x) s = x.activity < 2 ^ 64
-AreReadableHolds (Delivering x) s = (x.activity < 2 ^ 64) × AllByRecursion IsReadableHold (resolved_in (marked_entity x s) x.delivered.effects)
+AreReadableHolds (Delivering x) s = (x.activity < 2 ^ 64) × AllByRecursion IsReadableHold (applied_in x.entity.number.0 (marked_entity x s) x.delivered.effects)
 AreReadableHolds (Finishing x) s = x.activity < 2 ^ 64
 
 -- the choice is about something, what its step says of suspensions is read from its lines, and events' numbers have 64 bits

@@ -4,7 +4,7 @@ use Rattle.std.specs.List.{All, AllByRecursion}
 use Rattle.router_state.specs.State.{State}
 use Rattle.router_state.specs.Paths.{path_before, path_of}
 use Rattle.router_state.specs.declared.rows.Entity.{Entity}
-use Rattle.router_steps.specs.Effects.{resolved_in}
+use Rattle.router_steps.specs.Applying.{applied_in}
 use Rattle.router_steps.specs.Steps.{Subject, Taking, Selecting, Delivering, Finishing, after, after_subject, subject_of, marked_entity}
 use Rattle.router_steps.specs.Taking.{counted}
 use Rattle.trace_history.specs.declared.choice.Choice.{Choice}
@@ -24,7 +24,7 @@ IsReadable x = (x.0 < 2 ^ 64) × (x.1.id.0 < 2 ^ 64) × IsWord x.1.name
 abbrev pub fires_of_subject : Subject → State → List Firing
 fires_of_subject (Taking signal action) s = fires_of_taken action (counted s)
 fires_of_subject (Selecting x) s = []
-fires_of_subject (Delivering x) s = fires_of_effects (resolved_in (marked_entity x s) x.delivered.effects) (marked_entity x s)
+fires_of_subject (Delivering x) s = fires_of_effects (applied_in x.entity.number.0 (marked_entity x s) x.delivered.effects) (marked_entity x s)
 fires_of_subject (Finishing x) s = []
 
 -- what a step fires

@@ -37,14 +37,14 @@ use Rattle.router_state.specs.declared.rows.Service.{Service}
 use Rattle.router_steps.specs.Applying.{applies, suits_event}
 use Rattle.router_steps.specs.Effects.{after_effect, number_in, plain, plain_field, service_for}
 
-declared_fields : (d : Deployed) (name : List ℕ) → AreOwnNames d → (code : EventCode) → named (λ (e : EventCode). e.name) name d.events ≡ Some code → event_fields d name ≡ Some code.fields
+pub declared_fields : (d : Deployed) (name : List ℕ) → AreOwnNames d → (code : EventCode) → named (λ (e : EventCode). e.name) name d.events ≡ Some code → event_fields d name ≡ Some code.fields
 declared_fields d name own code found =
     let none : named (λ (e : EventCode). e.name) name built_in ≡ None = own name (rw found refl) in
     let all : event_type d name ≡ Some code = find-append (λ (e : EventCode). bytes_eq e.name name) built_in d.events ∙ rw (none, found) refl in
     ap (option_map (λ (e : EventCode). e.fields)) all
 
 -- a declared event isn't an activity's end
-not_end : (d : Deployed) (name : List ℕ) → AreOwnNames d → is_some (named (λ (e : EventCode). e.name) name d.events) ≡ true → bytes_eq name activity_end ≡ false
+pub not_end : (d : Deployed) (name : List ℕ) → AreOwnNames d → is_some (named (λ (e : EventCode). e.name) name d.events) ≡ true → bytes_eq name activity_end ≡ false
 not_end d name own declared = elim (cases_Bool (bytes_eq name activity_end)) [
   | inr isnt ↦ isnt
   | inl is ↦

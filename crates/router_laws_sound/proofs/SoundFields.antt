@@ -24,7 +24,7 @@ use Rattle.router_state.specs.declared.rows.Field.{Field}
 
 -- texts
 
-not_below_itself : (x : List ℕ) → is_below x x ≡ false
+pub not_below_itself : (x : List ℕ) → is_below x x ≡ false
 not_below_itself [] = refl
 not_below_itself (b ∷ x) = same (b == b) (itself b) ∙ not_below_itself x
   where
@@ -34,7 +34,7 @@ not_below_itself (b ∷ x) = same (b == b) (itself b) ∙ not_below_itself x
     same : (c : Bool) → ((b == b) ≡ true) × (nat_lt b b ≡ false) → is_below (b ∷ x) (b ∷ x) ≡ is_below x x
     same c both = rw (both.1, both.0) refl
 
-not_above : (x y : List ℕ) → is_below x y ≡ true → is_below y x ≡ false
+pub not_above : (x y : List ℕ) → is_below x y ≡ true → is_below y x ≡ false
 not_above x y less = false_from_ne_true (is_below y x) (λ more. false≢true (sym (not_below_itself x) ∙ below_joins x y x less more))
 
 same_text : (x y : List ℕ) → bytes_eq x y ≡ true → x ≡ y
@@ -50,7 +50,7 @@ Rise [] = Unit {0}
 Rise (x ∷ xs) = AllByRecursion (λ (y : Pair). is_below x.0 y.0 ≡ true) xs × Rise xs
 
 -- a value is put in its place
-abbrev set_in : List ℕ → Value → List Pair → List Pair
+abbrev pub set_in : List ℕ → Value → List Pair → List Pair
 set_in name value fields = filter (λ (f : Pair). is_below f.0 name) fields ++ (name, value) ∷ filter (λ (f : Pair). is_below name f.0) fields
 
 all_behind : (name : List ℕ) (fields : List Pair) → AllByRecursion (λ (y : Pair). is_below name y.0 ≡ true) fields → filter (λ (f : Pair). is_below name f.0) fields ≡ fields
@@ -170,7 +170,7 @@ names_rise e (r ∷ rows) order =
         cond_both (q.entity.0 == e) (q ∷ filter (is_own e) rows) (filter (is_own e) rows) (λ xs. AllByRecursion (λ (y : Pair). is_below r.name y.0 ≡ true) (map pair_of xs))
         (λ mine. (below r.entity.0 q.entity.0 e (is_below r.name q.name) own mine all.0, later r rows own all.1)) (λ _. later r rows own all.1)
 
-field_joins : Joins field_before
+pub field_joins : Joins field_before
 field_joins x y z one two = text_joins x.entity.0 x.name y.entity.0 y.name z.entity.0 z.name one two
 
 -- an entity has its fields when one of them is set

@@ -30,11 +30,11 @@ use Rattle.router_state.specs.declared.rows.Stem.TheVariants as stems
 use Rattle.router_steps.specs.Going.{removed, all_removed}
 use Rattle.router_steps.specs.Moves.{changes_of_detaching}
 
-abbrev left_of : List ℕ → List Entity → List Entity
+abbrev pub left_of : List ℕ → List Entity → List Entity
 left_of gone rows = filter (λ row. not (in_list row.number.0 gone)) rows
 
 -- a look-up by number among the rows that are left
-found_left : {Row : Type 0} (number : Row → ℕ) (gone : List ℕ) (rows : List Row) (e : ℕ) → in_list e gone ≡ false
+pub found_left : {Row : Type 0} (number : Row → ℕ) (gone : List ℕ) (rows : List Row) (e : ℕ) → in_list e gone ≡ false
     → find (λ row. number row == e) (filter (λ row. not (in_list (number row) gone)) rows) ≡ find (λ row. number row == e) rows
 found_left number gone [] e out = refl
 found_left number gone (row ∷ rows) e out = elim (cases_Bool (number row == e)) [
@@ -47,7 +47,7 @@ found_left number gone (row ∷ rows) e out = elim (cases_Bool (number row == e)
   ]
 ]
 
-entity_left : (gone : List ℕ) (rows : List Entity) (e : ℕ) → in_list e gone ≡ false → entity_at (left_of gone rows) e ≡ entity_at rows e
+pub entity_left : (gone : List ℕ) (rows : List Entity) (e : ℕ) → in_list e gone ≡ false → entity_at (left_of gone rows) e ≡ entity_at rows e
 entity_left gone rows e out = found_left (λ (row : Entity). row.number.0) gone rows e out
 
 -- tests of the rows that are kept, which may use where a row stands
@@ -59,14 +59,14 @@ kept_in p q keep (x ∷ xs) follows all =
     (λ is. and_from (q x) (list_all q (filter keep xs)) (follows x (inl refl) is parts.0) (kept_in p q keep xs (λ y there. follows y (inr there)) parts.1))
     (λ _. kept_in p q keep xs (λ y there. follows y (inr there)) parts.1)
 
-entity_joins : Joins (λ (x y : Entity). nat_lt x.number.0 y.number.0)
+pub entity_joins : Joins (λ (x y : Entity). nat_lt x.number.0 y.number.0)
 entity_joins x y z one two = lt x.number.0 y.number.0 z.number.0 one two
   where
     lt : (a b c : ℕ) → nat_lt a b ≡ true → nat_lt b c ≡ true → nat_lt a c ≡ true
     lt a b c one two = grind (arith, nat_tests)
 
 -- what goes has with it all that is below it
-abbrev IsWhole : List ℕ → List Entity → Type 0
+abbrev pub IsWhole : List ℕ → List Entity → Type 0
 IsWhole gone rows = (row : Entity) → IsIn row rows → IsIn (parent_of row) gone → IsIn row.number.0 gone
 
 pub entities_left : (d : Deployed) (gone : List ℕ) (rows : List Entity) (next : ℕ) → IsWhole gone rows → are_entities d rows next ≡ true → are_entities d (left_of gone rows) next ≡ true

@@ -4,5 +4,5 @@
 mod effects;
 mod moves;
 
-pub use effects::{ends_keep_states_sound, fired_events_keep_states_sound};
+pub use effects::effects_keep_states_sound;
 pub use moves::moves_keep_states_sound;

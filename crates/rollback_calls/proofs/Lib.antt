@@ -1,0 +1,3 @@
+pub mod HandlingLemmas
+pub mod CallbackLemmas
+pub mod LastWordsLemmas

@@ -1,0 +1,4 @@
+pub mod Deliveries
+pub mod Callbacks
+pub mod Prepared
+pub mod LastWords

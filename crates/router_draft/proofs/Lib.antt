@@ -1,0 +1,16 @@
+pub mod ChangeLemmas
+pub mod NumberedLemmas
+pub mod LinkLemmas
+pub mod NextLemmas
+pub mod EntityLemmas
+pub mod ActivityLemmas
+pub mod FieldLemmas
+pub mod NameLemmas
+pub mod MarkLemmas
+pub mod LinkedLemmas
+pub mod PairLemmas
+pub mod QueueLemmas
+pub mod ChildLemmas
+pub mod TreeLemmas
+pub mod MakingLemmas
+pub mod TouchLemmas

@@ -1,0 +1,4 @@
+pub mod Drafts
+pub mod After
+pub mod Touched
+pub mod Held

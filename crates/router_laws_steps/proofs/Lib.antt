@@ -1,0 +1,9 @@
+pub mod LineMoves
+pub mod Values
+pub mod LineFacts
+pub mod Taken
+pub mod Names
+pub mod Selecting
+pub mod WholeSteps
+pub mod First
+pub mod Gone
