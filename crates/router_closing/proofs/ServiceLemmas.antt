@@ -191,3 +191,8 @@ pub services_tell : (cs : List Change) (s : State) → lines_of_services_from 0 
 services_tell cs s =
     let t = after_changes cs s in
     ap (λ k. lines_of_services_from 0 k t) (sym (count_laid cs s)) ∙ all_told [] t.services t refl
+
+-- the same of a tree, by what each call gives
+
+pub members_of : (cs ds : List Change) (all gone : List ℕ) → ds ≡ cs → all ≡ flat_map removed_by ds → ((m : ℕ) → is_member gone m ≡ is_member all m) → (m : ℕ) → is_member gone m ≡ is_member (flat_map removed_by cs) m
+members_of cs ds all gone changes listed same m = same m ∙ ap (λ xs. is_member xs m) (listed ∙ ap (λ d. flat_map removed_by d) changes)

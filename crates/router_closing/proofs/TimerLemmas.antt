@@ -127,3 +127,15 @@ some_left (row ∷ rows) a = elim (cases_Bool (row.activity.0 == a)) [
   where
     some : (n : ℕ) → not (suc n == 0) ≡ true
     some n = let is : (suc n == 0) ≡ false = grind (arith, nat_tests) in ap not is
+
+-- the same, by what each call gives
+pub timer_seen : (s : State) (cs ds : List Change) (first a : ℕ) (old new : List Timer) → ds ≡ cs → first ≡ s.next_timer → old ≡ filter (λ (row : Timer). row.activity.0 == a) s.timers
+    → new ≡ (fold (λ was c. timers_after c a was) (first, old) ds).1 → not (length new == 0) ≡ list_any (λ (row : Timer). row.activity.0 == a) (after_changes cs s).timers
+timer_seen s cs ds first a old new changes number listed is =
+    ap (λ rows. not (length rows == 0))
+    (is
+    ∙ ap (λ d. (fold (λ was c. timers_after c a was) (first, old) d).1) changes
+    ∙ ap (λ n. (fold (λ was c. timers_after c a was) (n, old) cs).1) number
+    ∙ ap (λ rows. (fold (λ was c. timers_after c a was) (s.next_timer, rows) cs).1) listed
+    ∙ sym (timers_laid cs s a))
+    ∙ some_left (after_changes cs s).timers a

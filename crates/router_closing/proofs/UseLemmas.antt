@@ -124,3 +124,15 @@ waiting_is (q ∷ qs) a = elim (cases_Bool (q.activity.0 == a)) [
   | inl own ↦ rw own refl
   | inr other ↦ rw other (waiting_is qs a)
 ]
+
+-- the same, by what each call gives
+
+pub link_seen : (s : State) (cs ds : List Change) (entities xs : List ℕ) (a : ℕ) (r : Bool) → ds ≡ cs → entities ≡ attached_to s ds a → xs ≡ entities → r ≡ list_any (λ e. is_linked (after_changes cs s).links e a) xs
+    → r ≡ list_any (λ (l : Link). l.activity.0 == a) (after_changes cs s).links
+link_seen s cs ds entities xs a r changes listed same is =
+    is ∙ ap (λ es. list_any (λ e. is_linked (after_changes cs s).links e a) es) (same ∙ listed ∙ ap (λ d. attached_to s d a) changes) ∙ linked_on s cs a
+
+pub name_seen : (s : State) (cs ds : List Change) (names xs : List (List ℕ)) (a : ℕ) (r : Bool) → IsOrdered s → ds ≡ cs → names ≡ names_given s ds a → xs ≡ names → r ≡ list_any (λ name. stands_for a (named_at (after_changes cs s).names name)) xs
+    → r ≡ list_any (λ (row : Named). row.activity.0 == a) (after_changes cs s).names
+name_seen s cs ds names xs a r order changes listed same is =
+    is ∙ ap (λ ns. list_any (λ name. stands_for a (named_at (after_changes cs s).names name)) ns) (same ∙ listed ∙ ap (λ d. names_given s d a) changes) ∙ named_as s cs a order
