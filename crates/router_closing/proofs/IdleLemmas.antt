@@ -3,7 +3,6 @@ use Rattle.std.proofs.Common.{◌≡◌, ℕ, ◌==◌, ◌⊎◌, Bool, true, f
 use Rattle.std.specs.Prelude.{◌&&◌}
 use Rattle.std.specs.Option.{option_map_or}
 use Rattle.std.proofs.lemmas.Bool.{cases_Bool, and_parts, eqb-true}
-use Rattle.slee_value.specs.declared.ids.ActivityId.{ActivityId}
 use Rattle.router_state.specs.State.{State}
 use Rattle.router_state.specs.Closed.{is_in_use}
 use Rattle.router_state.specs.Contexts.{activity_at, is_active, is_null}

@@ -1,5 +1,5 @@
 -- The lines of closing, one part behind another.
-use Rattle.std.proofs.Common.{◌≡◌, ℕ, List, [], ◌∷◌, ◌++◌, map, refl, sym, ◌∙◌, ap}
+use Rattle.std.proofs.Common.{◌≡◌, ℕ, List, ◌++◌, map, ◌∙◌, ap}
 use Rattle.router_state.specs.State.{State}
 use Rattle.router_state.specs.Trees.{roots}
 use Rattle.router_state.specs.declared.rows.Activity.{Activity}

@@ -1,5 +1,5 @@
 -- Changes that can be made keep trees.
-use Rattle.std.proofs.Common.{◌≡◌, List, [], ◌∷◌, refl, ◌<◌, inl, inr, subst, sym}
+use Rattle.std.proofs.Common.{List, [], ◌∷◌, refl, ◌<◌, inl, inr, subst, sym}
 use Rattle.std.specs.List.{AllByRecursion}
 use Rattle.std.proofs.lemmas.Bool.{and_parts}
 use Rattle.router_state.specs.State.{State}

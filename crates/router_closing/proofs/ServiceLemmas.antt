@@ -1,5 +1,5 @@
 -- Services after changes, closed one by one.
-use Rattle.std.proofs.Common.{◌≡◌, ℕ, zero, suc, ◌+◌, ◌-◌, ◌<◌, ◌==◌, Bool, true, false, not, List, [], ◌∷◌, ◌++◌, Option, Some, None, option_map, flat_map, length, slice_get, codes, refl, sym, ◌∙◌, ap, subst, inl, inr, arith, if◌then◌else◌, nat_lt}
+use Rattle.std.proofs.Common.{◌≡◌, ℕ, zero, suc, ◌+◌, ◌-◌, ◌<◌, ◌==◌, true, false, not, List, [], ◌∷◌, ◌++◌, Some, option_map, flat_map, length, slice_get, codes, refl, sym, ◌∙◌, ap, subst, inl, inr, arith, if◌then◌else◌, nat_lt}
 use Rattle.std.specs.Prelude.{◌||◌, ◌&&◌}
 use Rattle.std.specs.List.{fold, list_any}
 use Rattle.std.specs.Option.{option_map_or}

@@ -1,6 +1,5 @@
 -- The timers on an activity after changes.
-use Rattle.std.proofs.Common.{◌≡◌, ℕ, zero, suc, ◌+◌, ◌==◌, Bool, true, false, not, List, [], ◌∷◌, ◌++◌, Option, Some, None, length, filter, map, refl, sym, ◌∙◌, ap, inl, inr, arith, if◌then◌else◌}
-use Rattle.std.specs.Prelude.{◌||◌}
+use Rattle.std.proofs.Common.{◌≡◌, ℕ, suc, ◌+◌, ◌==◌, true, false, not, List, [], ◌∷◌, ◌++◌, Some, None, length, filter, refl, sym, ◌∙◌, ap, inl, inr, arith, if◌then◌else◌}
 use Rattle.std.specs.List.{fold, list_any}
 use Rattle.std.proofs.lemmas.Bool.{cases_Bool}
 use Rattle.std.proofs.lemmas.Bool.Decides.{nat_tests}
@@ -13,7 +12,6 @@ use Rattle.router_state.specs.declared.change.Change.TheVariants as changes
 use Rattle.router_state.specs.declared.rows.Timer.{Timer}
 use Rattle.router_state.specs.declared.rows.TimerSpec.{TimerSpec}
 use Rattle.router_laws.proofs.ListRules.{append_nil}
-use Rattle.router_laws_closing.proofs.LooseLemmas.{number_same}
 use Rattle.router_draft.proofs.ChangeLemmas.{through}
 use Rattle.router_closing.specs.Timers.{left_of, timers_after}
 

@@ -1,29 +1,28 @@
 -- Whether a service has a tree after changes.
-use Rattle.std.proofs.Common.{◌≡◌, ℕ, zero, suc, ◌+◌, ◌<◌, ◌≤◌, ◌==◌, ◌⊎◌, Bool, true, false, not, List, [], ◌∷◌, ◌++◌, Option, Some, None, filter, flat_map, map, refl, sym, ◌∙◌, ap, subst, inl, inr, arith}
+use Rattle.std.proofs.Common.{◌≡◌, ℕ, ◌+◌, ◌<◌, ◌==◌, ◌⊎◌, Bool, true, false, not, List, [], ◌∷◌, ◌++◌, flat_map, refl, sym, ◌∙◌, ap, subst, inl, inr, arith}
 use Rattle.std.specs.Prelude.{◌||◌, ◌&&◌}
 use Rattle.std.specs.List.{list_any}
-use Rattle.std.specs.Option.{option_map_or}
 use Rattle.std.proofs.lemmas.Bool.{cases_Bool, and_parts, cond_both, not-true, or_cases}
 use Rattle.std.proofs.lemmas.Bool.Decides.{nat_tests}
 use Rattle.router_state.specs.State.{State}
 use Rattle.router_state.specs.Changes.{after_change, after_changes}
 use Rattle.router_state.specs.Closed.{has_tree}
 use Rattle.router_state.specs.Ordered.{IsOrdered}
-use Rattle.router_state.specs.Trees.{entity_at, has_priority, is_root_of, parent_in, parent_of, with_priority}
+use Rattle.router_state.specs.Trees.{has_priority, is_root_of, parent_in, with_priority}
 use Rattle.router_state.specs.declared.change.Change.{Change}
 use Rattle.router_state.specs.declared.change.Change.TheVariants as changes
 use Rattle.router_state.specs.declared.rows.Entity.{Entity}
 use Rattle.router_state.specs.declared.rows.Stem.{Stem}
 use Rattle.router_state.specs.declared.rows.Stem.TheVariants as stems
 use Rattle.router_laws.specs.Forest.{IsIn}
-use Rattle.router_laws.proofs.ForestLemmas.{in_either, in_left, in_right}
+use Rattle.router_laws.proofs.ForestLemmas.{in_either, in_left}
 use Rattle.router_laws.proofs.ListRules.{in_filter}
 use Rattle.router_laws_closing.specs.Keeping.{AllKeepTrees}
-use Rattle.router_laws_closing.specs.Loose.{IsForest, IsNumbered, IsRoot, is_member}
+use Rattle.router_laws_closing.specs.Loose.{IsForest, IsNumbered, is_member}
 use Rattle.router_laws_closing.specs.TouchedRoots.{stands}
 use Rattle.router_laws_closing.proofs.FreedLemmas.{numbered_after, once_in, only_one, prior_in, prior_number}
 use Rattle.router_laws_closing.proofs.IdleLemmas.{or_left, or_right}
-use Rattle.router_laws_closing.proofs.LooseLemmas.{number_same, same_number, still_in, was_in}
+use Rattle.router_laws_closing.proofs.LooseLemmas.{still_in, was_in}
 use Rattle.router_laws_closing.proofs.MemberLemmas.{some_passes}
 use Rattle.router_laws_closing.proofs.TouchedRootLemmas.{numbered_through, ordered_through, root_at, stands_from}
 use Rattle.router_closing.specs.Services.{has_new_root, makes, makes_root, removed_by}
@@ -202,10 +201,10 @@ tree_is cs s n gone order numbered keep have =
       | inr new ↦ tree_of_new n cs s t.entities numbered keep refl new
     ])
     (λ some.
-        let found = some_passes (λ (row : Entity). is_root_of n row.stem) t.entities some in
-        elim (from_step n t.entities forest cs s found.0 refl found.1 found.2) [
-          | inl was ↦
-              let kept : not (is_member gone was.0.number.0) ≡ true = ap not (ap (is_member gone) was.2 ∙ have found.0.number.0 ∙ was.4) in
-              or_left (list_any (stayed n gone) s.entities) (has_new_root t.entities n s.next_entity cs) (passes_some (stayed n gone) was.0 s.entities was.1 (rw (was.3, kept) refl))
-          | inr new ↦ or_right (list_any (stayed n gone) s.entities) (has_new_root t.entities n s.next_entity cs) new
-        ])
+    let found = some_passes (λ (row : Entity). is_root_of n row.stem) t.entities some in
+    elim (from_step n t.entities forest cs s found.0 refl found.1 found.2) [
+      | inl was ↦
+          let kept : not (is_member gone was.0.number.0) ≡ true = ap not (ap (is_member gone) was.2 ∙ have found.0.number.0 ∙ was.4) in
+          or_left (list_any (stayed n gone) s.entities) (has_new_root t.entities n s.next_entity cs) (passes_some (stayed n gone) was.0 s.entities was.1 (rw (was.3, kept) refl))
+      | inr new ↦ or_right (list_any (stayed n gone) s.entities) (has_new_root t.entities n s.next_entity cs) new
+    ])

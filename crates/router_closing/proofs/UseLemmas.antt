@@ -1,14 +1,10 @@
 -- What stands on an activity after changes.
-use Rattle.std.proofs.Common.{◌≡◌, ℕ, ◌==◌, ◌⊎◌, Bool, true, false, not, List, [], ◌∷◌, ◌++◌, Option, Some, None, option_map, filter, find, flat_map, map, refl, sym, ◌∙◌, ap, subst, inl, inr, arith}
-use Rattle.std.specs.Prelude.{◌||◌, ◌&&◌, is_some}
+use Rattle.std.proofs.Common.{◌≡◌, ℕ, ◌==◌, Bool, true, false, not, List, [], ◌∷◌, option_map, filter, flat_map, map, refl, sym, ◌∙◌, ap, subst, inl, inr}
+use Rattle.std.specs.Prelude.{is_some}
 use Rattle.std.specs.List.{list_any}
-use Rattle.std.specs.Option.{option_map_or}
 use Rattle.std.specs.Str.{bytes_eq}
 use Rattle.std.proofs.lemmas.Bool.{cases_Bool, and_parts}
-use Rattle.std.proofs.lemmas.Bool.Decides.{nat_tests}
 use Rattle.std.proofs.lemmas.Slice.Eq.{bytes_eq-Decides}
-use Rattle.slee_value.specs.declared.ids.ActivityId.{ActivityId}
-use Rattle.slee_value.specs.declared.ids.EventId.{EventId}
 use Rattle.router_state.specs.State.{State}
 use Rattle.router_state.specs.Changes.{after_change, after_changes}
 use Rattle.router_state.specs.Contexts.{is_link, is_linked, name_before, named_at}
@@ -52,14 +48,14 @@ linked_on s cs a =
     let t = after_changes cs s in
     both_or_none (list_any (λ e. is_linked t.links e a) (attached_to s cs a)) (list_any (λ (l : Link). l.activity.0 == a) t.links)
     (λ some.
-        let found = some_passes (λ e. is_linked t.links e a) (attached_to s cs a) some in
-        let link = some_passes (is_link found.0 a) t.links found.2 in
-        passes_some (λ (l : Link). l.activity.0 == a) link.0 t.links link.1 ((and_parts (link.0.entity.0 == found.0) (link.0.activity.0 == a) link.2).1))
+    let found = some_passes (λ e. is_linked t.links e a) (attached_to s cs a) some in
+    let link = some_passes (is_link found.0 a) t.links found.2 in
+    passes_some (λ (l : Link). l.activity.0 == a) link.0 t.links link.1 ((and_parts (link.0.entity.0 == found.0) (link.0.activity.0 == a) link.2).1))
     (λ some.
-        let found = some_passes (λ (l : Link). l.activity.0 == a) t.links some in
-        let there : IsIn found.0.entity.0 (attached_to s cs a) = subst (λ (n : ℕ). IsIn found.0.entity.0 (attached_to s cs n)) (number_same found.0.activity.0 a found.2) (attached_through cs s found.0 found.1) in
-        passes_some (λ e. is_linked t.links e a) found.0.entity.0 (attached_to s cs a) there
-        (passes_some (is_link found.0.entity.0 a) found.0 t.links found.1 (rw (same_number found.0.entity.0 found.0.entity.0 refl, found.2) refl)))
+    let found = some_passes (λ (l : Link). l.activity.0 == a) t.links some in
+    let there : IsIn found.0.entity.0 (attached_to s cs a) = subst (λ (n : ℕ). IsIn found.0.entity.0 (attached_to s cs n)) (number_same found.0.activity.0 a found.2) (attached_through cs s found.0 found.1) in
+    passes_some (λ e. is_linked t.links e a) found.0.entity.0 (attached_to s cs a) there
+    (passes_some (is_link found.0.entity.0 a) found.0 t.links found.1 (rw (same_number found.0.entity.0 found.0.entity.0 refl, found.2) refl)))
 
 -- names
 
@@ -109,13 +105,13 @@ named_as s cs a order =
     let t = after_changes cs s in
     both_or_none (list_any (λ name. stands_for a (named_at t.names name)) (names_given s cs a)) (list_any (λ (row : Named). row.activity.0 == a) t.names)
     (λ some.
-        let found = some_passes (λ name. stands_for a (named_at t.names name)) (names_given s cs a) some in
-        row_of t.names found.0 a found.2)
+    let found = some_passes (λ name. stands_for a (named_at t.names name)) (names_given s cs a) some in
+    row_of t.names found.0 a found.2)
     (λ some.
-        let found = some_passes (λ (row : Named). row.activity.0 == a) t.names some in
-        let there : IsIn found.0.name (names_given s cs a) = subst (λ (n : ℕ). IsIn found.0.name (names_given s cs n)) (number_same found.0.activity.0 a found.2) (names_through s cs cs s (λ c is. is) (named_before s cs) found.0 found.1) in
-        let stood = name_found t.names found.0 found.0.name (ordered_through cs s order).names found.1 ((bytes_eq-Decides found.0.name found.0.name).1 refl) in
-        passes_some (λ name. stands_for a (named_at t.names name)) found.0.name (names_given s cs a) there (ap (stands_for a) stood ∙ found.2))
+    let found = some_passes (λ (row : Named). row.activity.0 == a) t.names some in
+    let there : IsIn found.0.name (names_given s cs a) = subst (λ (n : ℕ). IsIn found.0.name (names_given s cs n)) (number_same found.0.activity.0 a found.2) (names_through s cs cs s (λ c is. is) (named_before s cs) found.0 found.1) in
+    let stood = name_found t.names found.0 found.0.name (ordered_through cs s order).names found.1 ((bytes_eq-Decides found.0.name found.0.name).1 refl) in
+    passes_some (λ name. stands_for a (named_at t.names name)) found.0.name (names_given s cs a) there (ap (stands_for a) stood ∙ found.2))
 
 -- an event waits where there is a head event
 pub waiting_is : (events : List Queued) (a : ℕ) → is_some (option_map (λ (v : Event). v.id) (head_event events a)) ≡ is_waiting events a

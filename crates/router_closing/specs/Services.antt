@@ -1,5 +1,5 @@
 -- Services after changes, and closing them one by one.
-use Rattle.std.specs.Prelude.{ℕ, zero, suc, ◌+◌, ◌==◌, Bool, false, ◌&&◌, ◌||◌, if◌then◌else◌, List, [], ◌∷◌, ◌++◌, Option, option_map, flat_map, slice_get, codes}
+use Rattle.std.specs.Prelude.{ℕ, zero, suc, ◌+◌, ◌==◌, Bool, false, ◌&&◌, ◌||◌, if◌then◌else◌, List, [], ◌∷◌, ◌++◌, Option, option_map, slice_get, codes}
 use Rattle.std.specs.Option.{option_map_or}
 use Rattle.deploy_model.specs.Deployed.{service_key}
 use Rattle.router_state.specs.State.{State}

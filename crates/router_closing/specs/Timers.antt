@@ -14,8 +14,8 @@ abbrev pub timers_after : Change → ℕ → ℕ × List Timer → ℕ × List T
 timers_after (changes.SetTimer spec) a seen = (
   seen.0 + 1,
   if spec.activity.0 == a
-  then seen.1 ++ record { number = record { 0 = seen.0 }; activity = spec.activity; next = spec.start; period = spec.period; left = spec.times; keep = spec.keep } ∷ []
-  else seen.1,
+      then seen.1 ++ record { number = record { 0 = seen.0 }; activity = spec.activity; next = spec.start; period = spec.period; left = spec.times; keep = spec.keep } ∷ []
+      else seen.1,
 )
 timers_after (changes.Cancel t) a seen = (seen.0, without_timer seen.1 t.0)
 timers_after (changes.CancelAll a') a seen = (seen.0, if a'.0 == a then [] else seen.1)

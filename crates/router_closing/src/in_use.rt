@@ -106,7 +106,12 @@ fn stands_for<B: Base>(base: &B, draft: &Draft, name: &Text, activity: ActivityI
 }
 
 /// Whether one of these names does.
-fn does_one_stand_for<B: Base>(base: &B, draft: &Draft, names: &[Text], activity: ActivityId) -> bool
+fn does_one_stand_for<B: Base>(
+    base: &B,
+    draft: &Draft,
+    names: &[Text],
+    activity: ActivityId,
+) -> bool
     ensures { result ≡ list_any (λ name. stands_for activity.0 (named_at (laid (B.state base.now) draft.now).names name)) names.now }
 {
     'names: for name in names {

@@ -12,11 +12,7 @@ use slee_value::{ActivityId, NoMemory};
 use std::alloc::Global;
 
 /// The entity that the change attaches to the activity.
-fn push_attached(
-    change: &Change,
-    activity: ActivityId,
-    all: &mut Vec<u64>,
-) -> Result<(), NoMemory>
+fn push_attached(change: &Change, activity: ActivityId, all: &mut Vec<u64>) -> Result<(), NoMemory>
     ensures { OnOk result (all.new.items ≡ all.old.items ++ attached_by activity.0 change.now) }
 {
     match change {

@@ -1,4 +1,4 @@
-use Rattle.std.proofs.Common.{◌≡◌, ◌++◌, ◌<◌, arith}
+use Rattle.std.proofs.Common.{◌++◌, ◌<◌, arith}
 use Rattle.std.proofs.lemmas.Bool.Decides.{nat_tests}
 use Rattle.router_laws_closing.specs.TouchedRoots.{numbers_between}
 use Rattle.router_closing.proofs.NumberLemmas.{between_on}

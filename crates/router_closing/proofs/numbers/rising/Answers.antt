@@ -1,4 +1,4 @@
-use Rattle.std.proofs.Common.{◌≡◌, eqb, ◌==◌, sym, ◌∙◌}
+use Rattle.std.proofs.Common.{eqb, ◌==◌, sym, ◌∙◌}
 use Rattle.std.proofs.lemmas.List.Filters.{dedup_is}
 use Rattle.std.proofs.lemmas.List.Sorted.{list_any-IsPermutation}
 use Rattle.router_closing.proofs.NumberLemmas.{rising_set, same_members}

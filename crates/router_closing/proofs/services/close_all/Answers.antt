@@ -1,4 +1,4 @@
-use Rattle.std.proofs.Common.{◌≡◌, ◌<◌, ◌++◌, arith}
+use Rattle.std.proofs.Common.{◌<◌, ◌++◌, arith}
 use Rattle.std.proofs.lemmas.Bool.Decides.{nat_tests}
 use Rattle.router_draft.specs.Drafts.{laid}
 use Rattle.router_closing.specs.Services.{close_services_from, lines_of_services_from}

@@ -1,4 +1,4 @@
-use Rattle.std.proofs.Common.{◌≡◌, ◌==◌, ap, sym, ◌∙◌, length, vec_len, rules}
+use Rattle.std.proofs.Common.{◌≡◌, ◌==◌, ap, ◌∙◌, length, vec_len, rules}
 use Rattle.std.specs.Prelude.{not}
 use Rattle.router_closing.proofs.TimerLemmas.{timer_seen}
 use Rattle.router_closing.proofs.timers.has_timer.Goals as goal
