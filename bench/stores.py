@@ -8,9 +8,7 @@ Instructions are counted by valgrind, of so many rounds less of a run that only 
 else it does. The ratio from the first to the last is to be at most 2.5; a line above it is marked. Times are the median of five
 runs, over as many rounds as take a tenth of a second; a busy machine tells them wrong, and with 100,000 rows they show also that
 the rows no longer fit into the processor's caches, as the calls go from row to row in no order.
-Build the programs first: cd crates/bench_stores && rt run -- fields at 10 20, cd crates/bench_order && rt run -- order next 10 20, and
-cd crates/bench_state && rt run -- state set_field 10 20. Of `state` a round is a change with the one that undoes it, where there is one,
-each in room that is made for it, or a question; a row is an activity with all that it may have, its root, and a row of a profile table.
+Build the programs first: cd crates/bench_stores && rt run -- fields at 10 20, and cd crates/bench_order && rt run -- order next 10 20
 """
 import argparse
 import functools
@@ -31,7 +29,7 @@ LEAST_SECONDS = 0.1
 MOST_ROUNDS = 4_000_000
 COUNTED_ROUNDS = 2_000
 # calls over rows of their own
-OWN_ROWS = (("timers", "repeat"), ("timers", "repeat_middle"), ("order", "next_of_many"), ("state", "least_of_suspended"))
+OWN_ROWS = (("timers", "repeat"), ("timers", "repeat_middle"), ("order", "next_of_many"))
 # calls that may look at all rows are counted over fewer rounds
 FEW_ROUNDS = 20
 LONG_CALLS = (
@@ -148,55 +146,9 @@ CALLS = {
         "set_priority_of_many",
         "set_priority_of_root",
     ),
-    "state": (
-        "set_field",
-        "forget_fields",
-        "create_root",
-        "create_child",
-        "set_priority",
-        "root",
-        "start_null",
-        "start_external",
-        "set_attr",
-        "bind",
-        "set_timer",
-        "attach",
-        "mask",
-        "mask_on_attach",
-        "forget_masks",
-        "pop",
-        "hold",
-        "mark_service",
-        "mark_entity",
-        "cancel_all",
-        "add_row",
-        "update_row",
-        "advance",
-        "clock",
-        "taken",
-        "next_event",
-        "service",
-        "next",
-        "least",
-        "least_claimed",
-        "least_of_suspended",
-        "look_next",
-        "look_field",
-        "look_children",
-        "look_priority",
-        "look_activity",
-        "look_attr",
-        "look_attached",
-        "look_masks",
-        "look_name",
-        "look_timer",
-        "look_row",
-        "look_clock",
-        "look_activities",
-    ),
 }
 # the programs that call them
-PROGRAMS = dict.fromkeys(CALLS, "bench_stores") | {"order": "bench_order", "state": "bench_state"}
+PROGRAMS = dict.fromkeys(CALLS, "bench_stores") | {"order": "bench_order"}
 
 
 def program_of(store):

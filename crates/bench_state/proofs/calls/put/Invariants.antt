@@ -1,9 +1,0 @@
--- the deployment stays
-use Rattle.std.proofs.Common.{◌≡◌}
-use Rattle.bench_state.proofs.calls.put.Given as goal
-
-abbrev pub invariant-steps : goal.invariant-steps
-invariant-steps l = l.stores.state.deployment ≡ l.fn.stores.state.deployment
-
-abbrev pub invariant-more : goal.invariant-more
-invariant-more l = l.stores.state.deployment ≡ l.fn.stores.state.deployment

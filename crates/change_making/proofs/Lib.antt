@@ -1,3 +1,0 @@
-pub mod ChildLemmas
-pub mod DeploymentLemmas
-pub mod RowLemmas

@@ -1,5 +1,0 @@
-pub mod ClockLemmas
-pub mod LaidLemmas
-pub mod RowLemmas
-pub mod ServiceLemmas
-pub mod TakingLemmas

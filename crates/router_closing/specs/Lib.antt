@@ -1,4 +1,0 @@
-pub mod Timers
-pub mod Held
-pub mod Naming
-pub mod Services
