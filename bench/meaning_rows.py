@@ -3,8 +3,8 @@
 
     python3 bench/meaning_rows.py [WORD]            all rows, or those whose script or name has WORD
     python3 bench/meaning_rows.py --write FOLDER [WHAT..]   writes the rows as a program can read them, FOLDER/stdin, and what it has to
-                                                    print, FOLDER/stdout: all, or those that run this (`handler exception` are those
-                                                    of crates/golden_runs)
+                                                    print, FOLDER/stdout: all, which are those of crates/golden_runs, or those that
+                                                    run this
 
 Each row is a script, what the state answers, and what comes out: the outcome, the failure's text where there is one, the effects;
 or the keys that are read; or the outcomes of a delivery. Of each run it is looked at besides that its effects refer to what it was

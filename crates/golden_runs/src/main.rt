@@ -1,8 +1,10 @@
 //! Runs scripts of deployments on standard input, over the answers that stand with each, and prints what each run comes to. A row is
-//! a deployment's JSON, what is run (`handler`, or `exception` for the callback behind the handler's run), and the answers, each on
-//! a line of its own; an empty line ends it. With a number behind its name the program runs the first row so many times.
+//! a deployment's JSON, what is run (`handler`; `exception` for the callback after the handler's run; `delivery` for the handler with its
+//! callbacks; `removal` for the remove script), and the answers, each on a line of its own; an empty line ends it. With a number after
+//! its name the program runs the first row so many times.
 #![tactic(auto)]
 
+mod fields;
 mod report;
 mod rows;
 mod running;

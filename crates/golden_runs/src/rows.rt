@@ -1,11 +1,11 @@
 //! The rows of the input.
 ghost use Rattle.script_types.specs.ProgramOf.{IsChecked};
 
-use crate::report::report_of;
-use crate::running::{Ground, run_exception, run_handler};
+use crate::report::{delivery_of, removal_of, report_of};
+use crate::running::{Ground, run_delivery, run_exception, run_handler, run_removal};
 use deploy_json::{ReadFault, read_deployment};
 use golden_words::{Trouble, read_answer};
-use handler_run::{Known, Run};
+use handler_run::Known;
 use std::alloc::Global;
 use std::{env, io, mem};
 
@@ -24,8 +24,8 @@ pub(crate) fn play(rt: &HostRuntime) -> Result<(), Trouble> {
 /// Prints what each row comes to.
 fn play_all(rt: &HostRuntime, text: &str) -> Result<(), Trouble> {
     for row in text.split_terminator("\n\n") {
-        if let Some(run) = run_row(rt.alloc(), row, 1)? {
-            println!(rt; "{}", report_of(rt.alloc(), &run)?.trim_end())?;
+        if let Some(told) = run_row(rt.alloc(), row, 1)? {
+            println!(rt; "{}", told.trim_end())?;
         }
     }
     Ok(())
@@ -40,8 +40,8 @@ fn repeat_first(rt: &HostRuntime, text: &str, times: u32) -> Result<(), Trouble>
     Ok(())
 }
 
-/// Runs a row so many times, and gives the last run.
-fn run_row(alloc: Global, row: &str, times: u32) -> Result<Option<Run>, Trouble> {
+/// Runs a row so many times, and tells what comes of it in the end.
+fn run_row(alloc: Global, row: &str, times: u32) -> Result<Option<String>, Trouble> {
     let Some((source, row)) = row.split_once('\n') else {
         return Err(Trouble::Words);
     };
@@ -54,7 +54,7 @@ fn run_row(alloc: Global, row: &str, times: u32) -> Result<Option<Run>, Trouble>
     };
     let ground = Ground {
         alloc,
-        codes: checked.deployment().codes(),
+        deployment: checked.deployment(),
         known: &known,
     };
     let run = repeat(&ground, what, times);
@@ -73,23 +73,26 @@ fn known_by(alloc: Global, lines: &str) -> Result<Known, Trouble> {
     Ok(known)
 }
 
-/// The last of so many runs.
-fn repeat(ground: &Ground, what: &str, times: u32) -> Result<Option<Run>, Trouble>
-    requires { IsChecked ground.now.codes.now }
+/// What comes of the last of so many runs.
+fn repeat(ground: &Ground, what: &str, times: u32) -> Result<Option<String>, Trouble>
+    requires { IsChecked ground.now.deployment.now.codes }
 {
     let mut last = None;
     for _ in 0..times {
-        last = Some(run_of(ground, what)?);
+        last = Some(told_of(ground, what)?);
     }
     Ok(last)
 }
 
-fn run_of(ground: &Ground, what: &str) -> Result<Run, Trouble>
-    requires { IsChecked ground.now.codes.now }
+fn told_of(ground: &Ground, what: &str) -> Result<String, Trouble>
+    requires { IsChecked ground.now.deployment.now.codes }
 {
+    let alloc = ground.alloc;
     match what {
-        "handler" => run_handler(ground),
-        "exception" => run_exception(ground),
+        "handler" => Ok(report_of(alloc, &run_handler(ground)?)?),
+        "exception" => Ok(report_of(alloc, &run_exception(ground)?)?),
+        "delivery" => Ok(delivery_of(alloc, &run_delivery(ground)?)?),
+        "removal" => removal_of(alloc, &run_removal(ground)?),
         _ => Err(Trouble::Words),
     }
 }

@@ -1,19 +1,26 @@
 //! Runs of the scripts of a row.
-ghost use Rattle.std.specs.Prelude.{◌≡◌, is_some, map, slice_get};
-ghost use Rattle.script_types.specs.ProgramOf.{IsChecked, block_program_of, kept_program};
-ghost use Rattle.script_meaning.specs.Meaning.{script_in};
-ghost use Rattle.handler_run.specs.Scripts.{script_of};
+ghost use Rattle.script_types.specs.ProgramOf.{IsChecked};
 
+use crate::fields::KnownFields;
 use golden_words::Trouble;
-use handler_run::{Before, Keys, Known, Run, run_script};
+use handler_run::{Before, Keys, Known, Run, has_script, run_script};
+use rollback_calls::{Step, deliver_outcome, handles, last_words};
+use router_state::Event;
 use script_meaning::{Args, Part, Which};
-use script_types::{BlockSteps, Codes, HandlerSteps};
+use script_types::BlockSteps;
+use slee_descriptor::Deployment;
 use slee_effect::Effects;
-use slee_value::{ActivityId, EntityId, Name, Payload, Text, Value};
+use slee_value::{ActivityId, EntityId, EventId, Name, Payload, Text, Value};
 use std::alloc::Global;
 
 /// The event whose handler is run.
 const EVENT: &str = "ping";
+
+/// The entity whose scripts are run.
+const ENTITY: EntityId = EntityId(1);
+
+/// The activity of the event.
+const ACTIVITY: ActivityId = ActivityId(1);
 
 /// The number of the block that is run.
 const BLOCK: u32 = 0;
@@ -27,44 +34,8 @@ const KEY_LIMIT: usize = 64;
 #[derive(Drop)]
 pub(crate) struct Ground<'a> {
     pub(crate) alloc: Global,
-    pub(crate) codes: &'a Codes,
+    pub(crate) deployment: &'a Deployment,
     pub(crate) known: &'a Known,
-}
-
-/// Whether there is a handler in this place.
-fn has_handler(handlers: &[HandlerSteps], place: u32) -> bool
-    ensures { result ≡ is_some (slice_get handlers.now place) }
-{
-    handlers.get(place as usize).is_some()
-}
-
-/// Whether a block has this script.
-fn block_has(block: &BlockSteps, part: Part) -> bool
-    ensures { result ≡ is_some (script_in (block_program_of block.now) part) }
-{
-    match part {
-        Part::On(place) => has_handler(block.handlers.as_slice(), place),
-        Part::Exception => block.exception.is_some(),
-        Part::RolledBack => block.rolled_back.is_some(),
-        Part::Remove => block.remove.is_some(),
-    }
-}
-
-/// Whether these blocks have this script.
-fn blocks_have(blocks: &[BlockSteps], which: Which) -> bool
-    ensures { result ≡ is_some (script_of (map block_program_of blocks.now) which) }
-{
-    match blocks.get(which.block as usize) {
-        Some(block) => block_has(block, which.part),
-        None => false,
-    }
-}
-
-/// Whether there is this script.
-fn has_script(codes: &Codes, which: Which) -> bool
-    ensures { result ≡ is_some (script_of (kept_program codes.now) which) }
-{
-    blocks_have(codes.programs.as_slice(), which)
 }
 
 /// The place of the handler that is run.
@@ -96,19 +67,20 @@ fn event_fields(alloc: Global) -> Result<Payload, Trouble> {
 
 #[tactic(auto, using(crate::proofs::ScriptLemmas::there))]
 fn run_part(ground: &Ground, part: Part, arguments: &Args, before: &Before) -> Result<Run, Trouble>
-    requires { IsChecked ground.now.codes.now }
+    requires { IsChecked ground.now.deployment.now.codes }
 {
     let which = Which { block: BLOCK, part };
-    if !has_script(ground.codes, which) {
+    let codes = ground.deployment.codes();
+    if !has_script(codes, which) {
         return Err(Trouble::Words);
     }
     if before.effects.len() > EFFECT_LIMIT || before.keys.len() > KEY_LIMIT {
         return Err(Trouble::Words);
     }
-    let me = EntityId(1);
+    let me = ENTITY;
     Ok(run_script(
         ground.alloc,
-        ground.codes,
+        codes,
         which,
         me,
         arguments,
@@ -119,12 +91,12 @@ fn run_part(ground: &Ground, part: Part, arguments: &Args, before: &Before) -> R
 
 /// The handler's run.
 pub(crate) fn run_handler(ground: &Ground) -> Result<Run, Trouble>
-    requires { IsChecked ground.now.codes.now }
+    requires { IsChecked ground.now.deployment.now.codes }
 {
     let alloc = ground.alloc;
-    let place = handler_place(ground.codes.programs.as_slice())?;
+    let place = handler_place(ground.deployment.codes().programs.as_slice())?;
     let arguments = Args {
-        activity: ActivityId(1),
+        activity: ACTIVITY,
         fields: event_fields(alloc)?,
         failure: Text::from_str(alloc, "")?,
     };
@@ -137,7 +109,7 @@ pub(crate) fn run_handler(ground: &Ground) -> Result<Run, Trouble>
 
 /// The run of the exception callback behind the handler's.
 pub(crate) fn run_exception(ground: &Ground) -> Result<Run, Trouble>
-    requires { IsChecked ground.now.codes.now }
+    requires { IsChecked ground.now.deployment.now.codes }
 {
     match run_handler(ground)? {
         Run::Done {
@@ -147,7 +119,7 @@ pub(crate) fn run_exception(ground: &Ground) -> Result<Run, Trouble>
             keys,
         } => {
             let arguments = Args {
-                activity: ActivityId(1),
+                activity: ACTIVITY,
                 fields: Payload::new(ground.alloc),
                 failure,
             };
@@ -160,4 +132,49 @@ pub(crate) fn run_exception(ground: &Ground) -> Result<Run, Trouble>
         }
         Run::Need(key) => Ok(Run::Need(key)),
     }
+}
+
+/// The event that is delivered.
+fn event(alloc: Global) -> Result<Event, Trouble> {
+    Ok(Event {
+        id: EventId(1),
+        name: Text::from_str(alloc, EVENT)?,
+        fields: event_fields(alloc)?,
+        target: None,
+    })
+}
+
+/// The delivery of the event.
+pub(crate) fn run_delivery(ground: &Ground) -> Result<Step, Trouble>
+    requires { IsChecked ground.now.deployment.now.codes }
+{
+    let event = event(ground.alloc)?;
+    if !handles(ground.deployment.codes(), BLOCK, &event.name) {
+        return Err(Trouble::Words);
+    }
+    Ok(deliver_outcome(
+        ground.alloc,
+        ground.deployment,
+        BLOCK,
+        ENTITY,
+        ACTIVITY,
+        &event,
+        ground.known,
+    )?)
+}
+
+/// What the entity says when it is removed.
+pub(crate) fn run_removal(ground: &Ground) -> Result<Vec<Text>, Trouble>
+    requires { IsChecked ground.now.deployment.now.codes }
+{
+    let fields = KnownFields {
+        known: ground.known,
+    };
+    Ok(last_words(
+        ground.alloc,
+        ground.deployment.codes(),
+        BLOCK,
+        ENTITY,
+        &fields,
+    )?)
 }

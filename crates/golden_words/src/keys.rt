@@ -8,7 +8,7 @@ use slee_value::{ActivityId, EntityId, TimerId};
 use std::alloc::{AllocError, Global};
 
 /// The key that words stand for.
-pub(crate) fn key_of(alloc: Global, words: &[&str]) -> Result<Key, Trouble> {
+pub fn key_of(alloc: Global, words: &[&str]) -> Result<Key, Trouble> {
     match words {
         ["clock"] => Ok(Key::Now),
         [what, one] => key_of_one(alloc, what, one),
@@ -19,6 +19,7 @@ pub(crate) fn key_of(alloc: Global, words: &[&str]) -> Result<Key, Trouble> {
 
 fn key_of_one(alloc: Global, what: &str, word: &str) -> Result<Key, Trouble> {
     match what {
+        "next" => Ok(Key::Next(ActivityId(number_of(word)?))),
         "name" => Ok(Key::Named(text_of(alloc, word)?)),
         "priority" => Ok(Key::Priority(EntityId(number_of(word)?))),
         "activity" => Ok(Key::AcState(ActivityId(number_of(word)?))),

@@ -3,7 +3,7 @@
 use crate::trouble::Trouble;
 
 /// A number of an entity, an activity or a timer.
-pub(crate) fn number_of(word: &str) -> Result<u64, Trouble> {
+pub fn number_of(word: &str) -> Result<u64, Trouble> {
     match word.parse::<u64>() {
         Ok(number) => Ok(number),
         Err(_) => Err(Trouble::Words),
@@ -11,14 +11,14 @@ pub(crate) fn number_of(word: &str) -> Result<u64, Trouble> {
 }
 
 /// A number with a sign.
-pub(crate) fn integer_of(word: &str) -> Result<i64, Trouble> {
+pub fn integer_of(word: &str) -> Result<i64, Trouble> {
     match word.parse::<i64>() {
         Ok(number) => Ok(number),
         Err(_) => Err(Trouble::Words),
     }
 }
 
-pub(crate) fn flag_of(word: &str) -> Result<bool, Trouble> {
+pub fn flag_of(word: &str) -> Result<bool, Trouble> {
     match word {
         "true" => Ok(true),
         "false" => Ok(false),

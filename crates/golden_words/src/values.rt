@@ -28,7 +28,7 @@ fn push_piece(text: &mut String, piece: &str) -> Result<(), Trouble> {
 }
 
 /// The text that a word stands for: `%20` is a space.
-pub(crate) fn text_of(alloc: Global, word: &str) -> Result<Text, Trouble> {
+pub fn text_of(alloc: Global, word: &str) -> Result<Text, Trouble> {
     let mut text = String::new(alloc);
     let mut is_behind = false;
     for piece in word.split('%') {
@@ -42,7 +42,7 @@ pub(crate) fn text_of(alloc: Global, word: &str) -> Result<Text, Trouble> {
     Ok(Text::from(text))
 }
 
-pub(crate) fn name_of(alloc: Global, word: &str) -> Result<Name, Trouble>
+pub fn name_of(alloc: Global, word: &str) -> Result<Name, Trouble>
     ensures { IfOk result (λ n. IsTrue (is_name n)) }
 {
     if Name::is_name(word.as_bytes()) {
@@ -52,7 +52,7 @@ pub(crate) fn name_of(alloc: Global, word: &str) -> Result<Name, Trouble>
     }
 }
 
-pub(crate) fn value_of(alloc: Global, kind: &str, word: &str) -> Result<Value, Trouble> {
+pub fn value_of(alloc: Global, kind: &str, word: &str) -> Result<Value, Trouble> {
     match kind {
         "int" => Ok(Value::Int(integer_of(word)?)),
         "text" => Ok(Value::Text(text_of(alloc, word)?)),
