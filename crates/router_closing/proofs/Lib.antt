@@ -1,0 +1,11 @@
+pub mod NumberLemmas
+pub mod BirthLemmas
+pub mod HeldLemmas
+pub mod MakingLemmas
+pub mod ClosingLemmas
+pub mod IdleLemmas
+pub mod UseLemmas
+pub mod TimerLemmas
+pub mod TreeLemmas
+pub mod ServiceLemmas
+pub mod LineLemmas

@@ -1,0 +1,4 @@
+pub mod Timers
+pub mod Held
+pub mod Naming
+pub mod Services
