@@ -20,6 +20,7 @@ use Rattle.rows_index.specs.Index.{IsIndex}
 use Rattle.rows_index.proofs.SumLemmas.{alike_same, if_passes, one_if, sum_agree, sum_filter, sum_flat}
 use Rattle.timer_facility.specs.Indexed.{fired_at, fired_count_at, moment_entry}
 use Rattle.timer_facility.proofs.DueLemmas.{kept_within}
+use Rattle.timer_facility.proofs.ListLemmas.{all_any, all_flat, all_mapped}
 use Rattle.rows_index.proofs.RowLemmas.{found_number}
 use Rattle.timer_facility.proofs.RowLemmas.{each_timer}
 use Rattle.rows_sorted.proofs.StableSortLemmas.{sorted_same}
@@ -59,22 +60,6 @@ module _ (to : ℕ) (rows : List Timer) (entries : List Entry) (rises : Rises ti
 
   abbrev IsOwn : Occurrence → Type 0
   IsOwn o = o.activity ≡ activity_at o.timer
-
-  all_mapped : {X Y : Type 0} (f : X → Y) (P : Y → Type 0) → ((x : X) → P (f x)) → (xs : List X) → AllByRecursion P (map f xs)
-  all_mapped f P any [] = tt
-  all_mapped f P any (x ∷ xs) = (any x, all_mapped f P any xs)
-
-  all_joined : {X : Type 0} (P : X → Type 0) (xs ys : List X) → AllByRecursion P xs → AllByRecursion P ys → AllByRecursion P (xs ++ ys)
-  all_joined P [] ys all also = also
-  all_joined P (x ∷ xs) ys all also = (all.0, all_joined P xs ys all.1 also)
-
-  all_flat : {X Y : Type 0} (P : Y → Type 0) (g : X → List Y) (xs : List X) → AllByRecursion (λ x. AllByRecursion P (g x)) xs → AllByRecursion P (flat_map g xs)
-  all_flat P g [] all = tt
-  all_flat P g (x ∷ xs) all = all_joined P (g x) (flat_map g xs) all.0 (all_flat P g xs all.1)
-
-  all_any : {X : Type 0} (P : X → Type 0) → ((x : X) → P x) → (xs : List X) → AllByRecursion P xs
-  all_any P any [] = tt
-  all_any P any (x ∷ xs) = (any x, all_any P any xs)
 
   own_of : (row : Timer) → timer_at rows row.number.0 ≡ Some row → AllByRecursion IsOwn (fired_of to row)
   own_of row is = all_mapped (occurrence_of row) IsOwn (λ k. rw is refl) (range_with_len (due_count row to - fired_count to row) (fired_count to row))

@@ -5,3 +5,4 @@ pub mod FiredLemmas
 pub mod AdvanceLemmas
 pub mod WalkLemmas
 pub mod KeptLemmas
+pub mod ListingLemmas

@@ -1,5 +1,5 @@
 -- How timers are kept with their indices.
-use Rattle.std.specs.Prelude.{ℕ, ◌≡◌, ◌==◌, ◌&&◌, ◌||◌, IsTrue, min, List, [], Option, Some, None, Bool, true, false, if◌then◌else◌, filter, map, nat_le, not}
+use Rattle.std.specs.Prelude.{ℕ, ◌≡◌, ◌==◌, ◌&&◌, ◌||◌, IsTrue, min, List, [], ◌∷◌, Option, Some, None, Bool, true, false, if◌then◌else◌, filter, map, nat_le, not}
 use Rattle.std.specs.List.{list_any}
 use Rattle.std.specs.Option.{option_map_or}
 use Rattle.router_state.specs.Timers.{timer_at, behind, due_count, goes_on}
@@ -44,6 +44,10 @@ fired_count_at rows to e = option_map_or (fired_count to) (timer_at rows e.numbe
 -- which occurrences of the timer of this number are fired
 abbrev pub fired_at : List Timer → ℕ → Entry → List Occurrence
 fired_at rows to e = option_map_or (fired_of to) (timer_at rows e.number) []
+
+-- the timer of the entry's number, where there is one
+abbrev pub timers_at : List Timer → Entry → List Timer
+timers_at rows e = option_map_or (λ t. t ∷ []) (timer_at rows e.number) []
 
 -- the timer of this number behind its due occurrences, and each other one as it is
 abbrev pub moved_on : ℕ → ℕ → Timer → Timer

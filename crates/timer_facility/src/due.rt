@@ -1,5 +1,5 @@
 //! What of one timer is due at a moment, what is fired of it, and what is left.
-ghost use Rattle.std.specs.Prelude.{◌≡◌, ℕ, ◌+◌, ◌-◌, ◌*◌, ◌<◌, ◌≤◌, ◌^◌, IsTrue};
+ghost use Rattle.std.specs.Prelude.{◌≡◌, ℕ, ◌+◌, ◌-◌, ◌*◌, ◌<◌, ◌≤◌, ◌^◌, if◌then◌else◌, IsTrue, Some, None};
 ghost use Rattle.router_state.specs.Timers.{due_count, goes_on, left_behind, behind};
 ghost use Rattle.router_state.specs.Timing.{fired_count, is_last_at};
 
@@ -104,4 +104,16 @@ pub fn use_up(timer: &mut Timer, to: u64)
     let next = next_moment(timer, to);
     timer.left = count_of_left(timer, to);
     timer.next = next;
+}
+
+/// What is left of the timer behind the moment, nothing where it doesn't go on.
+pub fn left_of(timer: &Timer, to: u64) -> Option<Timer>
+    ensures { result ≡ if goes_on timer.now (due_count timer.now to) then Some (behind timer.now (due_count timer.now to)) else None }
+{
+    if !goes_on(timer, to) {
+        return None;
+    }
+    let mut left = *timer;
+    use_up(&mut left, to);
+    Some(left)
 }

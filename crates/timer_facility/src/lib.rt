@@ -3,9 +3,11 @@
 
 mod due;
 mod entries;
+mod listing;
 mod occurrences;
 mod timer_rows;
 mod timers;
 
+pub use due::left_of;
 pub use occurrences::{Due, DueFault, DueList, OCCURRENCE_LIMIT};
 pub use timers::Timers;

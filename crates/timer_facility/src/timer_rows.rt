@@ -1,5 +1,5 @@
 //! Timers that rise by number, of which those that are due and those on an activity are found by halving; clauses see them as a list, with the room.
-ghost use Rattle.std.specs.Prelude.{◌≡◌, ◌+◌, ◌<◌, ◌≤◌, ◌==◌, false, [], Some, None, length, map, slice_get, IsTrue, OnOk, IfOk, MatchOption, option_copied};
+ghost use Rattle.std.specs.Prelude.{◌≡◌, ◌+◌, ◌<◌, ◌≤◌, ◌==◌, false, [], Some, None, length, filter, map, nat_le, slice_get, IsTrue, OnOk, IfOk, MatchOption, option_copied};
 ghost use Rattle.std.specs.List.{list_any};
 ghost use Rattle.std.specs.Option.{option_map_or};
 ghost use Rattle.rows_sorted.specs.Orders.{rises_in, put};
@@ -9,9 +9,9 @@ ghost use Rattle.timer_facility.specs.Indexed.{is_left, moved_on, used_up, IsNex
 ghost use Rattle.timer_facility.specs.Occurrences.{occurrence};
 ghost use Rattle.timer_facility.specs.Views.{timer_before};
 
-use crate::due;
 use crate::entries::{activity_entry, first_behind, moment_entry};
 use crate::occurrences::{self, DueList};
+use crate::{due, listing};
 use router_state::Timer;
 use rows_index::{Entry, move_entry};
 use rows_leaves::Leaves;
@@ -206,5 +206,21 @@ impl TimerRows {
     {
         let run = self.by_moment.rows_up_to(to);
         occurrences::list_of_all(alloc, &self.rows, run, to)
+    }
+
+    /// The timers on the activity, rising by number.
+    pub fn on_activity(&self, alloc: Global, activity: ActivityId) -> Result<Vec<Timer>, NoMemory>
+        ensures { IfOk result (λ all. all.items ≡ filter (λ row. row.activity.0 == activity.0) self.now.timers) }
+    {
+        listing::timers_of(alloc, &self.rows, self.by_activity.rows_of(activity.0))
+    }
+
+    /// The activities of the timers that are due at the moment, rising by timer.
+    pub fn activities_due(&self, alloc: Global, to: u64) -> Result<Vec<u64>, NoMemory>
+        ensures { IfOk result (λ all. all.items ≡ map (λ row. row.activity.0) (filter (λ row. nat_le row.next to) self.now.timers)) }
+    {
+        let mut due = listing::timers_of(alloc, &self.rows, self.by_moment.rows_up_to(to))?;
+        listing::put_by_number(&mut due)?;
+        listing::activities_of(alloc, due.as_slice())
     }
 }

@@ -1,5 +1,5 @@
 //! The timers, rising by number; clauses see them as a list, with the next number and the room.
-ghost use Rattle.std.specs.Prelude.{◌≡◌, ◌+◌, ◌-◌, ◌<◌, ◌≤◌, ◌^◌, ◌++◌, ◌∷◌, [], map, length, filter, nat_lt, Some, IsTrue, OnOk, IfErr, IfOk, slice_get, option_copied};
+ghost use Rattle.std.specs.Prelude.{◌≡◌, ◌+◌, ◌-◌, ◌<◌, ◌≤◌, ◌==◌, ◌^◌, ◌++◌, ◌∷◌, [], map, length, filter, nat_le, nat_lt, Some, IsTrue, OnOk, IfErr, IfOk, slice_get, option_copied};
 ghost use Rattle.rows_sorted.specs.Orders.{rises_in, are_below, put};
 ghost use Rattle.router_state.specs.Timers.{timer_at, with_timer, without_timer, without_timers_on, advanced, behind, due_count, goes_on};
 ghost use Rattle.router_state.specs.Timing.{fired, fired_in_all, occurrence_limit};
@@ -170,5 +170,19 @@ impl Timers {
         ensures { option_copied result ≡ timer_at self.now.timers timer.0 }
     {
         self.rows.find(timer)
+    }
+
+    /// The timers on the activity, rising by number. Only these are looked at.
+    pub fn on_activity(&self, alloc: Global, activity: ActivityId) -> Result<Vec<Timer>, NoMemory>
+        ensures { IfOk result (λ all. all.items ≡ filter (λ row. row.activity.0 == activity.0) self.now.timers) }
+    {
+        self.rows.on_activity(alloc, activity)
+    }
+
+    /// The activities of the timers that are due at the moment, rising by timer. Only timers that are due are looked at.
+    pub fn activities_due(&self, alloc: Global, to: u64) -> Result<Vec<u64>, NoMemory>
+        ensures { IfOk result (λ all. all.items ≡ map (λ row. row.activity.0) (filter (λ row. nat_le row.next to) self.now.timers)) }
+    {
+        self.rows.activities_due(alloc, to)
     }
 }
