@@ -269,16 +269,28 @@ under_own a row own (e ∷ entries) there = elim (cases_Bool (is_entry (activity
       ]
 ]
 
-goes_with : (a : ℕ) (entries : List Entry) (row : NumberedName) → list_any (is_entry (activity_entry row)) entries ≡ true
-    → not (list_any (λ e. is_pair e.number a (numbered_key row)) (filter (λ e. e.key == a) entries)) ≡ not (row.named.activity.0 == a)
-goes_with a entries row there = elim (cases_Bool (row.named.activity.0 == a)) [
+found_with : (a : ℕ) (entries : List Entry) (row : NumberedName) → list_any (is_entry (activity_entry row)) entries ≡ true
+    → list_any (λ e. is_pair e.number a (numbered_key row)) (filter (λ e. e.key == a) entries) ≡ (row.named.activity.0 == a)
+found_with a entries row there = elim (cases_Bool (row.named.activity.0 == a)) [
   | inl mine ↦
       let own : row.named.activity.0 ≡ a = grind (arith, nat_tests, mine) in
-      ap not (under_own a row own entries there ∙ sym mine)
-  | inr other ↦ ap not (any_fails (λ (e : Entry). is_pair e.number a (numbered_key row)) (filter (λ e. e.key == a) entries) (under_other a row other (filter (λ e. e.key == a) entries)) ∙ sym other)
+      under_own a row own entries there ∙ sym mine
+  | inr other ↦ any_fails (λ (e : Entry). is_pair e.number a (numbered_key row)) (filter (λ e. e.key == a) entries) (under_other a row other (filter (λ e. e.key == a) entries)) ∙ sym other
 ]
 
--- the names under the entries of an activity are those of the activity
+-- the names under the entries of an activity are its own
+pub under_own_entries : (a : ℕ) (rows : List NumberedName) (entries : List Entry) → AreFound rows entries
+    → filter (λ row. list_any (λ e. is_pair e.number a (numbered_key row)) (filter (λ e. e.key == a) entries)) rows ≡ filter (λ row. row.named.activity.0 == a) rows
+under_own_entries a rows entries found =
+    filter_agree (λ (row : NumberedName). list_any (λ e. is_pair e.number a (numbered_key row)) (filter (λ e. e.key == a) entries)) (λ row. row.named.activity.0 == a) rows
+    (all_from_all (λ (row : NumberedName). list_any (is_entry (activity_entry row)) entries ≡ true) (λ row. list_any (λ e. is_pair e.number a (numbered_key row)) (filter (λ e. e.key == a) entries) ≡ (row.named.activity.0 == a))
+    (λ row there. found_with a entries row there) rows found)
+
+goes_with : (a : ℕ) (entries : List Entry) (row : NumberedName) → list_any (is_entry (activity_entry row)) entries ≡ true
+    → not (list_any (λ e. is_pair e.number a (numbered_key row)) (filter (λ e. e.key == a) entries)) ≡ not (row.named.activity.0 == a)
+goes_with a entries row there = ap not (found_with a entries row there)
+
+-- and the names that aren't under them are those of the others
 pub under_activity : (a : ℕ) (rows : List NumberedName) (entries : List Entry) → AreFound rows entries
     → filter (λ row. not (list_any (λ e. is_pair e.number a (numbered_key row)) (filter (λ e. e.key == a) entries))) rows ≡ filter (λ row. not (row.named.activity.0 == a)) rows
 under_activity a rows entries found =

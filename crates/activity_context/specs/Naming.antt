@@ -1,5 +1,5 @@
 -- How names are kept: under the numbers of their texts, and with an index by activity.
-use Rattle.std.specs.Prelude.{◌≡◌, min, IsTrue, List, map}
+use Rattle.std.specs.Prelude.{◌≡◌, ℕ, min, IsTrue, List, map, filter}
 use Rattle.std.specs.List.{AllByRecursion, list_any}
 use Rattle.router_state.specs.Contexts.{name_before}
 use Rattle.rows_sorted.specs.Orders.{rises_by, sorted}
@@ -27,6 +27,10 @@ as_kept rows = map (λ row. row.named) rows
 -- the names, put in byte order
 abbrev pub in_byte_order : List NumberedName → List Named
 in_byte_order rows = sorted name_before (as_kept rows)
+
+-- the texts of an activity's names under a number
+abbrev pub texts_under : ℕ → List NumberedName → ℕ → List (List ℕ)
+texts_under a rows number = map (λ row. row.named.name) (filter (λ row. is_pair number a (numbered_key row)) rows)
 
 -- the number of each name is found under its activity
 abbrev pub AreFound : List NumberedName → List Entry → Type 0

@@ -1,5 +1,5 @@
 //! The contexts of activities; clauses see them as four lists, with the next number and the room.
-ghost use Rattle.std.specs.Prelude.{◌≡◌, ◌+◌, ◌-◌, ◌<◌, ◌≤◌, ◌^◌, not, [], length, Some, IsTrue, IfOk, OnOk, OnErr, slice_get, option_copied, option_map};
+ghost use Rattle.std.specs.Prelude.{◌≡◌, ◌==◌, ◌+◌, ◌-◌, ◌<◌, ◌≤◌, ◌^◌, not, [], filter, length, map, Some, IsTrue, IfOk, OnOk, OnErr, slice_get, option_copied, option_map};
 ghost use Rattle.std.specs.List.Sorted.{IsPermutation};
 ghost use Rattle.rows_sorted.specs.Orders.{rises_in, are_below, put, rises_by};
 ghost use Rattle.router_state.specs.Contexts.{activity_at, external, with_activity, with_end, without_activity, attribute_at, attribute_before, link_before, name_before, with_attribute, without_attributes, is_linked, links_on, with_link, without_link, without_links_on, named_at, with_name, without_name, without_names_of};
@@ -355,6 +355,13 @@ impl Contexts {
         ensures { result ≡ named_at self.now.names name.now }
     {
         self.names.activity_named(name)
+    }
+
+    /// The names that stand for the activity, rising in byte order. Only these are looked at.
+    pub fn names_of(&self, alloc: Global, activity: ActivityId) -> Result<Vec<Text>, NoMemory>
+        ensures { IfOk result (λ all. all.items ≡ map (λ row. row.name) (filter (λ row. row.activity.0 == activity.0) self.now.names)) }
+    {
+        self.names.of(alloc, activity)
     }
 
     /// The value of an attribute that was set.

@@ -10,6 +10,7 @@ mod filing;
 mod links;
 mod names;
 mod numbered;
+mod own_names;
 
 pub use contexts::Contexts;
 pub use fault::AcFault;

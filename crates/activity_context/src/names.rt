@@ -1,11 +1,12 @@
 //! Names of the naming facility; clauses see them as a list in byte order, and as they are kept, with the room.
-ghost use Rattle.std.specs.Prelude.{◌≡◌, ◌+◌, ◌<◌, ◌≤◌, [], length, Some, IsTrue, OnOk, slice_get};
+ghost use Rattle.std.specs.Prelude.{◌≡◌, ◌==◌, ◌+◌, ◌<◌, ◌≤◌, [], filter, length, map, Some, IfOk, IsTrue, OnOk, slice_get};
 ghost use Rattle.std.specs.List.Sorted.{IsPermutation};
 ghost use Rattle.rows_sorted.specs.Orders.{rises_by};
 ghost use Rattle.router_state.specs.Contexts.{name_before, named_at, with_name, without_name, without_names_of};
 
 use crate::filing::{cut_named, cut_names_of, file, row_named};
 use crate::numbered::NumberedName;
+use crate::own_names::names_of;
 use router_state::Named;
 use rows_index::Entry;
 use rows_leaves::Leaves;
@@ -86,6 +87,13 @@ impl Names {
             Some(row) => Some(row.named.activity),
             None => None,
         }
+    }
+
+    /// The names that stand for the activity, in byte order. Only these are looked at.
+    pub fn of(&self, alloc: Global, activity: ActivityId) -> Result<Vec<Text>, NoMemory>
+        ensures { IfOk result (λ all. all.items ≡ map (λ row. row.name) (filter (λ row. row.activity.0 == activity.0) self.now.names)) }
+    {
+        names_of(alloc, &self.rows, &self.by_activity, activity)
     }
 
     /// The name stands for nothing.

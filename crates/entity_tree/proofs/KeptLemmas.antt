@@ -80,3 +80,8 @@ no_kids (x ∷ xs) none = absurd (let some : nat_lt 0 (length (map branch_of xs)
 -- an entity of which the index has no children has none
 pub childless : (n : ℕ) (rows : List Entity) (branches : List Branch) → IsIndex rows branches → nat_lt 0 (length (filter (λ branch. branch.parent.0 == n) branches)) ≡ false → children rows n ≡ []
 childless n rows branches index none = no_kids (children rows n) (sym (ap (λ (run : List Branch). nat_lt 0 (length run)) (index n)) ∙ none)
+
+-- the numbers of the children in the index are those of the children
+pub branch_numbers : (rows : List Entity) → map (λ (branch : Branch). branch.number.0) (map branch_of rows) ≡ map number_of rows
+branch_numbers [] = refl
+branch_numbers (x ∷ xs) = ap (λ rest. x.number.0 ∷ rest) (branch_numbers xs)

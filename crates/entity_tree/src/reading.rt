@@ -1,5 +1,5 @@
 //! Entities read by their numbers, and children by their parents.
-ghost use Rattle.std.specs.Prelude.{◌≡◌, ◌==◌, [], false, length, filter, nat_lt, option_copied, IfOk};
+ghost use Rattle.std.specs.Prelude.{◌≡◌, ◌==◌, [], false, length, map, filter, nat_lt, option_copied, IfOk};
 ghost use Rattle.std.specs.Option.{option_map_or};
 ghost use Rattle.router_state.specs.Trees.{entity_at, parent_in, is_child_of, children_under, service_above, service_of};
 ghost use Rattle.entity_tree.specs.Kept.{IsIndex, parent_at, numbers_of};
@@ -75,6 +75,21 @@ pub fn children_under(
         if is_child_at(rows, entity, relation, branch.number) {
             all.push(branch.number)?;
         }
+    }
+    Ok(all)
+}
+
+/// The numbers of the children of the entity, whatever their relations, rising. Only these are looked at.
+pub fn all_children(
+    alloc: Global,
+    branches: &Leaves<Branch>,
+    entity: EntityId,
+) -> Result<Vec<u64>, NoMemory>
+    ensures { IfOk result (λ all. all.items ≡ map (λ branch. branch.number.0) (filter (λ branch. branch.parent.0 == entity.0) branches.now.rows)) }
+{
+    let mut all = Vec::new(alloc);
+    'children: for branch in branches.rows_of(entity.0) {
+        all.push(branch.number.0)?;
     }
     Ok(all)
 }

@@ -1,5 +1,5 @@
 //! The store of entities. Clauses see it as its entities by number, the number of the next one, and how many more can be added without memory.
-ghost use Rattle.std.specs.Prelude.{◌≡◌, ◌||◌, ◌+◌, ◌<◌, ◌≤◌, ◌^◌, [], Some, None, nat_lt, length, slice_get, IsTrue, IfOk, OnOk, option_copied};
+ghost use Rattle.std.specs.Prelude.{◌≡◌, ◌||◌, ◌+◌, ◌<◌, ◌≤◌, ◌^◌, [], Some, None, nat_lt, length, map, slice_get, IsTrue, IfOk, OnOk, option_copied};
 ghost use Rattle.router_state.specs.declared.rows.Stem.TheVariants as stems;
 ghost use Rattle.rows_sorted.specs.Orders.{put, are_below};
 ghost use Rattle.router_state.specs.Trees.{children, children_under, entity_at, is_root, number_of, parent_in, parent_of, service_of, tree_of, with_entity, with_priority, without_entity};
@@ -225,6 +225,13 @@ impl Tree {
         ensures { IfOk result (λ all. numbers_of all.items ≡ children_under self.now.rows entity.0 relation.now) }
     {
         reading::children_under(alloc, &self.rows, &self.branches, entity, relation)
+    }
+
+    /// The numbers of the children of an entity, whatever their relations, rising; of 0, those of the roots. Only these are looked at.
+    pub fn all_children(&self, alloc: Global, entity: EntityId) -> Result<Vec<u64>, NoMemory>
+        ensures { IfOk result (λ all. all.items ≡ map number_of (children self.now.rows entity.0)) }
+    {
+        reading::all_children(alloc, &self.branches, entity)
     }
 
     /// Two entities by their paths, which are followed and not listed. One that isn't there has no steps on its path, and comes first.
