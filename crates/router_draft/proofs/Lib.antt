@@ -10,6 +10,7 @@ pub mod MarkLemmas
 pub mod LinkedLemmas
 pub mod PairLemmas
 pub mod QueueLemmas
+pub mod FrontLemmas
 pub mod ChildLemmas
 pub mod TreeLemmas
 pub mod MakingLemmas

@@ -1,5 +1,5 @@
 -- Events that wait on an activity, and the suspension of its head event, after changes.
-use Rattle.std.proofs.Common.{◌≡◌, ℕ, ◌<◌, ◌≤◌, ◌==◌, length, get_or, Bool, true, false, List, [], ◌∷◌, refl, sym, ap, ◌∙◌, arith, inl, inr, nat_lt, drop, Option, Some, None}
+use Rattle.std.proofs.Common.{◌≡◌, ℕ, ◌<◌, ◌≤◌, ◌==◌, length, get_or, Bool, true, false, List, [], ◌∷◌, refl, sym, ap, ◌∙◌, arith, inl, inr, nat_lt, drop, take, Option, Some, None}
 use Rattle.std.specs.Prelude.{not, ◌||◌, ◌&&◌, option_map, is_some, if◌then◌else◌}
 use Rattle.std.specs.List.{fold, list_any}
 use Rattle.std.proofs.lemmas.Bool.{cases_Bool}
@@ -76,14 +76,20 @@ head_is (q ∷ qs) a = elim (cases_Bool (q.activity.0 == a)) [
   | inr other ↦ rw other (head_is qs a)
 ]
 
--- as the code has it
-pub head_nothing : (events : List Queued) (a : ℕ) (ns : List ℕ) → ns ≡ waiting_on events a → length ns < 1 → None ≡ option_map (λ (v : Event). v.id) (head_event events a)
-head_nothing events a [] is few = ap first_of is ∙ sym (head_is events a)
-head_nothing events a (n ∷ ns) is few = absurd (omega (arith, few))
+first_same : (ms ns : List ℕ) → take 1 ms ≡ take 1 ns → first_of ms ≡ first_of ns
+first_same [] [] same = refl
+first_same [] (n ∷ ns) same = cc
+first_same (m ∷ ms) [] same = cc
+first_same (m ∷ ms) (n ∷ ns) same = let both : m ∷ [] ≡ n ∷ [] = same in let head : m ≡ n = cc in ap (λ k. Some (record { 0 = k })) head
 
-pub head_first : (events : List Queued) (a : ℕ) (ns : List ℕ) → ns ≡ waiting_on events a → 1 ≤ length ns → Some (record { 0 = get_or ns 0 0 }) ≡ option_map (λ (v : Event). v.id) (head_event events a)
-head_first events a [] is some = absurd (omega (arith, some))
-head_first events a (n ∷ ns) is some = ap first_of is ∙ sym (head_is events a)
+-- as the code has it
+pub head_nothing : (events : List Queued) (a : ℕ) (ns : List ℕ) → take 1 ns ≡ take 1 (waiting_on events a) → length ns < 1 → None ≡ option_map (λ (v : Event). v.id) (head_event events a)
+head_nothing events a [] same few = first_same [] (waiting_on events a) same ∙ sym (head_is events a)
+head_nothing events a (n ∷ ns) same few = absurd (omega (arith, few))
+
+pub head_first : (events : List Queued) (a : ℕ) (ns : List ℕ) → take 1 ns ≡ take 1 (waiting_on events a) → 1 ≤ length ns → Some (record { 0 = get_or ns 0 0 }) ≡ option_map (λ (v : Event). v.id) (head_event events a)
+head_first events a [] same some = absurd (omega (arith, some))
+head_first events a (n ∷ ns) same some = first_same (n ∷ ns) (waiting_on events a) same ∙ sym (head_is events a)
 
 -- changes that move nothing on the activity
 

@@ -147,6 +147,11 @@ moves_queue a (changes.Push a' event) = a'.0 == a
 moves_queue a (changes.Pop a') = a'.0 == a
 moves_queue a _ = false
 
+-- the activity's head event goes
+abbrev pub pops : ℕ → Change → Bool
+pops a (changes.Pop a') = a'.0 == a
+pops a _ = false
+
 -- whether the activity's head event is suspended
 abbrev pub suspended_after : Change → ℕ → Bool → Bool
 suspended_after (changes.Hold a' until) a was = (a'.0 == a) || was

@@ -2,7 +2,7 @@
 ghost use Rattle.std.specs.Prelude.{◌≡◌, ◌≤◌, length, count_by, option_copied};
 ghost use Rattle.std.specs.List.{fold, list_any};
 ghost use Rattle.router_state.specs.Contexts.{is_null};
-ghost use Rattle.router_draft.specs.After.{activity_after, ahead_of, block_after, clock_after, draws, field_after, linked_after, made_new, moves_queue, named_after, parent_after, suspended_after, undelivered_after};
+ghost use Rattle.router_draft.specs.After.{activity_after, ahead_of, block_after, clock_after, draws, field_after, linked_after, made_new, moves_queue, named_after, parent_after, pops, suspended_after, undelivered_after};
 
 use router_state::{AcKind, Change};
 use slee_value::{ActivityId, EntityId, Name, Text, Value};
@@ -289,6 +289,27 @@ pub fn is_queue_moved(changes: &[Change], activity: ActivityId) -> bool
     ensures { result ≡ list_any (moves_queue activity.0) changes.now }
 {
     changes.iter().any(|change| moves_queue(change, activity))
+}
+
+/// Whether the activity's head event goes by the change.
+fn is_popping(change: &Change, activity: ActivityId) -> bool
+    ensures { result ≡ pops activity.0 change.now }
+{
+    match change {
+        Change::Pop { activity: a } => a.0 == activity.0,
+        _ => false,
+    }
+}
+
+/// How many events go from the activity's queue.
+pub fn count_popped(changes: &[Change], activity: ActivityId) -> usize
+    ensures number { result ≡ count_by (pops activity.0) changes.now }
+    ensures few { result ≤ length changes.now }
+{
+    changes
+        .iter()
+        .filter(|change| is_popping(change, activity))
+        .count()
 }
 
 /// Whether the activity's head event is suspended after the change.

@@ -1,5 +1,5 @@
 //! The state with which a step begins: what is read of it, each by an exact question.
-ghost use Rattle.std.specs.Prelude.{◌≡◌, IfOk, option_copied, option_map};
+ghost use Rattle.std.specs.Prelude.{◌≡◌, IfOk, option_copied, option_map, slice_get};
 ghost use Rattle.router_state.specs.State.{State};
 ghost use Rattle.router_state.specs.Contexts.{is_linked, is_null, activities_of, activity_at, named_at};
 ghost use Rattle.router_state.specs.Fields.{field_at};
@@ -81,9 +81,9 @@ pub trait Base {
     fn head(&self, activity: ActivityId) -> Option<EventId>
         ensures { result ≡ option_map (λ v. v.id) (head_event (state self.now).events activity.0) };
 
-    /// The numbers of the events that wait on the activity, the head event first.
-    fn queue(&self, alloc: Global, activity: ActivityId) -> Result<Vec<u64>, NoMemory>
-        ensures { IfOk result (λ all. all.items ≡ waiting_on (state self.now).events activity.0) };
+    /// The number of the event at this place of the activity's queue; the head event is at 0.
+    fn waiting_at(&self, activity: ActivityId, place: u64) -> Option<EventId>
+        ensures { option_map (λ e. e.0) result ≡ slice_get (waiting_on (state self.now).events activity.0) place };
 
     /// Whether no entity has received the activity's head event yet.
     fn is_undelivered(&self, activity: ActivityId) -> bool

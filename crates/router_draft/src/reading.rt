@@ -1,5 +1,5 @@
 //! What is read of the state with the changes so far laid over it.
-ghost use Rattle.std.specs.Prelude.{◌≡◌, ◌<◌, ◌+◌, ◌-◌, IsTrue, IfOk, option_copied, option_map};
+ghost use Rattle.std.specs.Prelude.{◌≡◌, ◌<◌, ◌+◌, ◌-◌, IsTrue, IfOk, option_copied, option_map, take};
 ghost use Rattle.router_state.specs.Fits.{has_next};
 ghost use Rattle.router_state.specs.Contexts.{activities_of, activity_at, is_linked, is_null, named_at};
 ghost use Rattle.router_state.specs.Fields.{field_at};
@@ -179,22 +179,26 @@ pub fn activities<B: Base>(
     Ok(all)
 }
 
-/// The numbers of the events that wait on the activity, the head event first.
-#[tactic(auto, using(crate::proofs::QueueLemmas::waiting_laid))]
-pub fn queue<B: Base>(
+/// The numbers of the first events of the activity's queue, so many of them or all.
+fn front<B: Base>(
     alloc: Global,
     base: &B,
-    draft: &Draft,
     activity: ActivityId,
+    count: u64,
 ) -> Result<Vec<u64>, NoMemory>
-    ensures { IfOk result (λ all. all.items ≡ waiting_on (laid (B.state base.now) draft.now).events activity.0) }
+    ensures { IfOk result (λ all. all.items ≡ take count (waiting_on (B.state base.now).events activity.0)) }
 {
-    let mut all = base.queue(alloc, activity)?;
-    lists::waiting_through(alloc, draft.changes(), activity, &mut all)?;
+    let mut all = Vec::new(alloc);
+    'places: for place in 0..count {
+        match base.waiting_at(activity, place) {
+            Some(event) => all.push(event.0)?,
+            None => return Ok(all),
+        }
+    }
     Ok(all)
 }
 
-/// The number of the activity's head event. The whole queue is read only where the changes moved it.
+/// The number of the activity's head event. Of its queue no more is read than the events that the changes take from it, and one more.
 #[tactic(auto, using(crate::proofs::QueueLemmas::head_still))]
 pub fn head<B: Base>(
     alloc: Global,
@@ -204,10 +208,14 @@ pub fn head<B: Base>(
 ) -> Result<Option<EventId>, NoMemory>
     ensures { IfOk result (λ head. head ≡ option_map (λ v. v.id) (head_event (laid (B.state base.now) draft.now).events activity.0)) }
 {
-    if !after::is_queue_moved(draft.changes(), activity) {
+    let changes = draft.changes();
+    if !after::is_queue_moved(changes, activity) {
         return Ok(base.head(activity));
     }
-    let all = queue(alloc, base, draft, activity)?;
+    base.ordered();
+    let popped = after::count_popped(changes, activity) as u64;
+    let mut all = front(alloc, base, activity, popped + 1)?;
+    lists::waiting_through(alloc, changes, activity, &mut all)?;
     match all.as_slice() {
         [] => Ok(None),
         [first, ..] => Ok(Some(EventId(*first))),
