@@ -1,0 +1,6 @@
+pub mod ServiceLemmas
+pub mod NameLemmas
+pub mod SameLemmas
+pub mod FindLemmas
+pub mod ChangeLemmas
+pub mod BothLemmas

@@ -1,0 +1,4 @@
+pub mod Views
+pub mod Names
+pub mod Roots
+pub mod Room
