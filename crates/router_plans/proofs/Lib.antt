@@ -1,0 +1,4 @@
+pub mod LineLemmas
+pub mod BegunLemmas
+pub mod ClosedLemmas
+pub mod PlanLemmas
