@@ -1,0 +1,9 @@
+pub mod TreeLemmas
+pub mod WaitingLemmas
+pub mod DeclaredLemmas
+pub mod DeployedLemmas
+pub mod MaskLemmas
+pub mod OwnScripts
+pub mod OwnRuns
+pub mod OwnWords
+pub mod PartingLemmas

@@ -1,0 +1,9 @@
+use Rattle.std.proofs.Common.{◌≡◌, drop, flat_map}
+use Rattle.script_types.specs.Codes.{named}
+use Rattle.router_basis.proofs.declared.attribute_kind.Given as goal
+
+-- what is found among the blocks that are left is what is found among all
+abbrev pub invariant-each : goal.invariant-each
+invariant-each l =
+    named (λ a. a.key) l.key (flat_map (λ b. b.attributes) (drop l.block-index l.blocks))
+    ≡ named (λ a. a.key) l.key (flat_map (λ b. b.attributes) l.codes.blocks)

@@ -1,0 +1,3 @@
+pub mod Deploying
+pub mod Held
+pub mod Masks
