@@ -1,0 +1,4 @@
+pub mod Rising
+pub mod Declared
+pub mod WholeDeployments
+pub mod Readings
