@@ -2,3 +2,4 @@ pub mod Rising
 pub mod Declared
 pub mod WholeDeployments
 pub mod Readings
+pub mod Ranks

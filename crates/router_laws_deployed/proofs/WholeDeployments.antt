@@ -39,7 +39,7 @@ use Rattle.router_laws_sound.specs.Moves.{AreOwnNames}
 use Rattle.router_laws_sound.specs.Rooms.{IsDeployed}
 use Rattle.router_state.specs.Fits.{is_priority}
 
-all_each : {A : Type 0} (P : Data → Type 0) (of_item : Data → A) (p : A → Bool) (ds : Items) → ((d : Data) → P d → p (of_item d) ≡ true) → EachItem P ds → list_all p (listed of_item ds) ≡ true
+pub all_each : {A : Type 0} (P : Data → Type 0) (of_item : Data → A) (p : A → Bool) (ds : Items) → ((d : Data) → P d → p (of_item d) ≡ true) → EachItem P ds → list_all p (listed of_item ds) ≡ true
 all_each P of_item p no_items each all = refl
 all_each P of_item p (item d ds) each all = and_from (p (of_item d)) _ (each d all.0) (all_each P of_item p ds each all.1)
 
@@ -159,7 +159,7 @@ known_events p h =
 
 -- priorities
 
-written_fits : (z : ℤ) → is_written z ≡ true → is_priority z ≡ true
+pub written_fits : (z : ℤ) → is_written z ≡ true → is_priority z ≡ true
 written_fits (pos n) is = grind (arith, nat_tests, is)
 written_fits (negsuc n) is = grind (arith, nat_tests, is)
 
