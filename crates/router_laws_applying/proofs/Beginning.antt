@@ -4,42 +4,41 @@ use Rattle.router_laws_applying.proofs.Applied.{all_applied, all_behind}
 use Rattle.router_laws_applying.proofs.Kids.{parent_drawn}
 use Rattle.router_laws_applying.proofs.Trees.{kid_row}
 use Rattle.router_laws_applying.specs.Behind.{IsBehind, attached_told}
-use Rattle.router_laws_applying.specs.Seen.{linked_in, name_in, numbered, numbers_of}
+use Rattle.router_laws_applying.specs.Seen.{linked_in, numbered, numbers_of}
 use Rattle.router_laws_applying.specs.Suited.{AllSuit, children_told}
 use Rattle.router_laws_effects.specs.Guards.{Guarded}
-use Rattle.router_laws_effects.specs.Runs.{IsAmidst, IsOld}
 use Rattle.router_laws_sound.proofs.SoundBase.{activities_drawn, entities_drawn, found_passes, there_below}
 use Rattle.router_laws_sound.proofs.SoundEntities.{passes_in}
 use Rattle.router_laws_sound.proofs.SoundMarks.{sound_marked_entity}
 use Rattle.router_laws_sound.specs.Rooms.{HasRoom, IsDeployed}
 use Rattle.router_state.specs.Contexts.{activity_at, is_link, is_linked, link_before, named_at}
-use Rattle.router_state.specs.Fits.{is_drawn, is_priority}
+use Rattle.router_state.specs.Fits.{is_drawn}
 use Rattle.router_state.specs.Queues.{entity_mark_before, is_undelivered, is_waiting, with_entity_mark}
 use Rattle.router_state.specs.State.{State}
 use Rattle.router_state.specs.Trees.{children_under, entity_at}
 use Rattle.router_state.specs.Well.{IsSound}
 use Rattle.router_state.specs.WellContexts.{is_link_row}
-use Rattle.router_state.specs.WellEntities.{is_entity_row, is_stem}
+use Rattle.router_state.specs.WellEntities.{is_entity_row}
 use Rattle.router_state.specs.declared.rows.Activity.{Activity}
 use Rattle.router_state.specs.declared.rows.Entity.{Entity}
 use Rattle.router_state.specs.declared.rows.EntityMark.{EntityMark}
 use Rattle.router_state.specs.declared.rows.Link.{Link}
-use Rattle.router_steps.specs.Applying.{Apply, all_apply, applied_in, applies, applying}
+use Rattle.router_steps.specs.Applying.{Apply, all_apply, applies, applying}
 use Rattle.router_steps.specs.Effects.{after_effect, after_effects, next_in, number_in, resolved_in}
 use Rattle.router_steps.specs.Scripts.{answers_in}
 use Rattle.router_steps.specs.Steps.{Receipt, marked_entity}
-use Rattle.rows_sorted.specs.Orders.{are_below, put, rises_by, rises_in}
+use Rattle.rows_sorted.specs.Orders.{are_below, rises_by, rises_in}
 use Rattle.script_meaning.specs.Answers.{known_activity}
-use Rattle.slee_effect.specs.Resolving.{resolved_effect, resolved_ref}
+use Rattle.slee_effect.specs.Resolving.{resolved_ref}
 use Rattle.slee_effect.specs.declared.effect.Effect.{Effect}
 use Rattle.slee_effect.specs.declared.next.Next.{Next}
 use Rattle.slee_effect.specs.declared.reference.Ref.{Ref}
 use Rattle.slee_effect.specs.declared.reference.Ref.TheVariants.{Known, Fresh}
 use Rattle.slee_value.specs.declared.ids.ActivityId.{ActivityId}
-use Rattle.std.proofs.Common.{◌≡◌, Bool, true, false, ℕ, ◌+◌, ◌<◌, ◌==◌, ◌&&◌, not, List, [], ◌∷◌, ◌++◌, map, filter, refl, sym, ap, subst, ◌∙◌, inl, inr, arith, Option, Some, None}
+use Rattle.std.proofs.Common.{◌≡◌, Bool, true, false, ℕ, ◌+◌, ◌<◌, ◌==◌, ◌&&◌, not, List, [], ◌∷◌, ◌++◌, map, filter, refl, ap, subst, inl, inr, arith, Option, Some, None}
 use Rattle.std.proofs.lemmas.Bool.{and_parts, eq-eqb, eqb-true, false_from_ne_true, ltb-true, or_cases}
 use Rattle.std.specs.List.{AllByRecursion, list_all, list_any}
-use Rattle.std.specs.Prelude.{is_some, nat_lt, option_map, if◌then◌else◌}
+use Rattle.std.specs.Prelude.{is_some, nat_lt, option_map}
 
 all_below : {Row : Type 0} (number : Row → ℕ) (n : ℕ) (rows : List Row) → are_below number n rows ≡ true → AllByRecursion (λ row. number row < n) rows
 all_below number n [] all = tt

@@ -1,17 +1,15 @@
 -- What is so in a state behind some effects of a delivery, each of which applied.
-use Rattle.deploy_model.specs.Deployed.{Deployed}
 use Rattle.router_laws.proofs.KeptLemmas.{same_effect}
-use Rattle.router_laws.proofs.ListRules.{in_filter}
-use Rattle.router_laws.proofs.Removal.{from_in_list, in_list, is_in_list}
+use Rattle.router_laws.proofs.Removal.{from_in_list, in_list}
 use Rattle.router_laws.specs.Forest.{IsIn}
 use Rattle.router_laws_applying.proofs.Frames.{stays_timed}
-use Rattle.router_laws_applying.proofs.Kids.{KidsOld, attached_rows, block_ranked, drawn_entities, drawn_timers, here_before, is_some_map, kid_step, made_rows, parent_drawn}
+use Rattle.router_laws_applying.proofs.Kids.{KidsOld, attached_rows, block_ranked, drawn_entities, drawn_timers, here_before, kid_step, made_rows}
 use Rattle.router_laws_applying.proofs.Laid.{count_last, laid}
 use Rattle.router_laws_applying.proofs.Links.{LinksOld, StaysOut, link_step, out_of}
 use Rattle.router_laws_applying.proofs.Names.{name_step}
-use Rattle.router_laws_applying.proofs.Trees.{in_tree, kid_row, rise}
+use Rattle.router_laws_applying.proofs.Trees.{in_tree, kid_row}
 use Rattle.router_laws_applying.specs.Behind.{IsBehind, IsHere, attached_told}
-use Rattle.router_laws_applying.specs.Seen.{linked_in, name_in, numbered, numbers_of}
+use Rattle.router_laws_applying.specs.Seen.{numbered, numbers_of}
 use Rattle.router_laws_applying.specs.Suited.{ChildrenAfter, children_told}
 use Rattle.router_laws_effects.proofs.OwnWrites.{activity_step, amidst_step}
 use Rattle.router_laws_effects.specs.Runs.{EndsOld, IsAmidst, IsOld, activity_seen}
@@ -19,29 +17,24 @@ use Rattle.router_laws_sound.proofs.SoundApplied.{sound_effect}
 use Rattle.router_laws_sound.proofs.SoundBase.{entities_drawn, found_more, there_below}
 use Rattle.router_laws_sound.proofs.SoundCreated.{new_entity}
 use Rattle.router_laws_sound.proofs.SoundEntities.{passes_in}
-use Rattle.router_laws_sound.proofs.SoundRemoval.{entity_left, left_of}
+use Rattle.router_laws_sound.proofs.SoundRemoval.{entity_left}
 use Rattle.router_laws.proofs.Removal.{left_entities}
 use Rattle.router_laws_sound.proofs.SoundTrees.{removed_alone}
 use Rattle.router_steps.specs.Going.{all_removed}
 use Rattle.router_laws_sound.specs.Rooms.{HasRoom, IsDeployed}
-use Rattle.router_state.specs.Contexts.{activity_at, is_link, is_linked}
 use Rattle.router_state.specs.Fits.{is_priority}
 use Rattle.router_state.specs.Fitting.{has_entity}
 use Rattle.router_state.specs.Queues.{is_undelivered}
 use Rattle.router_state.specs.State.{State}
 use Rattle.router_state.specs.Trees.{children_under, entity_at, parent_of, tree_of}
 use Rattle.router_state.specs.Well.{IsSound}
-use Rattle.router_state.specs.WellContexts.{is_link_row, are_links}
-use Rattle.router_state.specs.declared.rows.Activity.{Activity}
 use Rattle.router_state.specs.declared.rows.Entity.{Entity}
-use Rattle.router_state.specs.declared.rows.Link.{Link}
 use Rattle.router_state.specs.declared.rows.Stem.TheVariants as stems
 use Rattle.router_steps.specs.Applying.{applies}
 use Rattle.router_steps.specs.Creating.{with_child}
 use Rattle.router_steps.specs.Effects.{after_effect, next_in, number_in, relation_at}
 use Rattle.router_steps.specs.Scripts.{answers_in}
-use Rattle.script_meaning.specs.Answers.{flag_in, refers_in}
-use Rattle.script_meaning.specs.Observing as read
+use Rattle.script_meaning.specs.Answers.{refers_in}
 use Rattle.script_meaning.specs.Overlay.{activities_by, activity_after, attached_after, children_after, count_of, entities_by, named_after, overlay, overlay_from, same_ref, timers_by}
 use Rattle.script_meaning.specs.declared.key.Key.TheVariants as keys
 use Rattle.script_types.specs.declared.codes.RelationCode.{RelationCode}
@@ -52,10 +45,10 @@ use Rattle.slee_effect.specs.declared.next.Next.{Next}
 use Rattle.slee_effect.specs.declared.reference.Ref.{Ref}
 use Rattle.slee_effect.specs.declared.reference.Ref.TheVariants.{Known, Fresh}
 use Rattle.std.proofs.Common.{◌≡◌, Bool, true, false, ℕ, ℤ, ◌+◌, ◌<◌, ◌≤◌, ◌==◌, ◌&&◌, ◌⊎◌, not, List, [], ◌∷◌, ◌++◌, map, filter, length, refl, sym, ap, subst, ◌∙◌, inl, inr, arith, Option, Some, None}
-use Rattle.std.proofs.lemmas.Bool.{and_parts, cond_both, eqb-true, false_from_ne_true, ltb-true, not-true}
+use Rattle.std.proofs.lemmas.Bool.{and_parts, cond_both, false_from_ne_true, ltb-true, not-true}
 use Rattle.std.specs.List.{AllByRecursion, list_any}
 use Rattle.std.specs.Option.{option_map_or}
-use Rattle.std.specs.Prelude.{is_some, nat_lt, option_and_then, option_map, if◌then◌else◌}
+use Rattle.std.specs.Prelude.{is_some, nat_lt, option_map}
 use Rattle.std.specs.Str.{bytes_eq}
 
 -- what is new is resolved, and as much is made

@@ -9,7 +9,7 @@ use Rattle.router_laws_applying.specs.Behind.{IsHere}
 use Rattle.router_laws_applying.specs.Seen.{numbers_of}
 use Rattle.router_laws_applying.proofs.References.{same_numbers}
 use Rattle.router_laws_effects.specs.Runs.{IsOld}
-use Rattle.router_laws_sound.proofs.SoundBase.{entities_drawn, found_in, found_more, found_passes, some_there}
+use Rattle.router_laws_sound.proofs.SoundBase.{entities_drawn, found_in, found_passes, some_there}
 use Rattle.router_laws_sound.proofs.SoundCreated.{new_entity}
 use Rattle.router_laws_sound.proofs.SoundEntities.{passes_in}
 use Rattle.router_laws_sound.proofs.SoundTrees.{parents_below, removed_alone}
@@ -17,7 +17,7 @@ use Rattle.router_state.specs.Contexts.{is_linked}
 use Rattle.router_state.specs.Fits.{is_priority}
 use Rattle.router_state.specs.Fitting.{has_entity}
 use Rattle.router_state.specs.State.{State}
-use Rattle.router_state.specs.Trees.{children_under, entity_at, has_priority, is_child_of, number_of, parent_of, tree_of, with_priority}
+use Rattle.router_state.specs.Trees.{children_under, entity_at, is_child_of, parent_of, tree_of, with_priority}
 use Rattle.router_state.specs.Well.{IsSound}
 use Rattle.router_state.specs.declared.rows.Entity.{Entity}
 use Rattle.router_state.specs.declared.rows.Stem.TheVariants as stems
@@ -26,22 +26,21 @@ use Rattle.router_steps.specs.Creating.{with_child}
 use Rattle.router_steps.specs.Effects.{after_effect, number_in, relation_at}
 use Rattle.router_steps.specs.Going.{all_removed}
 use Rattle.router_steps.specs.Moves.{attached}
-use Rattle.script_meaning.specs.Overlay.{children_after, entities_by, overlay_from, same_ref, timers_by}
+use Rattle.script_meaning.specs.Overlay.{children_after, entities_by, same_ref, timers_by}
 use Rattle.script_types.specs.declared.codes.RelationCode.{RelationCode}
 use Rattle.slee_effect.specs.Resolving.{resolved_effect, resolved_ref}
 use Rattle.slee_effect.specs.declared.effect.Effect.{Effect}
 use Rattle.slee_effect.specs.declared.effect.Effect.TheVariants as effects
 use Rattle.slee_effect.specs.declared.next.Next.{Next}
 use Rattle.slee_effect.specs.declared.reference.Ref.{Ref}
-use Rattle.slee_effect.specs.declared.reference.Ref.TheVariants.{Known, Fresh}
-use Rattle.std.proofs.Common.{◌≡◌, Bool, true, false, ℕ, ℤ, ◌+◌, ◌<◌, ◌≤◌, ◌==◌, ◌&&◌, ◌⊎◌, not, List, [], ◌∷◌, ◌++◌, map, filter, refl, sym, ap, subst, ◌∙◌, inl, inr, arith, Option, Some, None}
-use Rattle.std.proofs.lemmas.Bool.{and_parts, cases_Bool, cond_both, eq-eqb, eqb-true, ltb-true}
-use Rattle.std.proofs.lemmas.Bool.Decides.{nat_tests}
+use Rattle.slee_effect.specs.declared.reference.Ref.TheVariants.{Fresh}
+use Rattle.std.proofs.Common.{◌≡◌, true, false, ℕ, ℤ, ◌+◌, ◌<◌, ◌≤◌, ◌==◌, ◌&&◌, ◌⊎◌, not, List, [], ◌∷◌, ◌++◌, filter, refl, sym, ap, subst, ◌∙◌, inl, inr, arith, Option, Some, None}
+use Rattle.std.proofs.lemmas.Bool.{and_parts, cases_Bool, cond_both, eqb-true, ltb-true}
 use Rattle.std.proofs.lemmas.List.{map-append}
 use Rattle.std.proofs.lemmas.List.Folds.{find-append}
-use Rattle.std.specs.List.{AllByRecursion, list_all}
+use Rattle.std.specs.List.{AllByRecursion}
 use Rattle.std.specs.Option.{option_map_or, option_or}
-use Rattle.std.specs.Prelude.{find, is_some, nat_lt, option_map, if◌then◌else◌}
+use Rattle.std.specs.Prelude.{is_some, nat_lt, option_map, if◌then◌else◌}
 use Rattle.std.specs.Str.{bytes_eq}
 
 -- what an effect does to the entities

@@ -1,5 +1,5 @@
 -- Effects laid over an answer: what the last of them does.
-use Rattle.std.proofs.Common.{◌≡◌, ℕ, ◌+◌, List, [], ◌∷◌, ◌++◌, refl, ◌∙◌, ap, arith}
+use Rattle.std.proofs.Common.{◌≡◌, ℕ, ◌+◌, List, [], ◌∷◌, ◌++◌, ◌∙◌, ap, arith}
 use Rattle.slee_effect.specs.declared.effect.Effect.{Effect}
 use Rattle.script_meaning.specs.Overlay.{count_of, overlay_from, overlay}
 

@@ -15,7 +15,7 @@ use Rattle.slee_effect.specs.declared.next.Next.{Next}
 use Rattle.slee_effect.specs.declared.reference.Ref.{Ref}
 use Rattle.slee_value.specs.Order.{byte_order, is_below}
 use Rattle.slee_value.specs.declared.ids.ActivityId.{ActivityId}
-use Rattle.std.proofs.Common.{Less, Equal, Greater, ◌≡◌, Bool, true, false, ℕ, ◌+◌, List, [], ◌∷◌, map, Option, Some, None, refl, sym, ap, ◌∙◌, inl, inr, subst, not}
+use Rattle.std.proofs.Common.{Less, Equal, Greater, ◌≡◌, Bool, true, false, ℕ, ◌+◌, List, [], ◌∷◌, map, Option, Some, None, refl, sym, ap, ◌∙◌, inl, inr, not}
 use Rattle.std.proofs.lemmas.Bool.{cases_Bool, false_from_ne_true, false≢true}
 use Rattle.std.proofs.lemmas.Map.Text.{is_eq-slice_cmp}
 use Rattle.std.specs.Cmp.Lexicographic.{nat_list_cmp_total}

@@ -1,67 +1,53 @@
 -- An effect that suits a delivery, and was guarded by what the run had seen, applies at its turn.
-use Rattle.deploy_model.specs.Deployed.{Deployed, attribute_kind, block_fields, relation_of, service_named}
-use Rattle.router_laws.proofs.Removal.{in_list}
+use Rattle.deploy_model.specs.Deployed.{Deployed, relation_of}
 use Rattle.router_laws.specs.Forest.{IsIn}
-use Rattle.router_laws_applying.proofs.Kids.{is_some_map, parent_drawn}
-use Rattle.router_laws_applying.proofs.Trees.{above_tree, child_parent, entity_found, kid_row, map_in, rise}
-use Rattle.router_laws_applying.proofs.Behind.{RefersOld, behind_one, kids_old, makes_activities}
-use Rattle.router_laws_applying.specs.Behind.{IsBehind, attached_told}
-use Rattle.router_laws_applying.specs.Seen.{linked_in, name_in, numbered, numbers_of}
-use Rattle.router_laws_applying.specs.Suited.{AllSuit, ChildrenAfter, FieldsSuit, Lives, LivesAtAll, LivesSomewhere, Suits, ValueFits}
+use Rattle.router_laws_applying.proofs.Trees.{entity_found, kid_row, map_in, rise}
+use Rattle.router_laws_applying.proofs.Behind.{kids_old}
+use Rattle.router_laws_applying.specs.Behind.{IsBehind}
+use Rattle.router_laws_applying.specs.Suited.{ChildrenAfter, FieldsSuit, Lives, ValueFits}
 use Rattle.router_laws_applying.proofs.References.{told_by_state}
-use Rattle.router_laws_effects.specs.Guards.{Guard, Guarded, IsLater, IsUsed, IsUsedActive, IsUsedNull, NameAfter, SeenAfter}
-use Rattle.router_laws_effects.specs.Runs.{IsAmidst, IsOld, activity_seen}
-use Rattle.router_laws_sound.proofs.SoundBase.{found_in, found_passes}
+use Rattle.router_laws_effects.specs.Guards.{IsUsed, IsUsedActive, NameAfter, SeenAfter}
+use Rattle.router_laws_effects.specs.Runs.{IsOld, activity_seen}
 use Rattle.router_laws_sound.proofs.SoundEntities.{passes_in}
-use Rattle.router_laws_sound.proofs.SoundNumbers.{grown_effects, room_before}
-use Rattle.router_laws_sound.proofs.SoundTrees.{parents_below}
-use Rattle.router_laws_sound.specs.Rooms.{HasRoom, IsDeployed}
-use Rattle.router_state.specs.Contexts.{activity_at, is_active, is_linked, is_null, named_at}
-use Rattle.router_state.specs.Fits.{are_declared, is_drawn, is_of_kind, is_priority, is_text, is_value, none_or}
-use Rattle.router_state.specs.Fitting.{has_activity, has_entity, is_spec}
+use Rattle.router_state.specs.Contexts.{activity_at, is_active, is_null, named_at}
+use Rattle.router_state.specs.Fits.{are_declared, is_drawn, is_of_kind, is_priority, is_value}
+use Rattle.router_state.specs.Fitting.{has_activity}
 use Rattle.router_state.specs.Look.{seen_of}
-use Rattle.router_state.specs.Queues.{is_undelivered}
 use Rattle.router_state.specs.State.{State}
 use Rattle.router_state.specs.Timers.{last_moment}
-use Rattle.router_state.specs.Trees.{children_under, entity_at, is_child_of, parent_of, tree_of}
+use Rattle.router_state.specs.Trees.{entity_at, is_child_of}
 use Rattle.router_state.specs.Well.{IsSound}
 use Rattle.router_state.specs.WellEntities.{is_entity_row, is_stem, leads_to}
 use Rattle.router_state.specs.declared.rows.Activity.{Activity}
 use Rattle.router_state.specs.declared.rows.Entity.{Entity}
 use Rattle.router_state.specs.declared.rows.Stem.{Stem}
 use Rattle.router_state.specs.declared.rows.Stem.TheVariants as stems
-use Rattle.router_steps.specs.Applying.{Apply, all_apply, applies, declares, is_active_null, stays_behind, suits, suits_event}
-use Rattle.router_steps.specs.Effects.{after_effect, after_effects, next_in, number_in, plain, plain_field, relation_at, resolved_in, service_for}
+use Rattle.router_steps.specs.Effects.{next_in, number_in, plain, plain_field}
 use Rattle.router_steps.specs.Scripts.{answers_in}
 use Rattle.rows_sorted.specs.Orders.{rises_in}
-use Rattle.script_meaning.specs.Answers.{is_of, number_in as told_number}
+use Rattle.script_meaning.specs.Answers.{is_of}
 use Rattle.script_meaning.specs.Doing.{is_within, last_moment as latest}
-use Rattle.script_meaning.specs.Overlay.{activities_by, activity_after, attached_after, count_of, named_after, overlay, timers_by}
-use Rattle.script_meaning.specs.declared.key.Key.TheVariants as keys
+use Rattle.script_meaning.specs.Overlay.{activities_by, activity_after, count_of, overlay, timers_by}
 use Rattle.script_meaning.specs.declared.seen.AcSeen.{AcSeen}
-use Rattle.script_types.specs.Codes.{named}
-use Rattle.script_types.specs.declared.codes.EventCode.{EventCode}
 use Rattle.script_types.specs.declared.codes.FieldCode.{FieldCode}
 use Rattle.script_types.specs.declared.codes.RelationCode.{RelationCode}
-use Rattle.slee_effect.specs.Resolving.{resolved_effect, resolved_field, resolved_ref, resolved_val}
+use Rattle.slee_effect.specs.Resolving.{resolved_field, resolved_ref, resolved_val}
 use Rattle.slee_effect.specs.declared.effect.Effect.{Effect}
-use Rattle.slee_effect.specs.declared.effect.Effect.TheVariants as effects
 use Rattle.slee_effect.specs.declared.next.Next.{Next}
 use Rattle.slee_effect.specs.declared.reference.Ref.{Ref}
-use Rattle.slee_effect.specs.declared.reference.Ref.TheVariants.{Known, Fresh}
 use Rattle.slee_effect.specs.declared.value.Val.{Val}
 use Rattle.slee_effect.specs.declared.value.Val.TheVariants.{Plain, NewActivity, NewTimer}
 use Rattle.slee_value.specs.declared.ids.ActivityId.{ActivityId}
 use Rattle.slee_value.specs.declared.kind.Kind.{Kind}
 use Rattle.slee_value.specs.declared.kind.Kind.TheVariants as kind
 use Rattle.slee_value.specs.declared.value.Value.TheVariants as v
-use Rattle.std.proofs.Common.{◌≡◌, Bool, true, false, ℕ, zero, suc, ℤ, ◌+◌, ◌<◌, ◌≤◌, ◌==◌, ◌&&◌, ◌⊎◌, not, List, [], ◌∷◌, ◌++◌, map, refl, sym, ap, subst, ◌∙◌, inl, inr, arith, Option, Some, None}
-use Rattle.std.proofs.lemmas.Bool.{and_from, and_parts, cases_Bool, eqb-true, lt-ltb, ltb-true}
+use Rattle.std.proofs.Common.{◌≡◌, Bool, true, false, ℕ, zero, suc, ℤ, ◌+◌, ◌<◌, ◌≤◌, ◌==◌, ◌&&◌, not, List, [], ◌∷◌, map, refl, sym, ap, subst, ◌∙◌, inl, inr, arith, Option, Some, None}
+use Rattle.std.proofs.lemmas.Bool.{and_from, and_parts, eqb-true, lt-ltb, ltb-true}
 use Rattle.std.proofs.lemmas.Bool.Decides.{nat_tests}
 use Rattle.std.proofs.lemmas.Slice.Eq.{bytes_eq-Decides}
 use Rattle.std.specs.List.{AllByRecursion, list_all}
 use Rattle.std.specs.Option.{option_map_or}
-use Rattle.std.specs.Prelude.{pos, negsuc, ◌+ℤ◌, int_le, unsigned_abs, is_none, is_some, nat_le, nat_lt, length, option_and_then, option_map}
+use Rattle.std.specs.Prelude.{pos, negsuc, ◌+ℤ◌, int_le, unsigned_abs, is_none, is_some, nat_le, nat_lt, option_map}
 use Rattle.std.specs.Str.{bytes_eq}
 
 -- An entity that lives in a run is there, with its block; its number is so many above that of the entity that received the event.

@@ -8,12 +8,12 @@ use Rattle.router_laws_sound.proofs.SoundRemoval.{entity_joins}
 use Rattle.router_state.specs.State.{State}
 use Rattle.router_state.specs.Trees.{children_under, entity_at, is_child_of, number_of, parent_in, parent_of, tree, tree_of}
 use Rattle.router_state.specs.Well.{IsSound}
-use Rattle.router_state.specs.WellEntities.{are_entities, is_entity_row}
+use Rattle.router_state.specs.WellEntities.{is_entity_row}
 use Rattle.router_state.specs.declared.rows.Entity.{Entity}
 use Rattle.router_state.specs.declared.rows.Stem.{Stem}
 use Rattle.router_state.specs.declared.rows.Stem.TheVariants as stems
 use Rattle.rows_sorted.specs.Orders.{rises_in}
-use Rattle.std.proofs.Common.{◌≡◌, Bool, true, false, ℕ, zero, suc, ◌+◌, ◌<◌, ◌≤◌, ◌==◌, ◌⊎◌, List, [], ◌∷◌, ◌++◌, map, filter, flat_map, length, refl, sym, ap, subst, ◌∙◌, inl, inr, arith, nat_lt, Some}
+use Rattle.std.proofs.Common.{◌≡◌, true, false, ℕ, zero, suc, ◌<◌, ◌≤◌, ◌==◌, ◌⊎◌, List, [], ◌∷◌, map, filter, flat_map, length, refl, sym, ap, subst, ◌∙◌, inl, inr, arith, nat_lt, Some}
 use Rattle.std.proofs.lemmas.Bool.{and_parts, cases_Bool, eq-eqb, eqb-true, false_from_ne_true, false≢true, ltb-true}
 use Rattle.std.proofs.lemmas.Bool.Decides.{nat_tests}
 use Rattle.std.specs.List.{AllByRecursion, list_all}

@@ -1,5 +1,5 @@
 -- What is so in a state behind some effects of a delivery: what the run sees of its own effects is there.
-use Rattle.std.specs.Prelude.{◌≡◌, ℕ, ◌+◌, ◌≤◌, ◌⊎◌, Bool, true, false, List, Option, Some, option_and_then, option_map}
+use Rattle.std.specs.Prelude.{◌≡◌, ℕ, ◌+◌, ◌≤◌, ◌⊎◌, Bool, true, false, List, Some, option_and_then, option_map}
 use Rattle.slee_effect.specs.Resolving.{resolved_ref}
 use Rattle.slee_effect.specs.declared.effect.Effect.{Effect}
 use Rattle.slee_effect.specs.declared.reference.Ref.{Ref}

@@ -1,5 +1,5 @@
 -- When an effect suits a delivery: what it names is declared and of its kind, what it refers to was drawn or made before it, and its entity is the one that received the event, or lives below it.
-use Rattle.std.specs.Prelude.{ℕ, zero, suc, ◌+◌, ◌<◌, ◌≡◌, Bool, true, List, [], ◌∷◌, ◌++◌, map, Option, Some, is_some}
+use Rattle.std.specs.Prelude.{ℕ, zero, suc, ◌+◌, ◌<◌, ◌≡◌, Bool, true, List, [], ◌∷◌, ◌++◌, map, Some, is_some}
 use Rattle.std.specs.Str.{bytes_eq}
 use Rattle.slee_value.specs.declared.kind.Kind.{Kind}
 use Rattle.slee_value.specs.declared.value.Value.TheVariants as v

@@ -1,7 +1,7 @@
 -- Parts of a run that make no effect and leave its variables, and what they give.
-use Rattle.std.proofs.Common.{◌≡◌, ◌+◌, ◌<◌, ◌≤◌, ◌^◌, ◌||◌, Bool, true, false, cond, ℕ, zero, suc, ℤ, List, [], ◌∷◌, ◌++◌, length, filter, map, Option, Some, None, refl, sym, ap, subst, ◌∙◌, arith, not}
-use Rattle.std.specs.Prelude.{nat_lt, option_and_then}
-use Rattle.std.specs.List.{AllByRecursion, list_any}
+use Rattle.std.proofs.Common.{◌≡◌, ◌+◌, ◌||◌, Bool, true, false, cond, ℕ, zero, suc, ℤ, List, [], ◌∷◌, ◌++◌, length, Option, Some, None, refl, sym, subst}
+use Rattle.std.specs.Prelude.{nat_lt}
+use Rattle.std.specs.List.{list_any}
 use Rattle.slee_value.specs.declared.value.Value.TheVariants as v
 use Rattle.slee_effect.specs.declared.reference.Ref.{Ref}
 use Rattle.slee_effect.specs.declared.reference.Ref.TheVariants.{Known, Fresh}
@@ -15,7 +15,7 @@ use Rattle.script_meaning.specs.declared.outcome.FailKind.TheVariants as f
 use Rattle.script_meaning.specs.Seeing.{same_key}
 use Rattle.script_meaning.specs.Running.{Setting, Variable, State, Ending, Gave, Broke, Needs, Stays, Run, then_run, give, break, tested, tick_at, ticked, observe, answered, look, effects_of, key_limit}
 use Rattle.script_meaning.specs.Values.{with_int, with_text, with_flag, with_activity, with_timer}
-use Rattle.router_laws_values.specs.Spelled.{AnswerSpelled, EffectSpelled, IsSpelled, SettingSpelled, VariableSpelled}
+use Rattle.router_laws_values.specs.Spelled.{AnswerSpelled, IsSpelled, SettingSpelled}
 
 -- whatever is given
 abbrev pub Any : {A : Type 0} → A → Type 0

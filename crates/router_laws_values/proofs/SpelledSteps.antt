@@ -1,12 +1,11 @@
 -- Steps whose constants have spellings make effects whose values have one, and leave variables that do.
-use Rattle.std.proofs.Common.{◌≡◌, ◌+◌, ◌<◌, ◌≤◌, ◌^◌, Bool, true, false, not, cond, ℕ, zero, suc, ℤ, pos, List, [], ◌∷◌, ◌++◌, length, map, take, Option, Some, None, refl, sym, ap, subst, ◌∙◌, arith, append_assoc, append-nil, ◌+ℤ◌}
+use Rattle.std.proofs.Common.{◌≡◌, ◌+◌, ◌<◌, ◌≤◌, ◌^◌, Bool, true, false, not, cond, ℕ, zero, suc, ℤ, pos, List, [], ◌∷◌, ◌++◌, length, map, take, Option, Some, None, refl, sym, ap, subst, arith, append_assoc, append-nil, ◌+ℤ◌}
 use Rattle.std.specs.Prelude.{nat_lt, nat_le, int_le, is_none, unsigned_abs, slice_get, slice_set, bytes_eq, ◌&&◌}
 use Rattle.std.specs.List.{AllByRecursion}
 use Rattle.std.proofs.lemmas.Bool.{cond_both, ltb-true}
 use Rattle.std.proofs.lemmas.List.{length-append}
 use Rattle.slee_value.specs.Order.{is_below}
 use Rattle.slee_value.specs.declared.kind.Kind.{Kind}
-use Rattle.slee_value.specs.declared.kind.Kind.TheVariants as kinds
 use Rattle.slee_value.specs.declared.value.Value.TheVariants as v
 use Rattle.slee_effect.specs.declared.reference.Ref.{Ref}
 use Rattle.slee_effect.specs.declared.reference.Ref.TheVariants.{Known, Fresh}
@@ -23,17 +22,17 @@ use Rattle.script_types.specs.declared.step.Who.TheVariants as w
 use Rattle.script_meaning.specs.declared.outcome.FailKind.{FailKind}
 use Rattle.script_meaning.specs.declared.outcome.FailKind.TheVariants as f
 use Rattle.script_meaning.specs.Answers.{initial}
-use Rattle.script_meaning.specs.Calls.{apart, call_at, keep_result, result_of, setting_in}
+use Rattle.script_meaning.specs.Calls.{apart, call_at, keep_result}
 use Rattle.script_meaning.specs.Doing as doing
 use Rattle.script_meaning.specs.Observing as read
 use Rattle.script_meaning.specs.Overlay.{count_of, entities_by, activities_by, timers_by}
-use Rattle.script_meaning.specs.Running.{Setting, Variable, Holds, Child, State, Ending, Gave, Broke, Needs, Stays, Run, then_run, give, break, tested, tick_at, ticked, effect, effect_limit, effect_bytes_limit, bytes_of, effects_of, declare, assign, scoped, found}
+use Rattle.script_meaning.specs.Running.{Setting, Variable, Holds, Child, State, Ending, Gave, Broke, Needs, Stays, Run, then_run, give, break, tested, tick_at, ticked, effect, effect_limit, effect_bytes_limit, bytes_of, declare, assign, scoped, found}
 use Rattle.script_meaning.specs.Steps.{Flow, Next, Returned, Calling, act, act_all, arguments_of, ask_rollback, choose, does_call, either, followed, items, next, says, turns, walk}
 use Rattle.script_meaning.specs.Meaning.{start}
 use Rattle.script_meaning.specs.Terms.{eval}
 use Rattle.script_meaning.specs.Values.{activity_value, with_flag, with_int, with_text, with_activity, with_timer}
 use Rattle.router_laws_values.specs.Spelled.{ActivitiesSpelled, AssigningSpelled, EffectSpelled, EntitiesSpelled, IsSpelled, MethodsSpelled, RankSpelled, RepeatSpelled, SayingSpelled, SettingSpelled, StepSpelled, StepsSpelled, TermSpelled, TimersSpelled, VariableSpelled}
-use Rattle.router_laws_values.proofs.SpelledRuns.{Any, Gives, IsAt}
+use Rattle.router_laws_values.proofs.SpelledRuns.{Any, Gives}
 use Rattle.router_laws_values.proofs.SpelledTerms.{initial_is, activities_gives, activity_is, attached_gives, child_gives, children_gives, eval_gives, named_gives, now_gives, used_active_gives, used_gives}
 use Rattle.router_state.specs.Fits.{is_i64, is_text}
 

@@ -1,6 +1,6 @@
 -- Terms whose constants have spellings give values that have one, where all that a run is told of has.
-use Rattle.std.proofs.Common.{◌≡◌, ◌+◌, ◌<◌, ◌≤◌, ◌^◌, Bool, true, false, not, cond, ℕ, zero, suc, ℤ, List, [], ◌∷◌, ◌++◌, length, filter, map, Option, Some, None, refl, sym, ap, subst, ◌∙◌, arith, ◌+ℤ◌, ◌-ℤ◌, ◌*ℤ◌, neg_ℤ, int_div, int_rem}
-use Rattle.std.specs.Prelude.{◌-◌, pos, negsuc, nat_lt, nat_le, int_lt, int_le, codes, slice_get, bytes_eq, ◌&&◌, if◌then◌else◌}
+use Rattle.std.proofs.Common.{◌≡◌, ◌+◌, ◌<◌, ◌≤◌, ◌^◌, Bool, true, false, not, ℕ, zero, suc, ℤ, List, [], ◌∷◌, ◌++◌, length, filter, map, Option, Some, None, refl, sym, ap, subst, arith, ◌+ℤ◌, ◌-ℤ◌, ◌*ℤ◌, neg_ℤ, int_div, int_rem}
+use Rattle.std.specs.Prelude.{◌-◌, pos, negsuc, nat_le, int_lt, int_le, codes, slice_get, bytes_eq, ◌&&◌, if◌then◌else◌}
 use Rattle.std.specs.Fmt.{signed_decimal}
 use Rattle.std.specs.List.{AllByRecursion}
 use Rattle.std.specs.Ordering.{int_eq}
@@ -15,7 +15,6 @@ use lib.Signed.{mag}
 use Rattle.slee_value.specs.declared.kind.Kind.{Kind}
 use Rattle.slee_value.specs.declared.kind.Kind.TheVariants as kinds
 use Rattle.slee_value.specs.declared.value.Value.{Value}
-use Rattle.slee_value.specs.declared.value.Value.TheVariants as v
 use Rattle.slee_effect.specs.declared.reference.Ref.{Ref}
 use Rattle.slee_effect.specs.declared.reference.Ref.TheVariants.{Known, Fresh}
 use Rattle.slee_effect.specs.declared.value.Val.{Val}
