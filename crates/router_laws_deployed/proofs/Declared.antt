@@ -1,6 +1,6 @@
 -- Declared fields rise by their names: those of events and of blocks, and the attributes of profiles.
-use Rattle.std.proofs.Common.{◌≡◌, ℕ, zero, suc, Bool, true, false, List, [], ◌∷◌, map, Option, Some, None, refl, sym, ap, ◌∙◌, subst, inl, inr}
-use Rattle.std.specs.Prelude.{◌&&◌, Result, Ok, Err, codes, option_and_then, option_map, slice_get, if◌then◌else◌}
+use Rattle.std.proofs.Common.{◌≡◌, ℕ, zero, suc, Bool, true, List, [], ◌∷◌, map, Option, Some, None, refl, sym, ap, ◌∙◌, subst, inl, inr}
+use Rattle.std.specs.Prelude.{◌&&◌, Result, Ok, codes, option_and_then, option_map, slice_get}
 use Rattle.std.specs.List.{list_all}
 use Rattle.std.specs.Option.{option_map_or}
 use Rattle.std.specs.Ordering.{nat_cmp, match_ordering}
@@ -30,7 +30,7 @@ use Rattle.deploy_model.specs.declared.parts.ProfileSpec.{ProfileSpec}
 use Rattle.deploy_schema.specs.Names.{members_at, members_or_none}
 use Rattle.deploy_schema.specs.Numbers.{items_at, items_or_none}
 use Rattle.deploy_json.specs.Documents.{block_of, parts_in}
-use Rattle.deploy_json.specs.Reading.{document_parts, parts_of, shape_read, syntax_read, unless, value_in, value_parts}
+use Rattle.deploy_json.specs.Reading.{parts_of, shape_read, syntax_read, unless, value_in, value_parts}
 use Rattle.deploy_json.specs.Sources.{first_misread}
 use Rattle.deploy_model.specs.Faults.{Fault}
 use Rattle.deploy_schema.specs.Tables.{shape_fault}

@@ -1,8 +1,8 @@
 -- What was read has its parts, the program of its scripts, and a handler for each event that a block handles.
-use Rattle.std.proofs.Common.{◌≡◌, ℕ, zero, suc, ◌+◌, Bool, true, false, List, [], ◌∷◌, map, Option, Some, None, refl, sym, ap, ◌∙◌, subst, inl, inr}
+use Rattle.std.proofs.Common.{◌≡◌, ℕ, zero, suc, ◌+◌, true, List, [], ◌∷◌, map, Option, Some, None, refl, ap, ◌∙◌, subst, inl, inr}
 use Rattle.std.specs.Prelude.{Result, Ok, Err, find, is_some, slice_get, option_and_then}
 use Rattle.std.specs.Str.{bytes_eq}
-use Rattle.std.proofs.lemmas.Bool.{cases_Bool, cond_both}
+use Rattle.std.proofs.lemmas.Bool.{cases_Bool}
 use Rattle.script_types.specs.Codes.{Codes, Handler, named}
 use Rattle.script_types.specs.Codes as scripts
 use Rattle.script_types.specs.Program.{BlockProgram, HandlerProgram, Program}
@@ -19,11 +19,10 @@ use Rattle.deploy_model.specs.Rules.{Numbering}
 use Rattle.deploy_model.specs.Tables.{key_number}
 use Rattle.deploy_model.specs.declared.parts.Block.{Block}
 use Rattle.deploy_model.specs.declared.parts.BlockEvent.{BlockEvent}
-use Rattle.deploy_model.specs.declared.parts.Parts.{Parts}
 use Rattle.slee_descriptor.specs.declared.deployment.Deployment.{Deployment}
 use Rattle.deploy_json.specs.Checking.{Reading, checked_parts, programmed, read_as, reading_of}
 use Rattle.deploy_json.specs.Reading.{parts_of}
-use Rattle.deploy_json.specs.Rows.{BlockRow, HandlerRow, PartsRow, block_row, handler_row, parts_row}
+use Rattle.deploy_json.specs.Rows.{BlockRow, PartsRow, block_row, handler_row, parts_row}
 use Rattle.deploy_json.specs.Scripts.{block_in, codes_in_rows, handler_in}
 use Rattle.deploy_json.specs.declared.fault.ReadFault.{ReadFault}
 

@@ -1,5 +1,5 @@
 -- What is read of JSON has each name of an object once, in byte order, since members are put in their places.
-use Rattle.std.proofs.Common.{◌≡◌, ℕ, ◌&&◌, Bool, true, false, List, [], ◌∷◌, Option, Some, None, refl, sym, ap, ◌∙◌, subst, IsTrue, inl, inr}
+use Rattle.std.proofs.Common.{◌≡◌, ℕ, true, List, ◌∷◌, Option, Some, None, refl, ap, ◌∙◌, subst}
 use Rattle.std.specs.Prelude.{option_map, option_and_then}
 use Rattle.std.specs.Ordering.{nat_cmp, match_ordering, is_lt, ordering_reverse}
 use Rattle.std.specs.Cmp.Lexicographic.{slice_cmp}
@@ -11,7 +11,7 @@ use Rattle.serde_json.specs.Data.{Data, null, boolean, number, string, array, ob
 use Rattle.serde_json.specs.Read.{of_json, of_items, of_members, read, number_of, max_depth}
 use Rattle.json.specs.Json as json
 use Rattle.json.specs.Lex.{tokens}
-use Rattle.slee_value.specs.Order.{byte_order, is_below, rises}
+use Rattle.slee_value.specs.Order.{is_below, rises}
 use Rattle.router_laws_deployed.specs.Ordered.{names, IsOrdered, AreOrdered, EachOrdered}
 
 -- the name comes before the first of these members

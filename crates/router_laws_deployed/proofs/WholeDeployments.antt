@@ -1,6 +1,6 @@
 -- Deployments that were read are as the router asks: own names, events that are masked, and priorities.
-use Rattle.std.proofs.Common.{◌≡◌, ℕ, zero, suc, ◌+◌, Bool, true, false, ◌&&◌, ◌||◌, not, List, [], ◌∷◌, ◌++◌, filter, map, Option, Some, None, refl, sym, ap, ◌∙◌, subst, inl, inr, arith}
-use Rattle.std.specs.Prelude.{Ok, ℤ, pos, negsuc, int_lt, codes, find, is_some, slice_get, option_map, if◌then◌else◌}
+use Rattle.std.proofs.Common.{◌≡◌, ℕ, zero, suc, ◌+◌, Bool, true, false, not, List, [], ◌∷◌, filter, map, Option, Some, None, refl, sym, ap, ◌∙◌, subst, inl, inr, arith}
+use Rattle.std.specs.Prelude.{Ok, ℤ, pos, negsuc, codes, is_some, slice_get}
 use Rattle.std.specs.List.{AllByRecursion, list_all, position_from}
 use Rattle.std.specs.Option.{option_map_or, option_or}
 use Rattle.std.specs.Str.{bytes_eq}
@@ -14,13 +14,13 @@ use Rattle.slee_value.specs.Order.{is_below}
 use Rattle.script_types.specs.Codes.{built_in, named}
 use Rattle.script_types.specs.declared.codes.EventCode.{EventCode}
 use Rattle.deploy_model.proofs.Faultless.{blocks_none, each_item, each_rule, event_is_own, events_none, under_none, unless_none}
-use Rattle.deploy_model.specs.Deployed.{Deployed, DeployedBlock, DeployedService, Handling, in_order, is_event, masked_on_attach, with_text}
+use Rattle.deploy_model.specs.Deployed.{Deployed, DeployedBlock, DeployedService, Handling, in_order, is_event, with_text}
 use Rattle.deploy_model.specs.Faults.{unless}
 use Rattle.deploy_model.specs.Resolving as resolving
 use Rattle.deploy_model.specs.Resolving.{deployed_of}
 use Rattle.deploy_model.specs.Rules.{Numbering, items, member}
 use Rattle.deploy_model.specs.Tables as walk
-use Rattle.deploy_model.specs.Tables.{IdNumbering, block, block_event, component, event_type, id_number, is_built_in, is_taken, key_number, known_in, parts_fault, profile_spec, service, tables}
+use Rattle.deploy_model.specs.Tables.{block, block_event, component, event_type, id_number, is_built_in, is_taken, key_number, known_in, parts_fault, profile_spec, service, tables}
 use Rattle.deploy_model.specs.declared.fault.DeployBad.TheVariants as bad
 use Rattle.deploy_model.specs.declared.parts.Block.{Block}
 use Rattle.deploy_model.specs.declared.parts.BlockEvent.{BlockEvent}
@@ -35,7 +35,6 @@ use Rattle.deploy_json.specs.Rows.{PartsRow, parts_row}
 use Rattle.deploy_json.specs.Shapes.{EachItem, IsEventType, IsService, is_priority as is_written}
 use Rattle.deploy_json.specs.Values.{event_type_of, listed, service_of}
 use Rattle.router_laws_deployed.proofs.Declared.{block_fields_rise, read_document}
-use Rattle.router_laws_sound.specs.Moves.{AreOwnNames}
 use Rattle.router_laws_sound.specs.Rooms.{IsDeployed}
 use Rattle.router_state.specs.Fits.{is_priority}
 
