@@ -1,0 +1,11 @@
+pub mod References
+pub mod Laid
+pub mod Frames
+pub mod Names
+pub mod Links
+pub mod Trees
+pub mod Kids
+pub mod Behind
+pub mod Present
+pub mod Applied
+pub mod Beginning

@@ -1,0 +1,3 @@
+pub mod Seen
+pub mod Suited
+pub mod Behind

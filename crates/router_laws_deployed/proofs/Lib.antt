@@ -1,0 +1,5 @@
+pub mod Rising
+pub mod Declared
+pub mod WholeDeployments
+pub mod Readings
+pub mod Ranks

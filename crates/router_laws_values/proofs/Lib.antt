@@ -1,0 +1,3 @@
+pub mod SpelledRuns
+pub mod SpelledTerms
+pub mod SpelledSteps

@@ -1,0 +1,6 @@
+//! Laws of values: what expressions of scripts give, and what effects have, has a spelling.
+#![tactic(auto)]
+
+mod values;
+
+pub use values::{values_of_effects_have_a_spelling, values_of_expressions_have_a_spelling};
