@@ -1,9 +1,14 @@
-//! The state of the router: what is next, whether a choice may be made, and what is seen at a key.
+//! The router of any deployment: what is next, what a step changes and tells, and the step made in memory that was taken before.
 #![tactic(auto)]
 
+mod applying;
+mod attempting;
 mod choosing;
+mod planning;
+mod selecting;
 mod sight;
 mod state;
 
+pub use router_plans::Plan;
 pub use sight::Sight;
 pub use state::State;

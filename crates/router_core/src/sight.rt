@@ -1,7 +1,7 @@
 //! The state beside its deployment, as scripts see it. Contracts see the state.
 ghost use Rattle.std.specs.Prelude.{◌≡◌};
 ghost use Rattle.router_state.specs.Look.{look};
-ghost use Rattle.router_core.specs.States.{IsDeployed};
+ghost use Rattle.router_basis.specs.Deploying.{IsDeployed};
 
 use crate::State;
 use handler_run::View;
@@ -12,6 +12,7 @@ use std::alloc::Global;
 use std::marker::Model;
 
 /// The state, and the deployment with which it was made.
+#[derive(Drop)]
 pub struct Sight<'a> {
     state: &'a State,
     deployment: &'a Deployment,
@@ -21,7 +22,7 @@ impl<'a> Model for Sight<'a> {
     ghost use Rattle.std.specs.Coded.{codes};
     ghost use Rattle.script_types.specs.ProgramCode.{term_code, steps_code};
     ghost use Rattle.router_state.specs.State.{State};
-    ghost use Rattle.router_core.specs.States.{IsDeployed};
+    ghost use Rattle.router_basis.specs.Deploying.{IsDeployed};
 
     ghost Value = { State };
 

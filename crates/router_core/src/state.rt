@@ -1,16 +1,18 @@
 //! The state of the router.
-ghost use Rattle.std.specs.Prelude.{◌≡◌, IfOk, map, option_copied, option_map};
+ghost use Rattle.std.specs.Prelude.{◌≡◌, ◌++◌, IfOk, OnOk, map, option_copied, option_map};
 ghost use Rattle.deploy_model.specs.Resolving.{deployed_of};
 ghost use Rattle.script_types.specs.ProgramOf.{kept_program};
 ghost use Rattle.router_state.specs.Initial.{initial};
 ghost use Rattle.router_state.specs.Look.{look};
 ghost use Rattle.router_state.specs.Next.{least, next};
 ghost use Rattle.router_state.specs.Queues.{head_event};
+ghost use Rattle.router_state.specs.Show.{show_text};
 ghost use Rattle.router_state.specs.State.{is_used_up};
 ghost use Rattle.router_state.specs.Trees.{entity_at};
 ghost use Rattle.router_steps.specs.Steps.{is_enabled};
 
 use crate::choosing;
+use router_roots::Roots;
 use router_state::{Event, Kindred};
 use router_stores::Stores;
 use script_meaning::{Key, Seen};
@@ -20,34 +22,41 @@ use std::alloc::Global;
 use std::marker::Model;
 use trace_history::Choice;
 
-/// The state of the router. Nothing in it is left to close.
+/// The state of the router, and its roots by service and by convergence name. Nothing in it is left to close, and its services have numbers of 32 bits.
 #[derive(Drop)]
 pub struct State {
     pub(crate) stores: Stores,
+    pub(crate) roots: Roots,
 }
 
 impl Model for State {
     ghost use Rattle.std.specs.Coded.{codes};
     ghost use Rattle.script_types.specs.ProgramCode.{term_code, steps_code};
-    ghost use Rattle.router_stores.specs.Views.{StoresView};
-    ghost use Rattle.router_state.specs.Well.{IsClosed};
+    ghost use Rattle.router_core.specs.Held.{IsKept, held};
+    ghost use Rattle.router_core.specs.States.{StateView};
 
-    ghost Value = { StoresView };
+    ghost Value = { StateView };
 
     ghost coded = { Prim.hlevel (codes, term_code (Prim.hlevel codes), steps_code (Prim.hlevel (codes, term_code (Prim.hlevel codes)))) };
 
-    ghost view = { λ s. s.stores };
+    ghost view = { held };
 
-    ghost invariant = { λ s. IsClosed s.stores.state };
+    ghost invariant = { IsKept };
 }
 
 impl State {
-    /// The state in which nothing has happened.
+    /// The state in which nothing has happened. More services than 32 bits number find no memory.
     pub fn initial(alloc: Global, deployment: &Deployment) -> Result<Self, NoMemory>
         ensures { IfOk result (λ s. s.state ≡ initial (deployed_of deployment.now.parts) (kept_program deployment.now.codes)) }
     {
+        if deployment.services().len() >= 1 << 32 {
+            return Err(NoMemory);
+        }
         let stores = Stores::initial(alloc, deployment)?;
-        Ok(State { stores })
+        Ok(State {
+            stores,
+            roots: Roots::new(alloc),
+        })
     }
 
     /// How many lines were taken.
@@ -118,5 +127,18 @@ impl State {
             return Err(NoMemory);
         }
         router_look::look(alloc, &self.stores, deployment, key)
+    }
+
+    /// Adds what the show command prints of the state.
+    pub fn show(
+        &self,
+        alloc: Global,
+        deployment: &Deployment,
+        into: &mut Vec<u8>,
+    ) -> Result<(), NoMemory>
+        requires { deployed_of deployment.now.parts ≡ self.now.state.deployment }
+        ensures { OnOk result (into.new.items ≡ into.old.items ++ show_text self.now.state) }
+    {
+        router_show::show(alloc, &self.stores, deployment, into)
     }
 }
