@@ -26,11 +26,14 @@ def world(folder=None):
         return None
     sys.path.insert(0, folder)
     import rundefs
-    from antt import words
+    from antt import values, words
 
     # whether two values of an enum without fields are one: a word of the kit that the tool may not know
     words.TEMPLATES.setdefault("sameb", (3, "({1} == {2})"))
     words.NEEDED.setdefault("sameb", {1, 2})
+    # `Option.Some` by its type's name: a constructor that the tool takes for a field of a type
+    if not hasattr(values.Undecided, "fields"):
+        values.Undecided.fields = property(lambda self: {"Some": values.Fn(1, rundefs.SOME)})
     return rundefs.load(TOP)
 
 

@@ -1,0 +1,3 @@
+pub mod ChildLemmas
+pub mod DeploymentLemmas
+pub mod RowLemmas
