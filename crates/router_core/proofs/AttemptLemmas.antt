@@ -1,5 +1,5 @@
 -- An attempt that is done over what is seen in the state comes to what the delivery comes to there.
-use Rattle.std.proofs.Common.{◌≡◌, ℕ, true, List, [], ◌∷◌, Option, Some, None, IsSome, refl, sym, ◌∙◌, ap, subst}
+use Rattle.std.proofs.Common.{◌≡◌, ℕ, true, List, Option, Some, None, IsSome, refl, sym, ◌∙◌, ap, subst}
 use Rattle.slee_value.specs.declared.ids.ActivityId.{ActivityId}
 use Rattle.slee_value.specs.declared.ids.EntityId.{EntityId}
 use Rattle.script_types.specs.Program.{Program}
@@ -20,7 +20,7 @@ use Rattle.router_state.specs.State.{State}
 use Rattle.router_state.specs.Look.{look, next_delivery}
 use Rattle.router_steps.specs.Scripts.{answers_in, complete}
 use Rattle.router_steps.specs.Steps.{is_enabled}
-use Rattle.tx_attempt.specs.Attempts.{Comes, HasAsked, IsDone, IsNew, asked_for, next_seen}
+use Rattle.tx_attempt.specs.Attempts.{Comes, HasAsked, IsDone, IsNew, asked_for}
 use Rattle.tx_attempt.specs.declared.attempt.Attempt.{Attempt}
 use Rattle.tx_attempt.specs.declared.ticket.Ticket.{Ticket}
 use Rattle.tx_attempt.proofs.HoldsLemmas.{holds_decides}

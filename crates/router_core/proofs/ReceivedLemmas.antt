@@ -1,6 +1,6 @@
 -- The event and the entity that a delivery is of, and what it comes to.
-use Rattle.std.proofs.Common.{◌≡◌, ℕ, ◌<◌, ◌≤◌, ◌==◌, Bool, true, false, List, [], ◌∷◌, Option, Some, None, Ok, refl, sym, ◌∙◌, ap, subst, find, filter, arith, inl, inr, ◌⊎◌, is_some, nat_lt, slice_get}
-use Rattle.std.specs.Prelude.{◌&&◌, not, option_map, option_and_then}
+use Rattle.std.proofs.Common.{◌≡◌, ℕ, ◌<◌, ◌≤◌, ◌==◌, Bool, true, false, List, [], ◌∷◌, Option, Some, None, Ok, refl, sym, ◌∙◌, ap, subst, filter, arith, inl, inr, ◌⊎◌, nat_lt, slice_get}
+use Rattle.std.specs.Prelude.{option_map, option_and_then}
 use Rattle.std.proofs.lemmas.Bool.{cases_Bool, and_parts}
 use Rattle.std.proofs.lemmas.Bool.Decides.{nat_tests}
 use Rattle.slee_value.specs.declared.ids.ActivityId.{ActivityId}
@@ -12,7 +12,7 @@ use Rattle.script_types.specs.CodesOf.{codes_of}
 use Rattle.script_types.specs.Program.{BlockProgram, Program, Steps}
 use Rattle.script_types.specs.Programs.{program_of}
 use Rattle.script_meaning.specs.Answers.{Answers}
-use Rattle.script_meaning.specs.Delivery.{Complete, Delivered as DeliveredAsDefined, Delivery, NotChecked, Wants, delivered, delivered_by, handled, handler_of, with_block}
+use Rattle.script_meaning.specs.Delivery.{Complete, Delivered as DeliveredAsDefined, Delivery, NotChecked, Wants, delivered_by, handled, handler_of, with_block}
 use Rattle.script_meaning.specs.Running.{bytes_of, effect_bytes_limit}
 use Rattle.script_laws.specs.Fitting.{IsSoundDelivery}
 use Rattle.script_laws.proofs.SafeDeliveries.{delivery_is_sound}
@@ -22,11 +22,10 @@ use Rattle.rollback_calls.specs.Deliveries.{delivered_of}
 use Rattle.rollback_calls.specs.declared.delivered.Delivered.{Delivered}
 use Rattle.router_state.specs.State.{State}
 use Rattle.router_state.specs.Contexts.{is_linked}
-use Rattle.router_state.specs.Masks.{is_masked}
-use Rattle.router_state.specs.Next.{first, is_eligible, is_for_tree, receives_at}
+use Rattle.router_state.specs.Next.{first, is_eligible, receives_at}
 use Rattle.router_state.specs.Ordered.{IsOrdered}
 use Rattle.router_state.specs.Paths.{earlier, least_path, path_before, path_of}
-use Rattle.router_state.specs.Queues.{head_event, is_delivered}
+use Rattle.router_state.specs.Queues.{head_event}
 use Rattle.router_state.specs.Trees.{entity_at}
 use Rattle.router_state.specs.declared.rows.Entity.{Entity}
 use Rattle.router_state.specs.declared.rows.Event.{Event}

@@ -12,7 +12,7 @@ use Rattle.router_state.specs.Trees.{entity_at, is_root_of}
 use Rattle.router_state.specs.declared.rows.Entity.{Entity}
 use Rattle.router_state.specs.declared.rows.Event.{Event}
 use Rattle.router_state.specs.declared.rows.RootName.{RootName}
-use Rattle.router_steps.specs.Selection.{Candidate, is_root_named, name_by_handling, root_handling, root_named, selected, selection}
+use Rattle.router_steps.specs.Selection.{Candidate, is_root_named, name_by_handling, root_named, selected}
 use Rattle.router_steps.specs.Steps.{NewRoot, NoRoot, OldRoot, Root, root_by_name, root_selected}
 
 some_is : {A : Type 0} (x y : A) → Some x ≡ Some y → x ≡ y
