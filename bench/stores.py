@@ -8,7 +8,9 @@ Instructions are counted by valgrind, of so many rounds less of a run that only 
 else it does. The ratio from the first to the last is to be at most 2.5; a line above it is marked. Times are the median of five
 runs, over as many rounds as take a tenth of a second; a busy machine tells them wrong, and with 100,000 rows they show also that
 the rows no longer fit into the processor's caches, as the calls go from row to row in no order.
-Build the programs first: cd crates/bench_stores && rt run -- fields at 10 20, and cd crates/bench_order && rt run -- order next 10 20
+Build the programs first: cd crates/bench_stores && rt run -- fields at 10 20, cd crates/bench_order && rt run -- order next 10 20, and
+cd crates/bench_state && rt run. The last is for `state`, the whole state over its stores: each of its changes, in room that is made for it,
+and each question (state_batches.py says among which rows). Their instructions alone are counted, all in one run over rows that are made once.
 """
 import argparse
 import functools
@@ -19,6 +21,8 @@ import subprocess
 import sys
 import tempfile
 from concurrent.futures import ThreadPoolExecutor, wait
+
+import state_batches
 
 HERE = os.path.dirname(os.path.abspath(__file__))
 CRATES = os.path.join(HERE, "..", "crates")
@@ -147,8 +151,12 @@ CALLS = {
         "set_priority_of_root",
     ),
 }
+# the whole state
+STATE = "state"
+# among 10 rows fewer activities are claimed, and among 1,000 few leaves are split: their ratios say only how much that is
+BY_MANY = ("least_claimed", "set_mask_spread")
 # the programs that call them
-PROGRAMS = dict.fromkeys(CALLS, "bench_stores") | {"order": "bench_order"}
+PROGRAMS = dict.fromkeys(CALLS, "bench_stores") | {"order": "bench_order", STATE: "bench_state"}
 
 
 def program_of(store):
@@ -212,16 +220,31 @@ def nanoseconds(store, call, rows):
     return statistics.median(seconds_of(store, call, rows, rounds) - seconds_of(store, call, rows, 0) for _ in range(RUNS)) / rounds * 1e9
 
 
+def tell(store, call, costs, may_grow):
+    ratio = costs[-1] / costs[0]
+    mark = "   above" if ratio > MOST_RATIO and not may_grow else ""
+    print(f"{store + ' ' + call:<32}" + "".join(f"{it:>11.0f}" for it in costs) + f"{ratio:>8.2f}{mark}", flush=True)
+
+
+def tell_state(jobs):
+    """The instructions of each change and each question of the state."""
+    with ThreadPoolExecutor(jobs) as lanes:
+        found = list(lanes.map(lambda rows: state_batches.costs(program_of(STATE), rows), ROWS))
+    for call in state_batches.CALLS:
+        tell(STATE, call, [costs[call] for costs in found], call in BY_MANY)
+
+
 def main():
     words = argparse.ArgumentParser()
     words.add_argument("stores", nargs="*")
     words.add_argument("--time", action="store_true")
     words.add_argument("--jobs", type=int, default=os.cpu_count())
     given = words.parse_args()
-    stores = given.stores or list(CALLS)
-    for store in stores:
+    asked = given.stores or [*CALLS, STATE]
+    for store in asked:
         if not os.path.exists(program_of(store)):
-            sys.exit(f"build it first: cd crates/{PROGRAMS[store]} && rt run -- {store} {CALLS[store][0]} 10 20")
+            sys.exit(f"build it first: cd crates/{PROGRAMS[store]} && rt run" + ("" if store == STATE else f" -- {store} {CALLS[store][0]} 10 20"))
+    stores = [store for store in asked if store != STATE]
     calls = [(store, call) for store in stores for call in CALLS[store]]
     cost, unit = (nanoseconds, "ns") if given.time else (instructions, "instructions")
     print(f"{'call':<32}" + "".join(f"{rows:>11,}" for rows in ROWS) + f"{'ratio':>8}   {unit} a round")
@@ -232,11 +255,9 @@ def main():
             wait(makers)
         found = [[lanes.submit(cost, store, call, rows) for rows in ROWS] for store, call in calls]
         for (store, call), costs in zip(calls, found):
-            costs = [it.result() for it in costs]
-            ratio = costs[-1] / costs[0]
-            is_above = ratio > MOST_RATIO and (store, call) not in BY_ACTIVITY
-            mark = "   above" if is_above else ""
-            print(f"{store + ' ' + call:<32}" + "".join(f"{it:>11.0f}" for it in costs) + f"{ratio:>8.2f}{mark}", flush=True)
+            tell(store, call, [it.result() for it in costs], (store, call) in BY_ACTIVITY)
+    if STATE in asked and not given.time:
+        tell_state(given.jobs)
 
 
 if __name__ == "__main__":

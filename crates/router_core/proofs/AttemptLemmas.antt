@@ -26,7 +26,8 @@ use Rattle.tx_attempt.specs.declared.ticket.Ticket.{Ticket}
 use Rattle.tx_attempt.proofs.HoldsLemmas.{holds_decides}
 use Rattle.router_core.specs.Delivering.{Delivers, IsTicket}
 use Rattle.router_core.proofs.NextLemmas.{next_received}
-use Rattle.router_core.proofs.ReceivedLemmas.{delivers_so, ticket_handled}
+use Rattle.router_core.proofs.TicketLemmas.{ticket_handled}
+use Rattle.router_core.proofs.ReceivedLemmas.{delivers_so}
 
 -- a delivery that was prepared for a ticket is that of the ticket
 over_ticket : (program : Program) (t : Ticket) (a : Attempt) (known : List (Key × Seen)) → IsNew t a
@@ -43,8 +44,7 @@ over_ticket program t a known new =
 pub can_deliver : (program : Program) (d : Deployed) (s : State) (t : Ticket) (a : Attempt) → ((number : ℕ) (event : List ℕ) → handles d number event ≡ true → Handles program number event) → d ≡ s.deployment
     → IsTicket s t → IsNew t a → CanDeliver program a.delivery
 can_deliver program d s t a there same ticket new =
-    let handled : handles d t.block t.event.name ≡ true = subst (λ (e : Deployed). handles e t.block t.event.name ≡ true) (sym same) (ticket_handled s t ticket) in
-    subst (λ (n : ℕ). Handles program n a.delivery.event) (sym new.block) (subst (λ (name : List ℕ). Handles program t.block name) (sym new.event) (there t.block t.event.name handled))
+    subst (λ (n : ℕ). Handles program n a.delivery.event) (sym new.block) (subst (λ (name : List ℕ). Handles program t.block name) (sym new.event) (ticket_handled program d s t there same ticket))
 
 pub new_asked : (program : Program) (t : Ticket) (a : Attempt) → IsNew t a → HasAsked program a
 new_asked program t a new = subst (asked_for (λ answers. lacked_by (delivery_over program a.delivery answers))) (sym new.known) tt

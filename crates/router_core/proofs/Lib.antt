@@ -1,6 +1,8 @@
 pub mod InitialLemmas
 pub mod SteadyLemmas
+pub mod OwnLemmas
 pub mod NextLemmas
+pub mod TicketLemmas
 pub mod ReceivedLemmas
 pub mod HandlerLemmas
 pub mod AttemptLemmas

@@ -48,13 +48,13 @@ goes_on s c enabled =
 
 -- the head event that a choice is about
 
-next_of : (s : State) (c : Choice) → is_enabled s c ≡ true → is_next s c ≡ true
+pub next_of : (s : State) (c : Choice) → is_enabled s c ≡ true → is_next s c ≡ true
 next_of s c enabled = (and_parts (not (is_used_up s)) (is_next s c) enabled).1
 
 some_there : {A : Type 0} (o : Option A) (x : A) → o ≡ Some x → IsSome o
 some_there o x is = subst (λ (p : Option _). is_some p ≡ true) (sym is) refl
 
-kind_there : (test : Kindred → Bool) (s : State) (a : ℕ) → is_next_by test s a ≡ true → (v : Event) × (head_event s.events a ≡ Some v) × (test (next_for s a v) ≡ true) × (next s a ≡ Some (next_for s a v))
+pub kind_there : (test : Kindred → Bool) (s : State) (a : ℕ) → is_next_by test s a ≡ true → (v : Event) × (head_event s.events a ≡ Some v) × (test (next_for s a v) ≡ true) × (next s a ≡ Some (next_for s a v))
 kind_there test s a is = elim (cases_Bool (is_suspended s.suspensions a)) [
   | inl held ↦ absurd (let none : false ≡ true = rw held at is in cc)
   | inr free ↦ by_head (head_event s.events a) refl (rw free at is) free
@@ -69,11 +69,6 @@ kind_there test s a is = elim (cases_Bool (is_suspended s.suspensions a)) [
 pub finish_there : (s : State) (a : ActivityId) → is_enabled s (choices.Finish a) ≡ true → IsSome (head_event s.events a.0)
 finish_there s a enabled =
     let there = kind_there is_finish s a.0 (next_of s (choices.Finish a) enabled) in
-    some_there (head_event s.events a.0) there.0 there.1
-
-pub delivery_there : (s : State) (a : ActivityId) → is_enabled s (choices.Deliver a) ≡ true → IsSome (head_event s.events a.0)
-delivery_there s a enabled =
-    let there = kind_there is_delivery s a.0 (next_of s (choices.Deliver a) enabled) in
     some_there (head_event s.events a.0) there.0 there.1
 
 pub initial_there : (s : State) (a : ActivityId) → is_enabled s (choices.Initial a) ≡ true → IsSome (head_event s.events a.0)
@@ -108,7 +103,7 @@ selected_there s a v service head due = rw (head, due) refl
 
 -- where a delivery is next, an entity receives the event
 
-delivery_kind : (s : State) (a : ℕ) (v : Event) → is_delivery (next_for s a v) ≡ true → (is_some (first s a v) ≡ true) × (next_for s a v ≡ kindreds.Deliver)
+pub delivery_kind : (s : State) (a : ℕ) (v : Event) → is_delivery (next_for s a v) ≡ true → (is_some (first s a v) ≡ true) × (next_for s a v ≡ kindreds.Deliver)
 delivery_kind s a v is = elim (cases_Bool (is_some (due_service s a v))) [
   | inl due ↦ absurd (let wrong : false ≡ true = rw due at is in cc)
   | inr none ↦ elim (cases_Bool (is_some (first s a v))) [
@@ -116,11 +111,6 @@ delivery_kind s a v is = elim (cases_Bool (is_some (due_service s a v))) [
     | inr isnt ↦ absurd (let wrong : false ≡ true = rw (none, isnt) at is in cc)
   ]
 ]
-
-pub receiver_there : (s : State) (a : ActivityId) (v : Event) → is_enabled s (choices.Deliver a) ≡ true → head_event s.events a.0 ≡ Some v → IsSome (first s a.0 v)
-receiver_there s a v enabled head =
-    let own = own_head is_delivery s a.0 v (next_of s (choices.Deliver a) enabled) head in
-    (delivery_kind s a.0 v own.0).0
 
 -- the delivery that is next is of the event and the entity that receives it
 pub next_received : (s : State) (a : ActivityId) (v : Event) (row : Entity) → is_enabled s (choices.Deliver a) ≡ true → receives_at s a.0 ≡ Some (v, row) → next_delivery s a.0 ≡ Some (v.id, row.number)
@@ -135,13 +125,6 @@ next_received s a v row enabled received =
 pub head_waits : (o : Option Event) → IsSome o → None ≡ o → ⊥
 head_waits None there none = let wrong : false ≡ true = there in cc
 head_waits (Some v) there none = cc
-
-pub receiver_is : (e : EntityId) (o : Option Entity) → Some e ≡ option_map (λ (row : Entity). row.number) o → option_map (λ (row : Entity). row.number) o ≡ Some e
-receiver_is e o is = sym is
-
-pub receiver_found : (o : Option Entity) → IsSome o → None ≡ option_map (λ (row : Entity). row.number) o → ⊥
-receiver_found None there none = let wrong : false ≡ true = there in cc
-receiver_found (Some row) there none = cc
 
 pub service_found : (o : Option ℕ) → IsSome o → None ≡ o → ⊥
 service_found None there none = let wrong : false ≡ true = there in cc

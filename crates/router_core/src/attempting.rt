@@ -1,15 +1,15 @@
 //! Deliveries: the handler of the head event and its callbacks, run over what is seen in the state.
-ghost use Rattle.std.specs.Prelude.{◌≡◌, ℕ, List, Some, true, IfOk, IsSome, IsTrue, option_map};
+ghost use Rattle.std.specs.Prelude.{◌≡◌, ℕ, List, None, Some, true, IfNone, IfOk, IfSome, IsSome, IsTrue, option_map};
 ghost use Rattle.script_types.specs.ProgramOf.{IsChecked, kept_program};
 ghost use Rattle.deploy_model.specs.Deployed.{handles};
 ghost use Rattle.deploy_model.specs.Resolving.{deployed_of};
 ghost use Rattle.rollback_calls.specs.Deliveries.{Handles};
 ghost use Rattle.trace_history.specs.declared.choice.Choice.TheVariants as choices;
-ghost use Rattle.router_state.specs.Next.{first};
+ghost use Rattle.router_state.specs.Next.{receives_at};
 ghost use Rattle.router_state.specs.Queues.{head_event};
 ghost use Rattle.router_steps.specs.Steps.{is_enabled};
 ghost use Rattle.router_basis.specs.Deploying.{IsDeployed};
-ghost use Rattle.router_core.specs.Delivering.{Delivers, IsReceipt, IsTicket};
+ghost use Rattle.router_core.specs.Delivering.{Delivers, IsReceipt, IsTicket, received_at};
 
 use crate::{Sight, State};
 use rollback_calls::Delivered;
@@ -20,6 +20,9 @@ use slee_descriptor::Deployment;
 use slee_value::{ActivityId, EntityId, NoMemory};
 use std::alloc::Global;
 use tx_attempt::{Attempt, Ticket};
+
+/// The number of a ticket that nobody claims.
+const UNCLAIMED: u64 = 0;
 
 /// A checked deployment has the handler of each event that a block of it handles.
 fn handlers_are_there(deployment: &Deployment)
@@ -53,29 +56,28 @@ impl State {
         }
     }
 
-    /// The entity that receives the head event, where one does.
-    #[tactic(auto, using(crate::proofs::NextLemmas::receiver_found))]
-    fn receiving(&self, deployment: &Deployment, activity: ActivityId, event: &Event) -> EntityId
-        requires deployed { deployed_of deployment.now.parts ≡ self.now.state.deployment }
-        requires there { IsSome (first self.now.state activity.0 event.now) }
-        ensures { option_map (λ row. row.number) (first self.now.state activity.0 event.now) ≡ Some result }
+    /// The head event of the activity with the entity that receives it, where one does.
+    #[tactic(auto, using(crate::proofs::TicketLemmas::nothing_waits, crate::proofs::TicketLemmas::nobody_receives, crate::proofs::TicketLemmas::first_receives))]
+    fn received(&self, deployment: &Deployment, activity: ActivityId) -> Option<(&Event, EntityId)>
+        requires { deployed_of deployment.now.parts ≡ self.now.state.deployment }
+        ensures { option_map (λ x. (x.0.now, x.1)) result ≡ received_at self.now.state activity.0 }
     {
-        match receiver(&self.stores, deployment, activity, event) {
-            Some(entity) => entity,
-            None => unreachable!(),
-        }
+        let event = self.front(activity)?;
+        let entity = receiver(&self.stores, deployment, activity, event)?;
+        Some((event, entity))
     }
 
     /// Which event reaches which entity by the delivery that is next on the activity.
-    #[tactic(auto, using(crate::proofs::NextLemmas::delivery_there, crate::proofs::NextLemmas::receiver_there, crate::proofs::ReceivedLemmas::receipt_is))]
+    #[tactic(auto, using(crate::proofs::TicketLemmas::receives_next, crate::proofs::TicketLemmas::receipt_is))]
     pub(crate) fn receipt(&self, deployment: &Deployment, activity: ActivityId) -> Receipt
         requires deployed { deployed_of deployment.now.parts ≡ self.now.state.deployment }
         requires enabled { IsTrue (is_enabled self.now.state (choices.Deliver activity)) }
         ensures activity { result.activity ≡ activity }
         ensures receipt { IsReceipt self.now.state result }
     {
-        let event = self.head(activity);
-        let entity = self.receiving(deployment, activity, event);
+        let Some((event, entity)) = self.received(deployment, activity) else {
+            unreachable!();
+        };
         Receipt {
             activity,
             event: event.id,
@@ -83,32 +85,39 @@ impl State {
         }
     }
 
-    /// The ticket of the delivery that is next on the activity.
-    #[tactic(auto, using(crate::proofs::NextLemmas::delivery_there, crate::proofs::NextLemmas::receiver_there, crate::proofs::ReceivedLemmas::block_there, crate::proofs::ReceivedLemmas::ticket_is))]
-    fn ticket(
+    /// The ticket of this number for the delivery that comes first on the activity. None stands where no entity receives an event
+    /// there. A state that is used up has tickets too.
+    #[tactic(auto, using(crate::proofs::TicketLemmas::receives_none, crate::proofs::TicketLemmas::block_there, crate::proofs::TicketLemmas::ticket_is))]
+    pub fn ticket(
         &self,
         alloc: Global,
         deployment: &Deployment,
+        number: u64,
         activity: ActivityId,
-    ) -> Result<Ticket, NoMemory>
-        requires deployed { deployed_of deployment.now.parts ≡ self.now.state.deployment }
-        requires enabled { IsTrue (is_enabled self.now.state (choices.Deliver activity)) }
-        ensures activity { IfOk result (λ ticket. ticket.activity ≡ activity) }
-        ensures ticket { IfOk result (λ ticket. IsTicket self.now.state ticket) }
+    ) -> Result<Option<Ticket>, NoMemory>
+        requires { IsDeployed deployment.now self.now.state }
+        ensures numbers { IfOk result (λ found. IfSome found (λ t. (t.number ≡ number) × (t.activity ≡ activity))) }
+        ensures ticket { IfOk result (λ found. IfSome found (λ t. IsTicket self.now.state t)) }
+
+        // What an attempt at it asks for.
+        ensures handled { IfOk result (λ found. IfSome found (λ t. Handles (kept_program deployment.now.codes) t.block t.event.name)) }
+        ensures none { IfOk result (λ found. IfNone found (receives_at self.now.state activity.0 ≡ None)) }
     {
+        handlers_are_there(deployment);
         self.stores.ordered();
-        let event = self.head(activity);
-        let entity = self.receiving(deployment, activity, event);
+        let Some((event, entity)) = self.received(deployment, activity) else {
+            return Ok(None);
+        };
         let Some(block) = self.block(entity) else {
             unreachable!();
         };
-        Ok(Ticket {
-            number: 0,
+        Ok(Some(Ticket {
+            number,
             activity,
             event: copied(alloc, event)?,
             entity,
             block,
-        })
+        }))
     }
 
     /// What the delivery of the ticket, which is next on its activity, comes to here.
@@ -131,6 +140,7 @@ impl State {
     }
 
     /// What the delivery that is next on the activity comes to.
+    #[tactic(auto, using(crate::proofs::TicketLemmas::delivers_next))]
     pub(crate) fn next_delivered(
         &self,
         alloc: Global,
@@ -141,7 +151,9 @@ impl State {
         requires enabled { IsTrue (is_enabled self.now.state (choices.Deliver activity)) }
         ensures { IfOk result (λ delivered. Delivers self.now.state activity delivered) }
     {
-        let ticket = self.ticket(alloc, deployment, activity)?;
+        let Some(ticket) = self.ticket(alloc, deployment, UNCLAIMED, activity)? else {
+            unreachable!();
+        };
         self.delivered(alloc, deployment, &ticket)
     }
 }

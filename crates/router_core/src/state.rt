@@ -5,6 +5,7 @@ ghost use Rattle.script_types.specs.ProgramOf.{kept_program};
 ghost use Rattle.router_state.specs.Initial.{initial};
 ghost use Rattle.router_state.specs.Look.{look};
 ghost use Rattle.router_state.specs.Next.{least, next};
+ghost use Rattle.router_state.specs.Ordered.{IsOrdered};
 ghost use Rattle.router_state.specs.Queues.{head_event};
 ghost use Rattle.router_state.specs.Show.{show_text};
 ghost use Rattle.router_state.specs.State.{is_used_up};
@@ -57,6 +58,13 @@ impl State {
             stores,
             roots: Roots::new(alloc),
         })
+    }
+
+    /// Passes on that every list rises, and that numbers are below the next ones.
+    pub fn ordered(&self)
+        ensures { IsOrdered self.now.state }
+    {
+        self.stores.ordered();
     }
 
     /// How many lines were taken.

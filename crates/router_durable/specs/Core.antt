@@ -1,37 +1,44 @@
--- The core of a container as its callers see it.
-use Rattle.std.specs.Prelude.{◌≡◌, ℕ, ◌+◌, ◌≤◌, List, [], ◌∷◌, ◌++◌, length, Bool, true, false, IsTrue, Option, Some, None, Result, Ok, Err, ⊤}
+-- A router over a journal as its callers see it.
+use Rattle.std.specs.Prelude.{◌≡◌, ℕ, nat_le, if◌then◌else◌, ◌+◌, ◌≤◌, List, [], ◌∷◌, ◌++◌, length, take, drop, Bool, true, false, IsTrue, IsErrOf, Option, Some, None, Result, Ok, Err, ⊤}
+use Rattle.slee_descriptor.specs.declared.deployment.Deployment.{Deployment}
 use Rattle.slee_disk.specs.Causes.{Rose}
 use Rattle.slee_disk.specs.Sides.{Sides}
-use Rattle.slee_disk.specs.Disk.{DiskState, is_clean}
+use Rattle.slee_disk.specs.Disk.{DiskState, LeavesOnly, is_clean}
 use Rattle.commit_journal.specs.declared.format.Format.TheVariants.{Two}
 use Rattle.commit_journal.specs.declared.limits.TheConstants.{SIDE_FRAME}
 use Rattle.commit_journal.specs.declared.stage.Stage.TheVariants.{Ready}
 use Rattle.commit_journal.specs.Journal.{View, payloads_on}
 use Rattle.commit_journal.specs.Kept.{Keeps}
 use Rattle.commit_journal.specs.Spelling.{records_size, size}
-use Rattle.router_model.specs.State.{Parts, initial}
-use Rattle.router_rules.specs.Step.{after, step_entry}
-use Rattle.router_rules.specs.History.{AreEnabled, AreChoices, replay, Legal}
-use Rattle.router_rules.specs.Payload.{payloads}
+use Rattle.trace_history.specs.Histories.{choices_of}
 use Rattle.trace_history.specs.declared.choice.Choice.{Choice}
 use Rattle.trace_history.specs.declared.entry.Entry.{Entry}
+use Rattle.router_core.specs.States.{IsOwn}
+use Rattle.router_state.specs.State.{State}
+use Rattle.router_steps.specs.Histories.{replay, Legal}
+use Rattle.router_steps.specs.Payloads.{payloads}
+use Rattle.router_steps.specs.Steps.{step_entry}
+use Rattle.router_durable.specs.declared.limits.TheConstants.{BATCH_LIMIT}
 use Rattle.router_durable.specs.declared.fault.Stop.{Stop}
 use Rattle.router_durable.specs.declared.fault.Stop.TheVariants as stops
 use Rattle.router_durable.specs.declared.fault.StepFault.{StepFault}
 use Rattle.router_durable.specs.declared.fault.StepFault.TheVariants as faults
-use Rattle.router_durable.specs.Recovery.{choices_in}
-use Rattle.router_durable.specs.Facts.{Origin, base_of, records_since, RestartsIn, IsCrashSafe, HasRecords, HasRecordsOrMore, HasRoom, IsFullFor, IsFull}
+use Rattle.router_durable.specs.Choices.{AreReadAgain, written_format}
+use Rattle.router_durable.specs.Facts.{AreRead, Origin, base_of, records_since, RestartsIn, IsCrashSafe, HasRecords, HasRecordsOrMore, HasRoom, IsFullFor, IsFull}
 
--- what contracts see of a core
+-- what contracts see of it
 pub record Held (D : Type 0) : Type 0 where
   pub disk : D
   pub origin : Origin
   -- the most bytes of a side of the journal
   pub limit : ℕ
   pub history : List Entry
-  pub state : Parts
   pub acked : ℕ
   pub stop : Option Stop
+
+-- the state: that after the history
+abbrev pub state_held : {D : Type 0} → Held D → State
+state_held h = replay (base_of h.origin) h.history
 
 -- stopped by a fault of the disk
 abbrev pub is_down : Option Stop → Bool
@@ -40,60 +47,97 @@ is_down (Some stops.DiskFault) = true
 is_down (Some (stops.Full length adding)) = false
 is_down (Some stops.NoMemory) = false
 
--- a stop has its cause; no call stops for want of memory
+-- a stop for want of memory, where none stands yet
+abbrev pub halted : Option Stop → Option Stop
+halted None = Some stops.NoMemory
+halted (Some stop) = Some stop
+
+-- A stop has its cause. Want of memory is told by the caller.
 abbrev pub IsStopOf : Origin → ℕ → List Entry → DiskState → Option Stop → Type 0
 IsStopOf o limit history disk None = ⊤
 IsStopOf o limit history disk (Some stops.DiskFault) = Rose o.faults disk.faults
 IsStopOf o limit history disk (Some (stops.Full size adding)) = IsFull o limit history size adding
-IsStopOf o limit history disk (Some stops.NoMemory) = ⊥
+IsStopOf o limit history disk (Some stops.NoMemory) = ⊤
 
--- what is true of the fields of each core
-pub record IsSound {D : Type 0} (j : View D) (disk : DiskState) (o : Origin) (history : List Entry) (parts : Parts) (acked : ℕ) (stop : Option Stop) : Type 0 where
+-- the records of the entries that aren't acknowledged yet
+abbrev pub records_behind : Origin → List Entry → ℕ → List (List ℕ)
+records_behind o history acked = payloads written_format (replay (base_of o) (take acked history)) (choices_of (drop acked history))
+
+-- what is true of the fields of each of them
+pub record IsSound {D : Type 0} (j : View D) (disk : DiskState) (o : Origin) (history : List Entry) (acked : ℕ) (stop : Option Stop) : Type 0 where
   pub legal : Legal (base_of o) history
-  pub state : parts ≡ replay (base_of o) history
-  -- the records that were found are those of choices that may be made from the start
-  pub found : AreEnabled initial (choices_in o.found)
-  pub given : AreChoices (choices_in o.found)
-  pub read : o.found ≡ payloads initial (choices_in o.found)
+  pub again : AreReadAgain (base_of o) (choices_of history)
+  pub found : AreRead o.start o.found
   pub named : j.kept.head.deployment ≡ o.deployment
   pub plain : j.kept.head.snapshot ≡ []
   pub format : j.kept.head.format ≡ Two
   pub stage : is_down stop ≡ false → j.stage ≡ Ready
-  pub batch : is_down stop ≡ false → j.batch ≡ []
-  -- each step is flushed by itself
-  pub whole : is_down stop ≡ false → acked ≡ length history
+  -- what waits in the batch are the records that aren't acknowledged
+  pub batch : is_down stop ≡ false → j.batch ≡ records_behind o history acked
   pub within : acked ≤ length history
-  pub most : length history ≤ acked + 1
   pub tells : IsTrue o.clean → IsTrue o.told
-  pub kept : IsTrue o.told → is_down stop ≡ false → j.kept.payloads ≡ o.found ++ records_since o history
+  pub kept : IsTrue o.told → is_down stop ≡ false → j.kept.payloads ≡ o.found ++ records_since o (take acked history)
   pub seen : IsTrue o.told → is_down stop ≡ false → Keeps j.kept disk.seen
   -- nothing is pending
   pub rest : IsTrue o.told → is_down stop ≡ false → IsTrue (is_clean disk)
+  -- where the disk failed, it was writing the batch
+  pub left : IsTrue o.told → is_down stop ≡ true → (image : Sides) → disk.images image → HasRecordsOrMore o history acked image
   pub counted : IsTrue o.told → payloads_on o.counting ≡ o.found
   pub sized : IsTrue o.told → length o.counting ≡ size j.kept.head o.found
   pub safe : IsCrashSafe o history acked disk
   pub faults : o.faults ≤ disk.faults
   pub cause : IsStopOf o j.limit history disk stop
 
--- How a step ends. A refusal changes nothing, but that one for the size stops the core; where memory ran out,
--- the record had room. What the disk's fault leaves stands in the history.
+-- the same, with the state that it has, and the deployment that it serves
+pub record IsSoundWith {D : Type 0} (j : View D) (disk : DiskState) (o : Origin) (history : List Entry) (acked : ℕ) (stop : Option Stop) (d : Deployment) (s : State) : Type 0 where
+  pub sound : IsSound j disk o history acked stop
+  pub state : s ≡ replay (base_of o) history
+  pub own : IsOwn d s
+
+-- How a planned step is added to the batch: the disk is as it was.
+abbrev pub Adds : {D : Type 0} → Held D → Choice → Result (Unit {0}) StepFault → Held D → Type 0
+Adds old c (Ok done) new = (new ≡ record old { history = old.history ++ step_entry (state_held old) c ∷ [] }) × HasRoom old.origin old.limit old.history c
+Adds old c (Err (faults.Full size adding)) new = (new ≡ record old { stop = Some (stops.Full size adding) }) × IsFullFor old.origin old.limit old.history c size adding
+Adds old c (Err faults.NoMemory) new = (new ≡ old) × HasRoom old.origin old.limit old.history c
+Adds old c (Err faults.DiskFault) new = ⊥
+Adds old c (Err faults.Spent) new = ⊥
+
+-- What a flush does: all entries are acknowledged, and but for the disk nothing else changes; a fault of the disk stops the router.
+abbrev pub Flushes : {D T E : Type 0} → Held D → Result T E → Held D → Type 0
+Flushes old (Ok done) new = new ≡ record old { acked = length old.history; disk = new.disk }
+Flushes old (Err fault) new = new ≡ record old { stop = Some stops.DiskFault; disk = new.disk }
+
+-- How a step ends. A refusal changes nothing, but that one for the size stops the router. Where the disk fails, the step
+-- stands in the history.
 abbrev pub Stepped : {D : Type 0} → Held D → Choice → Result ℕ StepFault → Held D → Type 0
-Stepped old c (Ok number) new = (new.history ≡ old.history ++ step_entry old.state c ∷ []) × (number ≡ length new.history) × (new.stop ≡ None) × (new.state ≡ after old.state c) × HasRoom old.origin old.limit old.history c
-Stepped old c (Err faults.DiskFault) new = (new.history ≡ old.history ++ step_entry old.state c ∷ []) × (new.stop ≡ Some stops.DiskFault) × (new.state ≡ after old.state c) × HasRoom old.origin old.limit old.history c
+Stepped old c (Ok number) new = (new.history ≡ old.history ++ step_entry (state_held old) c ∷ []) × (number ≡ length new.history) × (new.stop ≡ None) × HasRoom old.origin old.limit old.history c
+Stepped old c (Err faults.DiskFault) new = (new.history ≡ old.history ++ step_entry (state_held old) c ∷ []) × (new.stop ≡ Some stops.DiskFault) × HasRoom old.origin old.limit old.history c
 Stepped old c (Err (faults.Full size adding)) new = (new ≡ record old { stop = Some (stops.Full size adding) }) × IsFullFor old.origin old.limit old.history c size adding
-Stepped old c (Err faults.NoMemory) new = (new ≡ old) × HasRoom old.origin old.limit old.history c
+Stepped old c (Err faults.NoMemory) new = new ≡ old
 Stepped old c (Err faults.Spent) new = ⊥
 
--- What a step leaves acknowledged of the history: all of it, since each step is flushed by itself; as many entries as before
--- where it is refused or the disk fails.
-abbrev pub Acknowledges : {T : Type 0} → ℕ → Result T StepFault → List Entry → ℕ → Type 0
-Acknowledges before (Ok made) history acked = acked ≡ length history
-Acknowledges before (Err fault) history acked = acked ≡ before
+-- a step writes the batch where it then has so many bytes or more
+abbrev pub is_written : Origin → List Entry → ℕ → Bool
+is_written o history acked = nat_le BATCH_LIMIT (records_size (records_behind o history acked))
 
--- what is true of each core, whatever was done with it
+-- What a step leaves acknowledged of the history: all of it where it wrote the batch, and as many entries as before where it didn't, or was refused, or the disk failed.
+abbrev pub Acknowledges : {T : Type 0} → Origin → ℕ → Result T StepFault → List Entry → ℕ → Type 0
+Acknowledges o before (Ok made) history acked = acked ≡ (if is_written o history before then length history else before)
+Acknowledges o before (Err fault) history acked = acked ≡ before
+
+-- A step that is made of a choice, or refused.
+pub record Makes {D : Type 0} (before after : DiskState) (old : Held D) (c : Choice) (result : Result ℕ StepFault) (new : Held D) : Type 0 where
+  pub step : Stepped old c result new
+  pub acked : Acknowledges old.origin old.acked result new.history new.acked
+  pub origin : new.origin ≡ old.origin
+  pub limit : new.limit ≡ old.limit
+  pub failed : IsErrOf result faults.DiskFault → Rose before.faults after.faults
+  -- a crash at any moment of it leaves what was acknowledged before it
+  pub any_moment : IsTrue old.origin.told → LeavesOnly before after (RestartsIn old.origin new.history old.acked)
+
+-- what is true of each of them, whatever was done with it
 pub record IsHeld {D : Type 0} (disk : DiskState) (h : Held D) : Type 0 where
   pub legal : Legal (base_of h.origin) h.history
-  pub state : h.state ≡ replay (base_of h.origin) h.history
   pub acked : h.acked ≤ length h.history
   pub safe : IsCrashSafe h.origin h.history h.acked disk
   -- a stop has its cause

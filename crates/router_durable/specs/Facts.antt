@@ -1,4 +1,4 @@
--- What a container keeps of its disk, whatever happens.
+-- What a router over a journal keeps of its disk, whatever happens.
 use Rattle.std.specs.Prelude.{◌≡◌, ◌⊎◌, ℕ, ◌+◌, ◌≤◌, ◌<◌, List, [], ◌++◌, length, take, map, if◌then◌else◌, Bool, IsTrue, Ok}
 use mathlib.Core.List.{IsPrefix}
 use Rattle.slee_disk.specs.declared.side.Side.{Side}
@@ -9,17 +9,32 @@ use Rattle.commit_journal.specs.declared.limits.TheConstants.{RECORD_FRAME}
 use Rattle.commit_journal.specs.Views.{payload_of}
 use Rattle.commit_journal.specs.Journal.{payloads_on}
 use Rattle.commit_journal.specs.Spelling.{records_size}
-use Rattle.router_model.specs.State.{Parts, initial}
-use Rattle.router_rules.specs.Step.{is_enabled, is_choice}
-use Rattle.router_rules.specs.History.{after_all, replay}
-use Rattle.router_rules.specs.Payload.{payload, payloads}
+use Rattle.deploy_model.specs.Resolving.{deployed_of}
+use Rattle.deploy_model.specs.declared.parts.Parts.{Parts}
+use Rattle.script_types.specs.ProgramOf.{kept_program}
+use Rattle.script_types.specs.declared.codes.Codes.{Codes}
 use Rattle.trace_history.specs.Histories.{choices_of}
 use Rattle.trace_history.specs.declared.choice.Choice.{Choice}
 use Rattle.trace_history.specs.declared.entry.Entry.{Entry}
+use Rattle.router_state.specs.Initial.{initial}
+use Rattle.router_state.specs.State.{State}
+use Rattle.router_steps.specs.Histories.{is_choice, replay}
+use Rattle.router_steps.specs.Payloads.{payload, payloads}
+use Rattle.router_steps.specs.Steps.{is_enabled}
+use Rattle.router_durable.specs.Choices.{after_all, AreChoices, AreEnabled, AreReadAgain, written_format}
 use Rattle.router_durable.specs.Recovery.{choices_in, restart, records}
 
--- what a container was opened over, as plain data
+-- Records that were read from a state on: those of choices that may be made one after another, each read back from what is kept of it.
+pub record AreRead (s : State) (found : List (List ℕ)) : Type 0 where
+  pub given : AreChoices (choices_in written_format found)
+  pub enabled : AreEnabled s (choices_in written_format found)
+  pub again : AreReadAgain s (choices_in written_format found)
+  pub spelled : found ≡ payloads written_format s (choices_in written_format found)
+
+-- what a router was opened over, as plain data
 pub record Origin : Type 0 where
+  -- the state of its deployment in which nothing has happened, and the bytes of the deployment's document
+  pub start : State
   pub deployment : List ℕ
   -- the payloads of the records that were found
   pub found : List (List ℕ)
@@ -36,11 +51,12 @@ pub record Origin : Type 0 where
 abbrev pub told_on : Side → DiskState → List ℕ
 told_on side disk = if disk.told then on side disk.seen else []
 
--- what a container was opened over: its deployment, the records that were found, the disk before, and the bytes of the side that counts
-abbrev pub origin_of : List ℕ → List Record → DiskState → List ℕ → Origin
-origin_of deployment records disk counting = record {
+-- what a router was opened over: the first state, the deployment's bytes, the disk before, the records that were found, and the bytes of the side that counts
+abbrev pub origin_over : State → List ℕ → DiskState → List (List ℕ) → List ℕ → Origin
+origin_over start deployment disk found counting = record {
+  start = start;
   deployment = deployment;
-  found = map payload_of records;
+  found = found;
   moment = disk.moment;
   faults = disk.faults;
   told = disk.told;
@@ -48,20 +64,28 @@ origin_of deployment records disk counting = record {
   counting = counting;
 }
 
+-- the same, by the records of a journal
+abbrev pub origin_of : State → List ℕ → List Record → DiskState → List ℕ → Origin
+origin_of start deployment records disk counting = origin_over start deployment disk (map payload_of records) counting
+
+-- the state of a deployment in which nothing has happened
+abbrev pub initial_of : Parts → Codes → State
+initial_of parts codes = initial (deployed_of parts) (kept_program codes)
+
 -- the state that was found
-abbrev pub base_of : Origin → Parts
-base_of o = after_all initial (choices_in o.found)
+abbrev pub base_of : Origin → State
+base_of o = after_all o.start (choices_in written_format o.found)
 
 -- the payloads of the entries of a history that began there
 abbrev pub records_since : Origin → List Entry → List (List ℕ)
-records_since o history = payloads (base_of o) (choices_of history)
+records_since o history = payloads written_format (base_of o) (choices_of history)
 
 -- A restart has the state after so many entries of the history at least, and the records are those found and theirs.
 pub record RestartsIn (o : Origin) (history : List Entry) (least : ℕ) (image : Sides) : Type 0 where
   pub part : List Entry
   pub front : IsPrefix part history
   pub some : least ≤ length part
-  pub state : restart o.deployment image ≡ Ok (replay (base_of o) part)
+  pub state : restart (o.start) o.deployment image ≡ Ok (replay (base_of o) part)
   pub records : records o.deployment image ≡ o.found ++ records_since o part
 
 -- Stopped now, a restart is after the acknowledged entries at least; where nothing was pending when the opening began, it
@@ -86,7 +110,7 @@ size_after o history = length o.counting + records_size (records_since o history
 
 -- how many bytes the record of a choice after the history adds
 abbrev pub size_added : Origin → List Entry → Choice → ℕ
-size_added o history c = RECORD_FRAME + length (payload (replay (base_of o) history) c)
+size_added o history c = RECORD_FRAME + length (payload written_format (replay (base_of o) history) c)
 
 -- the record of a choice after the history fits
 abbrev pub HasRoom : Origin → ℕ → List Entry → Choice → Type 0

@@ -1,3 +1,4 @@
+pub mod Choices
 pub mod Recovery
 pub mod Facts
 pub mod Core

@@ -1,8 +1,9 @@
--- Why a container isn't opened.
-use Rattle.std.specs.Prelude.{◌≡◌, ℕ, ◌+◌, ◌<◌, List, [], ◌∷◌, length, IsTrue, Option, Some, None, Ok, Err}
+-- Why a router over a journal isn't opened.
+use Rattle.std.specs.Prelude.{◌≡◌, ℕ, ◌+◌, ◌≤◌, ◌<◌, List, [], ◌∷◌, length, IsTrue, Option, Some, None, Ok, Err}
 use Rattle.slee_disk.specs.declared.side.Side.{Side}
 use Rattle.slee_disk.specs.Sides.{Sides}
-use Rattle.slee_disk.specs.Disk.{DiskState, LeavesOnly}
+use Rattle.slee_disk.specs.Causes.{Rose}
+use Rattle.slee_disk.specs.Disk.{DiskState, LeavesOnly, is_clean}
 use Rattle.commit_journal.specs.declared.format.Format.{Format}
 use Rattle.commit_journal.specs.declared.record.Record.{Record}
 use Rattle.commit_journal.specs.declared.limits.TheConstants.{SIDE_FRAME}
@@ -11,11 +12,14 @@ use Rattle.commit_journal.specs.declared.fault.JournalFault.{JournalFault}
 use Rattle.commit_journal.specs.declared.fault.JournalFault.TheVariants as journal_faults
 use Rattle.commit_journal.specs.declared.fault.BeginFault.{BeginFault}
 use Rattle.commit_journal.specs.declared.fault.BeginFault.TheVariants as begin_faults
-use Rattle.commit_journal.specs.Reading.{Bad, Other, recovered}
-use Rattle.router_model.specs.State.{Parts, initial}
+use Rattle.commit_journal.specs.Reading.{Bad, Other, Wrong, recovered}
+use Rattle.commit_journal.specs.Spelling.{format_number}
+use Rattle.router_state.specs.State.{State}
 use Rattle.router_durable.specs.declared.fault.OpenFault.{OpenFault}
 use Rattle.router_durable.specs.declared.fault.OpenFault.TheVariants as faults
-use Rattle.router_durable.specs.Recovery.{Misfit, misfit, or_format, past, restart, records}
+use Rattle.router_durable.specs.Core.{Held, IsHeld, state_held}
+use Rattle.router_durable.specs.Facts.{origin_over}
+use Rattle.router_durable.specs.Recovery.{Misfit, misfit, or_format, past, restart, records, counting_side}
 
 -- a fault of the journal, as one of opening
 abbrev pub fault_of : JournalFault → OpenFault
@@ -31,12 +35,12 @@ begin_fault_of (begin_faults.Full size adding) = faults.Full size adding
 begin_fault_of begin_faults.NoMemory = faults.NoMemory
 
 -- A fault is the one that the bytes have. Where it is for the size, nothing is kept yet, and a side with the header alone would be longer than the limit.
-abbrev pub IsOpenCause : ℕ → List ℕ → Sides → OpenFault → Type 0
-IsOpenCause limit deployment sides (faults.BadJournal side at kind) = past deployment sides ≡ Err (Bad side at kind)
-IsOpenCause limit deployment sides (faults.OtherDeployment kept_len place) = past deployment sides ≡ Err (Other kept_len place)
-IsOpenCause limit deployment sides (faults.Full size adding) = (recovered deployment sides ≡ Ok None) × (size ≡ 0) × (adding ≡ SIDE_FRAME + length deployment) × (limit < adding)
-IsOpenCause limit deployment sides faults.DiskFault = Unit {0}
-IsOpenCause limit deployment sides faults.NoMemory = Unit {0}
+abbrev pub IsOpenCause : State → ℕ → List ℕ → Sides → OpenFault → Type 0
+IsOpenCause start limit deployment sides (faults.BadJournal side at kind) = past start deployment sides ≡ Err (Bad side at kind)
+IsOpenCause start limit deployment sides (faults.OtherDeployment kept_len place) = past start deployment sides ≡ Err (Other kept_len place)
+IsOpenCause start limit deployment sides (faults.Full size adding) = (recovered deployment sides ≡ Ok None) × (size ≡ 0) × (adding ≡ SIDE_FRAME + length deployment) × (limit < adding)
+IsOpenCause start limit deployment sides faults.DiskFault = Unit {0}
+IsOpenCause start limit deployment sides faults.NoMemory = Unit {0}
 
 -- Whatever the disk tells, a fault for the size comes only where a side with the header alone would be longer than the limit.
 abbrev pub IsSmall : ℕ → List ℕ → OpenFault → Type 0
@@ -47,8 +51,8 @@ IsSmall limit deployment faults.DiskFault = Unit {0}
 IsSmall limit deployment faults.NoMemory = Unit {0}
 
 -- A restart of these sides has this state, and the records are those of the sides that were seen.
-pub record StandsFor (deployment : List ℕ) (s : Parts) (seen image : Sides) : Type 0 where
-  pub state : restart deployment image ≡ Ok s
+pub record StandsFor (start : State) (deployment : List ℕ) (s : State) (seen image : Sides) : Type 0 where
+  pub state : restart start deployment image ≡ Ok s
   pub records : records deployment image ≡ records deployment seen
 
 -- nothing was written: a stop now leaves nothing else than before, and what was settled stays so
@@ -72,9 +76,9 @@ IsUntouchedFor faults.NoMemory old new = IsUntouched old new
 IsUntouchedFor faults.DiskFault old new = Unit {0}
 
 -- what is wrong with what was found: a snapshot, or the first record that doesn't fit, or the first format
-abbrev pub first_fault : Format → List ℕ → List Record → Option Misfit
-first_fault format [] records = or_format format (misfit initial records)
-first_fault format (b ∷ bs) records = Some (record { at = 0; kind = kinds.Snapshot })
+abbrev pub first_fault : State → Format → List ℕ → List Record → Option Misfit
+first_fault start format [] records = or_format format (misfit (format_number format) start records)
+first_fault start format (b ∷ bs) records = Some (record { at = 0; kind = kinds.Snapshot })
 
 -- why what was found isn't replayed
 abbrev pub IsReplayCause : Side → Option Misfit → OpenFault → Type 0
@@ -83,3 +87,32 @@ IsReplayCause side first faults.NoMemory = Unit {0}
 IsReplayCause side first faults.DiskFault = ⊥
 IsReplayCause side first (faults.OtherDeployment kept_len place) = ⊥
 IsReplayCause side first (faults.Full size adding) = ⊥
+
+-- ---- what opening gives
+
+-- It is opened: no entry stands yet, and the state and the records are those that the bytes stand for.
+pub record Opens {D : Type 0} (old new : DiskState) (start : State) (bytes : List ℕ) (limit : ℕ) (c : Held D) : Type 0 where
+  pub history : c.history ≡ []
+  pub acked : c.acked ≡ 0
+  pub stop : c.stop ≡ None
+  pub limited : c.limit ≡ limit
+  pub origin : c.origin ≡ origin_over start bytes old c.origin.found c.origin.counting
+  pub found : IsTrue old.told → records bytes old.seen ≡ c.origin.found
+  pub counting : IsTrue old.told → c.origin.counting ≡ counting_side bytes new.seen
+  pub state : IsTrue old.told → restart start bytes old.seen ≡ Ok (state_held c)
+  -- where nothing was kept, a side with the header alone has room
+  pub fits : IsTrue old.told → recovered bytes old.seen ≡ Ok None → SIDE_FRAME + length bytes ≤ limit
+  -- a crash at any moment leaves the state and the records that were there
+  pub any_moment : IsTrue (is_clean old) → LeavesOnly old new (StandsFor start bytes (state_held c) old.seen)
+  pub held : IsHeld new c
+
+-- It isn't opened, and the fault is the one that the bytes have.
+pub record IsRefused (old new : DiskState) (start : State) (bytes : List ℕ) (limit : ℕ) (fault : OpenFault) : Type 0 where
+  pub cause : IsTrue old.told → IsOpenCause start limit bytes old.seen fault
+  pub small : IsSmall limit bytes fault
+  pub failed : fault ≡ faults.DiskFault → Rose old.faults new.faults
+  pub untouched : IsUntouchedFor fault old new
+  -- a crash at any moment leaves the state and the records that were there
+  pub any_moment : IsTrue (is_clean old) → (s : State) → restart start bytes old.seen ≡ Ok s → LeavesOnly old new (StandsFor start bytes s old.seen)
+  -- bytes that stand for no state are left alone
+  pub left_alone : IsTrue old.told → (wrong : Wrong) → restart start bytes old.seen ≡ Err wrong → IsLeftAlone old new

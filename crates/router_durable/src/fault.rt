@@ -23,7 +23,7 @@ pub enum Stop {
     DiskFault,
     /// A record had no room: the numbers are those of the step's refusal.
     Full { length: u64, adding: u64 },
-    /// No call stops for want of memory yet.
+    /// Its caller had no memory to go on.
     NoMemory,
 }
 

@@ -5,7 +5,7 @@ use Rattle.router_laws_applying.proofs.Trees.{entity_found, kid_row, map_in, ris
 use Rattle.router_laws_applying.proofs.Behind.{kids_old}
 use Rattle.router_laws_applying.specs.Behind.{IsBehind}
 use Rattle.router_laws_applying.specs.Suited.{ChildrenAfter, FieldsSuit, Lives, ValueFits}
-use Rattle.router_laws_applying.proofs.References.{told_by_state}
+use Rattle.router_laws_effects.proofs.GuardLemmas.{told_by_state}
 use Rattle.router_laws_effects.specs.Guards.{IsUsed, IsUsedActive, NameAfter, SeenAfter}
 use Rattle.router_laws_effects.specs.Runs.{IsOld, activity_seen}
 use Rattle.router_laws_sound.proofs.SoundEntities.{passes_in}

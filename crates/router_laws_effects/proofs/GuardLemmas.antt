@@ -110,7 +110,7 @@ none_new (row ∷ rows) n a below = let other : (row.number.0 == (n + a)) ≡ fa
     apart x n a less = grind (arith, nat_tests)
 
 -- what the answers of a state tell of an activity is what is seen there
-told_by_state : (s : State) (r : Ref) → AllByRecursion (λ row. row.number.0 < s.next_activity) s.activities
+pub told_by_state : (s : State) (r : Ref) → AllByRecursion (λ row. row.number.0 < s.next_activity) s.activities
     → activity_in (option_and_then (answers_in s) (read.key_of (λ n. keys.AcState (record { 0 = n })) r)) ≡ activity_seen (next_in s) s r
 told_by_state s (Known n) below = refl
 told_by_state s (Fresh n) below = rw (none_new s.activities s.next_activity n below) refl

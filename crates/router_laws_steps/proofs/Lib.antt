@@ -13,3 +13,4 @@ pub mod ToldLines
 pub mod ToldSteps
 pub mod HoldsTold
 pub mod RunLemmas
+pub mod AppliedSteps

@@ -1,3 +1,4 @@
+pub mod Texts
 pub mod SpelledRuns
 pub mod SpelledTerms
 pub mod SpelledSteps

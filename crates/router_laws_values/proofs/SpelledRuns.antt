@@ -15,7 +15,9 @@ use Rattle.script_meaning.specs.declared.outcome.FailKind.TheVariants as f
 use Rattle.script_meaning.specs.Seeing.{same_key}
 use Rattle.script_meaning.specs.Running.{Setting, Variable, State, Ending, Gave, Broke, Needs, Stays, Run, then_run, give, break, tested, tick_at, ticked, observe, answered, look, effects_of, key_limit}
 use Rattle.script_meaning.specs.Values.{with_int, with_text, with_flag, with_activity, with_timer}
+use Rattle.router_laws_values.proofs.Texts.{failure_text}
 use Rattle.router_laws_values.specs.Spelled.{AnswerSpelled, IsSpelled, SettingSpelled}
+use Rattle.router_state.specs.Fits.{is_text}
 
 -- whatever is given
 abbrev pub Any : {A : Type 0} → A → Type 0
@@ -25,9 +27,10 @@ Any x = Unit {0}
 abbrev pub IsAt : Setting → List Effect → List Variable → State → Type 0
 IsAt m es vs st = (m.effects ++ st.effects ≡ es) × (st.variables ≡ vs)
 
--- a part gives something of which this is so, and leaves effects and variables; or it gives nothing
+-- a part gives something of which this is so, and leaves effects and variables; or it gives nothing, and the text of its failure is one
 abbrev pub Gives : {A : Type 0} → Setting → List Effect → List Variable → (A → Type 0) → Ending A → Type 0
 Gives m es vs P (Gave x st) = P x × IsAt m es vs st
+Gives m es vs P (Broke kind text st) = is_text text ≡ true
 Gives m es vs P _ = Unit {0}
 
 -- what is made of an answer and of the effects so far
@@ -37,7 +40,7 @@ reads m key g st = then_run (look m key st) (λ seen new. then_run (effects_of m
 module _ (m : Setting) (told : SettingSpelled m) (es : List Effect) (vs : List Variable) where
   pub gives_then : {A B : Type 0} (P : A → Type 0) (Q : B → Type 0) (r : Ending A) (g : A → Run B) → Gives m es vs P r → ((x : A) (st : State) → P x → IsAt m es vs st → Gives m es vs Q (g x st)) → Gives m es vs Q (then_run r g)
   gives_then P Q (Gave x st) g h go = go x st h.0 h.1
-  gives_then P Q (Broke kind text st) g h go = tt
+  gives_then P Q (Broke kind text st) g h go = h
   gives_then P Q (Needs key) g h go = tt
   gives_then P Q Stays g h go = tt
 
@@ -50,7 +53,7 @@ module _ (m : Setting) (told : SettingSpelled m) (es : List Effect) (vs : List V
   gives_either P false x y h g = g
 
   tick_gives : {A : Type 0} (P : A → Type 0) (x : Run A) (n : ℕ) (st : State) → ((left : ℕ) → Gives m es vs P (x (record st { left = left }))) → Gives m es vs P (then_run (tick_at n st) (λ _. x))
-  tick_gives P x zero st h = tt
+  tick_gives P x zero st h = failure_text f.Budget
   tick_gives P x (suc n) st h = h n
 
   pub gives_tick : {A : Type 0} (P : A → Type 0) (x : Run A) (st : State) → IsAt m es vs st → ((st : State) → IsAt m es vs st → Gives m es vs P (x st)) → Gives m es vs P (ticked x st)
@@ -58,7 +61,7 @@ module _ (m : Setting) (told : SettingSpelled m) (es : List Effect) (vs : List V
 
   pub gives_tested : {A : Type 0} (P : A → Type 0) (kind : FailKind) (b : Bool) (x : Run A) (st : State) → Gives m es vs P (x st) → Gives m es vs P (then_run (tested kind b st) (λ _. x))
   gives_tested P kind true x st h = h
-  gives_tested P kind false x st h = tt
+  gives_tested P kind false x st h = failure_text kind
 
   pub gives_int : {A : Type 0} (P : A → Type 0) (x : Val) (g : ℤ → Run A) (st : State) → IsSpelled x → ((n : ℤ) → IsSpelled (Plain (v.Int n)) → Gives m es vs P (g n st)) → Gives m es vs P (with_int x g st)
   gives_int P (Plain (v.Int n)) g st is go = go n is
@@ -88,7 +91,7 @@ module _ (m : Setting) (told : SettingSpelled m) (es : List Effect) (vs : List V
       let new : Ending (Unit {0}) = Gave tt (record st { keys = st.keys ++ key ∷ [] }) in
       let full : Ending (Unit {0}) = break f.Observed st in
       gives_either {A = Unit {0}} Any (list_any (same_key key) m.keys || list_any (same_key key) st.keys) (Gave tt st) (cond (nat_lt (length m.keys + length st.keys) key_limit) new full) (tt, here)
-      (gives_either {A = Unit {0}} Any (nat_lt (length m.keys + length st.keys) key_limit) new full (tt, here) tt)
+      (gives_either {A = Unit {0}} Any (nat_lt (length m.keys + length st.keys) key_limit) new full (tt, here) (failure_text f.Observed))
 
   answered_gives : (o : Option Seen) (key : Key) (st : State) → AnswerSpelled o → IsAt m es vs st → Gives m es vs AnswerSpelled (answered o key st)
   answered_gives None key st h here = tt

@@ -32,6 +32,7 @@ use Rattle.script_meaning.specs.Meaning.{start}
 use Rattle.script_meaning.specs.Terms.{eval}
 use Rattle.script_meaning.specs.Values.{activity_value, with_flag, with_int, with_text, with_activity, with_timer}
 use Rattle.router_laws_values.specs.Spelled.{ActivitiesSpelled, AssigningSpelled, EffectSpelled, EntitiesSpelled, IsSpelled, MethodsSpelled, RankSpelled, RepeatSpelled, SayingSpelled, SettingSpelled, StepSpelled, StepsSpelled, TermSpelled, TimersSpelled, VariableSpelled}
+use Rattle.router_laws_values.proofs.Texts.{failure_text}
 use Rattle.router_laws_values.proofs.SpelledRuns.{Any, Gives}
 use Rattle.router_laws_values.proofs.SpelledTerms.{initial_is, activities_gives, activity_is, attached_gives, child_gives, children_gives, eval_gives, named_gives, now_gives, used_active_gives, used_gives}
 use Rattle.router_state.specs.Fits.{is_i64, is_text}
@@ -74,9 +75,10 @@ values_held (x ∷ xs) h = (h.0, values_held xs h.1)
 abbrev pub IsGood : List Effect → State → Type 0
 IsGood before st = AllByRecursion EffectSpelled (before ++ st.effects) × (length st.effects ≤ effect_limit) × AllByRecursion VariableSpelled st.variables
 
--- a part gives something of which this is so, and leaves a good run; or it gives nothing
+-- a part gives something of which this is so, and leaves a good run; or it gives nothing, and the text of its failure is one
 abbrev pub Does : {A : Type 0} → List Effect → (A → Type 0) → Ending A → Type 0
 Does before P (Gave x st) = P x × IsGood before st
+Does before P (Broke kind text st) = is_text text ≡ true
 Does before P _ = Unit {0}
 
 -- what comes behind a step has a spelling
@@ -87,13 +89,13 @@ FlowSpelled (Returned x) = IsSpelled x
 module _ (before : List Effect) where
   pub does_then : {A B : Type 0} (P : A → Type 0) (Q : B → Type 0) (r : Ending A) (g : A → Run B) → Does before P r → ((x : A) (st : State) → P x → IsGood before st → Does before Q (g x st)) → Does before Q (then_run r g)
   does_then P Q (Gave x st) g h go = go x st h.0 h.1
-  does_then P Q (Broke kind text st) g h go = tt
+  does_then P Q (Broke kind text st) g h go = h
   does_then P Q (Needs key) g h go = tt
   does_then P Q Stays g h go = tt
 
   does_tested : {A : Type 0} (Q : A → Type 0) (kind : FailKind) (b : Bool) (x : Run A) (st : State) → Does before Q (x st) → Does before Q (then_run (tested kind b st) (λ _. x))
   does_tested Q kind true x st h = h
-  does_tested Q kind false x st h = tt
+  does_tested Q kind false x st h = failure_text kind
 
   does_if : {A : Type 0} (Q : A → Type 0) (b : Bool) (x y : Ending A) → (b ≡ true → Does before Q x) → Does before Q y → Does before Q (cond b x y)
   does_if Q true x y h g = h refl
@@ -130,7 +132,7 @@ module _ (before : List Effect) where
       let new : Ending (Unit {0}) = Gave tt (record st { effects = st.effects ++ e ∷ [] }) in
       let full : Ending (Unit {0}) = break f.TooMuch st in
       does_if {A = Unit {0}} Any (nat_lt (length st.effects) effect_limit) (cond (nat_le (bytes_of (st.effects ++ e ∷ [])) effect_bytes_limit) new full) full
-      (λ room. does_if {A = Unit {0}} Any (nat_le (bytes_of (st.effects ++ e ∷ [])) effect_bytes_limit) new full (λ _. with_effect e st h room good) tt) tt
+      (λ room. does_if {A = Unit {0}} Any (nat_le (bytes_of (st.effects ++ e ∷ [])) effect_bytes_limit) new full (λ _. with_effect e st h room good) (failure_text f.TooMuch)) (failure_text f.TooMuch)
 
   declare_does : (x : Variable) (st : State) → VariableSpelled x → IsGood before st → Does before Any (declare x st)
   declare_does x st h good = (tt, (good.0, good.1, all_appended VariableSpelled st.variables x good.2 h))
@@ -142,7 +144,7 @@ module _ (before : List Effect) where
       does_if {A = Unit {0}} Any (nat_lt i (length st.variables)) new none (λ _. (tt, (good.0, good.1, set_variable st.variables i (Holds x) h good.2))) tt
 
   tick_does : {A : Type 0} (P : A → Type 0) (x : Run A) (n : ℕ) (st : State) → ((left : ℕ) → Does before P (x (record st { left = left }))) → Does before P (then_run (tick_at n st) (λ _. x))
-  tick_does P x zero st h = tt
+  tick_does P x zero st h = failure_text f.Budget
   tick_does P x (suc n) st h = h n
 
   ticked_does : {A : Type 0} (P : A → Type 0) (x : Run A) (st : State) → IsGood before st → ((st : State) → IsGood before st → Does before P (x st)) → Does before P (ticked x st)
@@ -171,7 +173,7 @@ module _ (before : List Effect) where
   choose_does t x y st h g good = flag_does t (λ b. either b x y) st (λ b. either_does b x y st h g good)
 
   turns_does : (n : ℕ) (test : Run Val) (body : Run Flow) → ((st : State) → IsGood before st → Does before IsSpelled (test st)) → Always body → Always (turns n test body)
-  turns_does zero test body h g st good = tt
+  turns_does zero test body h g st good = failure_text f.Budget
   turns_does (suc n) test body h g st good =
       let go : Run Flow = λ st. then_run (body st) (λ flow. followed flow (turns n test body)) in
       does_then IsSpelled FlowSpelled (test st) (λ x. choose x go (give Next)) (h st good) (λ x new _ kept. choose_does x go (give Next) new
@@ -198,7 +200,7 @@ module _ (m : Setting) (told : SettingSpelled m) (small : length m.effects < 2 ^
     where
       same : (i j k n o : ℕ) → n ≡ i + j → o ≡ i + k → n ≡ o → k ≤ 256 → j ≤ 256
       same i j k n o one two is le = omega (arith, one, two, is, le)
-  lift P st (Broke kind text su) good h = tt
+  lift P st (Broke kind text su) good h = h
   lift P st (Needs key) good h = tt
   lift P st Stays good h = tt
 
@@ -333,7 +335,7 @@ module _ (m : Setting) (told : SettingSpelled m) (small : length m.effects < 2 ^
   says_does (p.Emit a) st h good = does_then m.effects (λ t. is_text t ≡ true) FlowSpelled (doing.text_of m a st) _ (text_does a st h good) (λ t new is kept. next_does m.effects (effect (ef.Emit m.me t)) new (effect_does m.effects (ef.Emit m.me t) new is kept))
   says_does (p.Usage name a) st h good = does_then m.effects (λ n. is_i64 n ≡ true) FlowSpelled (doing.int_of m a st) _ (int_does a st h good) (λ n new _ kept. next_does m.effects (effect (ef.Usage m.me name n)) new (effect_does m.effects (ef.Usage m.me name n) new tt kept))
   says_does (p.Return a) st h good = does_then m.effects IsSpelled FlowSpelled (eval m a st) _ (eval_does a st h good) (λ x new is kept. (is, kept))
-  says_does (p.Throw a) st h good = does_then m.effects (λ t. is_text t ≡ true) FlowSpelled (doing.text_of m a st) _ (text_does a st h good) (λ t new _ kept. tt)
+  says_does (p.Throw a) st h good = does_then m.effects (λ t. is_text t ≡ true) FlowSpelled (doing.text_of m a st) _ (text_does a st h good) (λ t new is kept. is)
   says_does p.Rollback st h good = next_does m.effects ask_rollback st (tt, good)
 
   items_does : (r : Range) (st : State) → IsGood m.effects st → Does m.effects (AllByRecursion VariableSpelled) (items m r st)
@@ -410,7 +412,7 @@ told_in m me masks told = record { answers = told.answers; fields = told.fields;
 calls_do : (program : Program) → MethodsSpelled program → (m : Setting) → SettingSpelled m → length m.effects < 2 ^ 61 → (d : ℕ) (me : Ref) (masks : List (List ℕ)) (b n : ℕ) (e : Ref) (xs : List Val) (keeps : Bool) (st : State) → AllByRecursion IsSpelled xs → IsGood m.effects st
     → Does m.effects Any (call_at (record m { me = me; masks = masks }) program d b n e xs keeps st)
 unfolding call_at
-calls_do program all m told small zero me masks b n e xs keeps st are good = tt
+calls_do program all m told small zero me masks b n e xs keeps st are good = failure_text f.Depth
 calls_do program all m told small (suc d) me masks b n e xs keeps st are good =
     found_does m.effects Any (slice_get program b) _ st (λ block is.
     found_does m.effects Any (slice_get block.methods n) _ st (λ method same.
@@ -432,3 +434,8 @@ run_spelled m program steps flow st su told small methods own good is =
 pub run_begins : (m : Setting) (program : Program) (steps : Steps) (flow : Flow) (su : State) → SettingSpelled m → length m.effects < 2 ^ 61 → AllByRecursion EffectSpelled m.effects → MethodsSpelled program → StepsSpelled steps → act_all m (call_at m program 8) steps start ≡ Gave flow su → AllByRecursion EffectSpelled (m.effects ++ su.effects)
 run_begins m program steps flow su told small earlier methods own is =
     run_spelled m program steps flow start su told small methods own (subst (AllByRecursion EffectSpelled) (sym (append-nil m.effects)) earlier, omega arith, tt) is
+
+-- the text of a run's failure is a text
+pub run_fails : (m : Setting) (program : Program) (steps : Steps) (kind : FailKind) (text : List ℕ) (su : State) → SettingSpelled m → length m.effects < 2 ^ 61 → AllByRecursion EffectSpelled m.effects → MethodsSpelled program → StepsSpelled steps → act_all m (call_at m program 8) steps start ≡ Broke kind text su → is_text text ≡ true
+run_fails m program steps kind text su told small earlier methods own is =
+    subst (λ (r : Ending Flow). Does m.effects FlowSpelled r) is (act_all_does m told small (call_at m program 8) (calls_do program methods m told small 8 m.me m.masks) steps own start (subst (AllByRecursion EffectSpelled) (sym (append-nil m.effects)) earlier, omega arith, tt))

@@ -4,13 +4,12 @@ use Rattle.std.specs.Prelude.{◌-◌, pos, negsuc, nat_le, int_lt, int_le, code
 use Rattle.std.specs.Fmt.{signed_decimal}
 use Rattle.std.specs.List.{AllByRecursion}
 use Rattle.std.specs.Ordering.{int_eq}
-use Rattle.std.specs.Str.{IsAscii, IsUtf8, is_utf8}
+use Rattle.std.specs.Str.{is_utf8}
 use Rattle.std.proofs.lemmas.Bool.{and_from, and_parts, cond_both, lt-ltb, ltb-true, leb-true}
 use Rattle.std.proofs.lemmas.Bool.Decides.{nat_tests}
 use Rattle.std.proofs.lemmas.Fmt.{IsAscii-signed, length_signed_le}
 use Rattle.std.proofs.lemmas.List.{length-append}
-use Rattle.std.proofs.lemmas.Str.{IsUtf8-append, IsUtf8-from_ascii, IsUtf8-from_is_utf8, IsUtf8-nil, is_utf8-from_IsUtf8}
-use Rattle.std.proofs.lemmas.Str.Ascii.{IsAscii-nil}
+use Rattle.std.proofs.lemmas.Str.{IsUtf8-append, IsUtf8-from_ascii, IsUtf8-from_is_utf8}
 use lib.Signed.{mag}
 use Rattle.slee_value.specs.declared.kind.Kind.{Kind}
 use Rattle.slee_value.specs.declared.kind.Kind.TheVariants as kinds
@@ -43,6 +42,7 @@ use Rattle.script_meaning.specs.Running.{Ending, Gave, Setting, Variable, Holds,
 use Rattle.script_meaning.specs.Values.{int, text, activity_value, number, divided, joined, text_limit, apply, decides, same_values, is_less, compare}
 use Rattle.script_meaning.specs.Observing as read
 use Rattle.script_meaning.specs.Terms.{or_initial, field_at, single, is_masked, looked_up, in_row, of_row, row, ask, combine, node, eval}
+use Rattle.router_laws_values.proofs.Texts.{empty_text, failure_text, utf8_text, word_text}
 use Rattle.router_laws_values.specs.Spelled.{AnswerSpelled, AtomSpelled, EffectSpelled, IsSpelled, SettingSpelled, TermSpelled, VariableSpelled}
 use Rattle.router_laws_values.proofs.SpelledRuns.{Any, Gives, IsAt, gives_activity, gives_cond, gives_flag, gives_int, gives_text, gives_tested, gives_then, gives_tick, gives_timer, look_gives, reads_gives}
 use Rattle.router_state.specs.Fits.{is_i64, is_text, is_u32}
@@ -59,9 +59,6 @@ count_fits n less = grind (arith, nat_tests, less)
 mag_fits : (n : ℤ) → is_i64 n ≡ true → mag n < 2 ^ 63
 mag_fits (pos n) is = grind (arith, nat_tests, is)
 mag_fits (negsuc n) is = grind (arith, nat_tests, is)
-
-utf8_text : (text : List ℕ) → IsUtf8 text → is_u32 (length text) ≡ true → is_text text ≡ true
-utf8_text text utf8 short = and_from (is_utf8 text) _ (is_utf8-from_IsUtf8 text utf8) short
 
 decimal_text : (n : ℤ) → is_i64 n ≡ true → is_text (signed_decimal n) ≡ true
 decimal_text n is =
@@ -147,7 +144,7 @@ RowIs (Some values) = AllByRecursion (λ (x : List ℕ × Value). IsSpelled (Pla
 
 pub initial_is : (q : Kind) → IsSpelled (initial q)
 initial_is kinds.Int = refl
-initial_is kinds.Text = utf8_text [] IsUtf8-nil refl
+initial_is kinds.Text = empty_text
 initial_is kinds.Bool = tt
 initial_is kinds.Activity = tt
 initial_is kinds.Timer = tt
@@ -193,17 +190,9 @@ variable_at [] i h = tt
 variable_at (x ∷ xs) zero h = h.0
 variable_at (x ∷ xs) (suc i) h = variable_at xs i h.1
 
-ascii_cons : (b : ℕ) (bs : List ℕ) → b < 128 → IsAscii bs → IsAscii (b ∷ bs)
-ascii_cons b bs less all zero = less
-ascii_cons b bs less all (suc i) = all i
-
-all_ascii : (bs : List ℕ) → AllByRecursion (λ b. b < 128) bs → IsAscii bs
-all_ascii [] all = IsAscii-nil
-all_ascii (b ∷ bs) all = ascii_cons b bs all.0 (all_ascii bs all.1)
-
 flag_text : (b : Bool) → is_text (if b then codes "true" else codes "false") ≡ true
-flag_text true = utf8_text (codes "true") (IsUtf8-from_ascii (codes "true") (all_ascii (codes "true") (omega arith, (omega arith, (omega arith, (omega arith, tt)))))) refl
-flag_text false = utf8_text (codes "false") (IsUtf8-from_ascii (codes "false") (all_ascii (codes "false") (omega arith, (omega arith, (omega arith, (omega arith, (omega arith, tt))))))) refl
+flag_text true = word_text (codes "true") refl refl
+flag_text false = word_text (codes "false") refl refl
 
 module _ (m : Setting) (told : SettingSpelled m) (es : List Effect) (vs : List Variable) (done : AllByRecursion EffectSpelled es) (few : length es < 2 ^ 62) (given : AllByRecursion VariableSpelled vs) where
   -- what is read of the state
@@ -252,7 +241,7 @@ module _ (m : Setting) (told : SettingSpelled m) (es : List Effect) (vs : List V
   row_gives table name st here = gives_then m told es vs AnswerSpelled RowIs (look m (Some (keys.Profile table name)) st) _ (look_gives m told es vs (Some (keys.Profile table name)) st here) (λ seen new h kept. (told_row seen h, kept))
 
   there_gives : (o : Option AcSeen) (st : State) → IsAt m es vs st → Gives m es vs Any (read.there o st)
-  there_gives None st here = tt
+  there_gives None st here = failure_text f.Gone
   there_gives (Some seen) st here = (tt, here)
 
   pub used_gives : (r : Ref) (st : State) → IsAt m es vs st → Gives m es vs Any (read.used m r st)
@@ -298,13 +287,13 @@ module _ (m : Setting) (told : SettingSpelled m) (es : List Effect) (vs : List V
 
   -- operators
   number_gives : (n : ℤ) (st : State) → IsAt m es vs st → Gives m es vs IsSpelled (number n st)
-  number_gives n st here = gives_cond m told es vs IsSpelled (int_le (negsuc (2 ^ 63 - 1)) n && int_lt n (pos (2 ^ 63))) (give (int n)) (break f.Overflow) st (λ is. (number_fits n is, here)) (λ _. tt)
+  number_gives n st here = gives_cond m told es vs IsSpelled (int_le (negsuc (2 ^ 63 - 1)) n && int_lt n (pos (2 ^ 63))) (give (int n)) (break f.Overflow) st (λ is. (number_fits n is, here)) (λ _. failure_text f.Overflow)
 
   divided_gives : (by : ℤ → ℤ → ℤ) (x y : ℤ) (st : State) → IsAt m es vs st → Gives m es vs IsSpelled (divided by x y st)
-  divided_gives by x y st here = gives_cond m told es vs IsSpelled (int_eq y (pos 0)) (break f.ZeroDivisor) (number (by x y)) st (λ _. tt) (λ _. number_gives (by x y) st here)
+  divided_gives by x y st here = gives_cond m told es vs IsSpelled (int_eq y (pos 0)) (break f.ZeroDivisor) (number (by x y)) st (λ _. failure_text f.ZeroDivisor) (λ _. number_gives (by x y) st here)
 
   joined_gives : (x y : List ℕ) (st : State) → is_text x ≡ true → is_text y ≡ true → IsAt m es vs st → Gives m es vs IsSpelled (joined x y st)
-  joined_gives x y st one two here = gives_cond m told es vs IsSpelled (nat_le (length x + length y) text_limit) (give (text (x ++ y))) (break f.TooLong) st (λ short. (joined_text x y one two short, here)) (λ _. tt)
+  joined_gives x y st one two here = gives_cond m told es vs IsSpelled (nat_le (length x + length y) text_limit) (give (text (x ++ y))) (break f.TooLong) st (λ short. (joined_text x y one two short, here)) (λ _. failure_text f.TooLong)
 
   apply_gives : (operator : Joint) (x y : Val) (st : State) → IsSpelled x → IsSpelled y → IsAt m es vs st → Gives m es vs IsSpelled (apply operator x y st)
   apply_gives j.Add x y st h k here = gives_int m told es vs IsSpelled x _ st h (λ p _. gives_int m told es vs IsSpelled y _ st k (λ q _. number_gives (p +ℤ q) st here))
@@ -337,19 +326,19 @@ module _ (m : Setting) (told : SettingSpelled m) (es : List Effect) (vs : List V
 
   -- questions
   masked_gives : (event : List ℕ) (o : Option (List (List ℕ))) (st : State) → IsAt m es vs st → Gives m es vs IsSpelled (is_masked event o st)
-  masked_gives event None st here = tt
+  masked_gives event None st here = failure_text f.Detached
   masked_gives event (Some names) st here = (tt, here)
 
   looked_up_gives : (o : Option Ref) (st : State) → IsAt m es vs st → Gives m es vs IsSpelled (looked_up o st)
-  looked_up_gives None st here = tt
+  looked_up_gives None st here = failure_text f.Unbound
   looked_up_gives (Some r) st here = (activity_is r, here)
 
   in_row_gives : (kind : Kind) (o : Option Val) (st : State) → MayBe o → IsAt m es vs st → Gives m es vs IsSpelled (in_row kind o st)
-  in_row_gives kind None st h here = tt
-  in_row_gives kind (Some x) st h here = gives_cond m told es vs IsSpelled (is_of kind x) (give x) (break f.NoRow) st (λ _. (h, here)) (λ _. tt)
+  in_row_gives kind None st h here = failure_text f.NoRow
+  in_row_gives kind (Some x) st h here = gives_cond m told es vs IsSpelled (is_of kind x) (give x) (break f.NoRow) st (λ _. (h, here)) (λ _. failure_text f.NoRow)
 
   of_row_gives : (name : List ℕ) (kind : Kind) (o : Option (List (List ℕ × Value))) (st : State) → RowIs o → IsAt m es vs st → Gives m es vs IsSpelled (of_row name kind o st)
-  of_row_gives name kind None st h here = tt
+  of_row_gives name kind None st h here = failure_text f.NoRow
   of_row_gives name kind (Some values) st h here = in_row_gives kind (value_under name values) st (under name values h) here
 
   ask_gives : (question : Question) (x : Val) (st : State) → IsSpelled x → IsAt m es vs st → Gives m es vs IsSpelled (ask m question x st)

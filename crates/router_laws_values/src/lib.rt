@@ -3,4 +3,7 @@
 
 mod values;
 
-pub use values::{values_of_effects_have_a_spelling, values_of_expressions_have_a_spelling};
+pub use values::{
+    texts_of_failures_are_texts, values_of_effects_have_a_spelling,
+    values_of_expressions_have_a_spelling,
+};

@@ -1,10 +1,12 @@
 -- What is found among entries is what is found among the rows that they stand for.
-use Rattle.std.proofs.Common.{◌≡◌, ℕ, ◌==◌, Bool, true, false, List, [], ◌∷◌, Option, Some, None, refl, sym, ap, ◌∙◌, arith, inl, inr}
+use Rattle.std.proofs.Common.{◌≡◌, ℕ, ◌<◌, ◌==◌, Bool, true, false, List, [], ◌∷◌, Option, Some, None, Ordering, length, get_or, nat_lt, refl, sym, ap, ◌∙◌, arith, inl, inr}
 use Rattle.std.specs.Prelude.{◌&&◌, IsTrue, option_map}
-use Rattle.std.specs.List.{filter, find, list_any}
+use Rattle.std.specs.List.{HoldsAt, filter, find, list_any}
+use Rattle.std.specs.Ordering.{nat_cmp}
 use Rattle.std.specs.Option.{option_map_or}
 use Rattle.std.proofs.lemmas.Bool.{cases_Bool, and_parts}
 use Rattle.std.proofs.lemmas.Bool.Decides.{nat_tests}
+use Rattle.std.proofs.lemmas.List.Folds.{list_any_at}
 use Rattle.slee_value.specs.declared.convergence.ConvName.{ConvName}
 use Rattle.script_meaning.specs.Same.{same_name}
 use Rattle.rows_sorted.specs.Orders.{rises_by}
@@ -123,3 +125,17 @@ entry_passes rows passes e rest left b cut is mine = rw cut (by (find (λ (row :
         let own : passes row ≡ true = rw some at tells in
         let number = found_number (λ (r : RootName). r.entity.0) e.number row rows some in
         rw (some, own) (ap (λ (n : ℕ). Some n) number)
+
+-- a number that stands at a place is among the numbers
+
+alike : (x y : ℕ) → nat_cmp x y ≡ Ordering.Equal → (x == y) ≡ true
+alike x y is = elim (cases_Bool (nat_lt x y)) [
+  | inl less ↦ absurd (let wrong : Ordering.Less ≡ Ordering.Equal = rw less at is in cc)
+  | inr other ↦ elim (cases_Bool (x == y)) [
+    | inl same ↦ same
+    | inr apart ↦ absurd (let wrong : Ordering.Greater ≡ Ordering.Equal = rw (other, apart) at is in cc)
+  ]
+]
+
+pub found_among : (numbers : List ℕ) (n i : ℕ) → i < length numbers → HoldsAt (λ (e : ℕ). nat_cmp e n ≡ Ordering.Equal) numbers i → true ≡ list_any (λ (e : ℕ). e == n) numbers
+found_among numbers n i within holds = sym (list_any_at (λ (e : ℕ). e == n) numbers i 0 within (alike (get_or numbers i 0) n (holds 0)))

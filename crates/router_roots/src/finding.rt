@@ -12,12 +12,23 @@ use rows_index::Entry;
 use rows_leaves::Run;
 use slee_value::{ConvName, EntityId};
 
+/// Whether the number is one of these. Where they rise, one that is among them is found by halves.
+#[tactic(auto, using(crate::proofs::FindLemmas::found_among))]
+fn is_among(numbers: &[u64], number: u64) -> bool
+    ensures { result ≡ list_any (λ e. e == number) numbers.now }
+{
+    match numbers.binary_search(&number) {
+        Ok(_) => true,
+        Err(_) => numbers.contains(&number),
+    }
+}
+
 /// Whether one of the entries isn't among these numbers.
 pub fn has_other(entries: Run<'_, Entry>, numbers: &[u64]) -> bool
     ensures { result ≡ list_any (λ entry. not (list_any (λ e. e == entry.number) numbers.now)) entries.entry }
 {
     'entries: for entry in entries {
-        if !numbers.contains(&entry.number) {
+        if !is_among(numbers, entry.number) {
             return true;
         }
     }

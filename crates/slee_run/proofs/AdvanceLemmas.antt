@@ -16,12 +16,12 @@ use Rattle.router_rules.specs.History.{due, due_next, line_choice, least_choice,
 use Rattle.router_rules.specs.declared.kindred.Kindred.{Kindred}
 use Rattle.router_rules.specs.declared.kindred.Kindred.TheVariants as kindreds
 use Rattle.slee_value.specs.declared.ids.ActivityId.{ActivityId}
-use Rattle.router_durable.specs.declared.fault.StepFault.{StepFault}
-use Rattle.router_durable.specs.declared.fault.StepFault.TheVariants as faults
-use Rattle.slee_container.specs.declared.fault.Work.{Work}
-use Rattle.slee_container.specs.declared.fault.Work.TheVariants as works
-use Rattle.slee_container.specs.declared.ticket.Ticket.{Ticket}
-use Rattle.slee_container.specs.Container.{View, Makes, is_spent, is_claimed, unclaimed, is_left, line_or, work_on, work_left, next_work}
+use Rattle.built_in_durable.specs.declared.fault.StepFault.{StepFault}
+use Rattle.built_in_durable.specs.declared.fault.StepFault.TheVariants as faults
+use Rattle.built_in_container.specs.declared.fault.Work.{Work}
+use Rattle.built_in_container.specs.declared.fault.Work.TheVariants as works
+use Rattle.built_in_container.specs.declared.ticket.Ticket.{Ticket}
+use Rattle.built_in_container.specs.Container.{View, Makes, is_spent, is_claimed, unclaimed, is_left, line_or, work_on, work_left, next_work}
 use Rattle.slee_run.specs.Playing.{left, IsDueIn, IsStepOn, IsStill, Moves, end_of, IsSpent, Advances}
 use Rattle.slee_run.specs.declared.playing.End.TheVariants as ends
 

@@ -8,15 +8,15 @@ use Rattle.slee_disk.specs.Writes.{AppendsFront, Writes}
 use Rattle.router_model.specs.State.{Parts}
 use Rattle.router_rules.specs.Show.{show_text}
 use Rattle.trace_history.specs.declared.entry.Entry.{Entry}
-use Rattle.router_durable.specs.declared.fault.Stop.TheVariants as stops
-use Rattle.router_durable.specs.declared.fault.OpenFault.{OpenFault}
-use Rattle.router_durable.specs.declared.fault.OpenFault.TheVariants as faults
+use Rattle.built_in_durable.specs.declared.fault.Stop.TheVariants as stops
+use Rattle.built_in_durable.specs.declared.fault.OpenFault.{OpenFault}
+use Rattle.built_in_durable.specs.declared.fault.OpenFault.TheVariants as faults
 use Rattle.commit_journal.specs.Reading.{Wrong}
-use Rattle.router_durable.specs.Recovery.{restart, records}
-use Rattle.router_durable.specs.Opening.{IsOpenCause, IsSmall, IsUntouchedFor, IsLeftAlone, StandsFor}
-use Rattle.router_durable.specs.Facts.{base_of}
-use Rattle.router_durable.specs.Core.{is_down}
-use Rattle.slee_container.specs.Container.{View, Setup, IsKept}
+use Rattle.built_in_durable.specs.Recovery.{restart, records}
+use Rattle.built_in_durable.specs.Opening.{IsOpenCause, IsSmall, IsUntouchedFor, IsLeftAlone, StandsFor}
+use Rattle.built_in_durable.specs.Facts.{base_of}
+use Rattle.built_in_durable.specs.Core.{is_down}
+use Rattle.built_in_container.specs.Container.{View, Setup, IsKept}
 use Rattle.slee_run.specs.Status.{status_line}
 use Rattle.slee_run.specs.Text.{output_text, shown_text}
 use Rattle.slee_run.specs.Headline.{lines_given, EndsOn, ComesOn, IsByOne, IsByOneFrom, IsShownAt, IsWritten}

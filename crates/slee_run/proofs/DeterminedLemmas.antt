@@ -17,7 +17,7 @@ use Rattle.router_rules.specs.Step.{after}
 use Rattle.router_rules.specs.History.{replay}
 use Rattle.router_rules.specs.Payload.{payload, payloads}
 use Rattle.router_rules.proofs.HistoryLemmas.{choices_of-append, payloads-append, replay-choices}
-use Rattle.router_durable.specs.Recovery.{records}
+use Rattle.built_in_durable.specs.Recovery.{records}
 use Rattle.slee_run.specs.Words.{command_of}
 use Rattle.slee_run.specs.Status.{status_line}
 use Rattle.slee_run.specs.Text.{output_text, shown_text, checked_text}

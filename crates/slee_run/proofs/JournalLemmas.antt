@@ -13,15 +13,15 @@ use Rattle.commit_journal.proofs.Sizes.{records_size-more}
 use Rattle.router_model.specs.State.{Parts, initial}
 use Rattle.router_rules.specs.History.{replay}
 use Rattle.trace_history.specs.declared.entry.Entry.{Entry}
-use Rattle.router_durable.specs.declared.fault.Stop.{Stop}
-use Rattle.router_durable.specs.declared.fault.Stop.TheVariants as stops
-use Rattle.router_durable.specs.declared.fault.OpenFault.{OpenFault}
-use Rattle.router_durable.specs.declared.fault.OpenFault.TheVariants as faults
-use Rattle.router_durable.specs.Recovery.{restart, records, state_of}
-use Rattle.router_durable.specs.Opening.{IsOpenCause, IsSmall, IsUntouched, IsUntouchedFor, IsLeftAlone, StandsFor}
-use Rattle.router_durable.specs.Core.{is_down, IsStopOf, IsHeld}
-use Rattle.router_durable.specs.Facts.{Origin, base_of, records_since, size_after, RestartsIn, HasRecords, HasRecordsOrMore}
-use Rattle.slee_container.specs.Container.{View, Setup, held_in, IsKept}
+use Rattle.built_in_durable.specs.declared.fault.Stop.{Stop}
+use Rattle.built_in_durable.specs.declared.fault.Stop.TheVariants as stops
+use Rattle.built_in_durable.specs.declared.fault.OpenFault.{OpenFault}
+use Rattle.built_in_durable.specs.declared.fault.OpenFault.TheVariants as faults
+use Rattle.built_in_durable.specs.Recovery.{restart, records, state_of}
+use Rattle.built_in_durable.specs.Opening.{IsOpenCause, IsSmall, IsUntouched, IsUntouchedFor, IsLeftAlone, StandsFor}
+use Rattle.built_in_durable.specs.Core.{is_down, IsStopOf, IsHeld}
+use Rattle.built_in_durable.specs.Facts.{Origin, base_of, records_since, size_after, RestartsIn, HasRecords, HasRecordsOrMore}
+use Rattle.built_in_container.specs.Container.{View, Setup, held_in, IsKept}
 use Rattle.slee_run.specs.Headline.{IsHistory}
 use Rattle.slee_run.specs.Opening.{kept_deployment, journal_limit, found, IsAnswerTo, IsOpened, IsUntouchedAt, IsGood}
 use Rattle.slee_run.specs.Stops.{records_behind, size_behind, RestartsAfter, IsSettled, IsSafe, IsSized, KeepsJournal}

@@ -21,8 +21,8 @@ use Rattle.router_rules.proofs.HistoryLemmas.{IsSoFar-start, IsSoFar-next, repla
 use Rattle.router_rules.specs.Payload.{payload, payloads}
 use Rattle.commit_journal.specs.Spelling.{records_size}
 use Rattle.commit_journal.proofs.Sizes.{records_size-more}
-use Rattle.router_durable.specs.Facts.{Origin, base_of, records_since, size_after, size_added}
-use Rattle.slee_container.specs.Container.{View, Setup}
+use Rattle.built_in_durable.specs.Facts.{Origin, base_of, records_since, size_after, size_added}
+use Rattle.built_in_container.specs.Container.{View, Setup}
 use Rattle.slee_run.specs.Playing.{left, IsDueIn, IsStepOn, IsStill, IsSpent, Advances, EndsAs, IsPlayed, IsEndOf, HadRoom, stop_of}
 use Rattle.slee_run.specs.declared.playing.End.{End}
 use Rattle.slee_run.specs.declared.playing.End.TheVariants as ends

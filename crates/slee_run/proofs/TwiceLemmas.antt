@@ -12,7 +12,7 @@ use Rattle.router_model.specs.State.{Parts, initial}
 use Rattle.router_rules.specs.History.{Legal, replay}
 use Rattle.router_rules.specs.Payload.{payloads}
 use Rattle.router_rules.proofs.HistoryLemmas.{Legal-append, payloads-append, choices_of-append, replay-choices}
-use Rattle.router_durable.specs.Recovery.{records, records_of, past_of, state_of}
+use Rattle.built_in_durable.specs.Recovery.{records, records_of, past_of, state_of}
 use Rattle.slee_run.specs.Text.{output_text}
 use Rattle.slee_run.specs.Headline.{Plays, ComesOn, IsPlay, IsLegalRun}
 use Rattle.slee_run.specs.Opening.{kept_deployment, found}

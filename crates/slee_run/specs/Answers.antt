@@ -8,8 +8,8 @@ use Rattle.slee_disk.specs.declared.reading.ReadFault.TheVariants as read_faults
 use Rattle.slee_disk.specs.Disk.{DiskState}
 use Rattle.trace_history.specs.declared.entry.Entry.{Entry}
 use Rattle.router_model.specs.State.{Parts}
-use Rattle.router_durable.specs.declared.fault.OpenFault.{OpenFault}
-use Rattle.router_durable.specs.declared.fault.OpenFault.TheVariants as faults
+use Rattle.built_in_durable.specs.declared.fault.OpenFault.{OpenFault}
+use Rattle.built_in_durable.specs.declared.fault.OpenFault.TheVariants as faults
 use Rattle.deploy_json.specs.declared.fault.ReadFault.{ReadFault as DeployFault}
 use Rattle.deploy_json.specs.declared.fault.ReadFault.TheVariants as deploy_faults
 use Rattle.slee_run.specs.Text.{output_text, shown_text}

@@ -5,8 +5,8 @@ use Rattle.router_model.specs.State.{Parts}
 use Rattle.commit_journal.specs.declared.limits.TheConstants.{SIDE_LIMIT}
 use Rattle.commit_journal.specs.Reading.{Wrong}
 use Rattle.trace_history.specs.declared.entry.Entry.{Entry}
-use Rattle.router_durable.specs.Recovery.{restart}
-use Rattle.router_durable.specs.Opening.{IsUntouched}
+use Rattle.built_in_durable.specs.Recovery.{restart}
+use Rattle.built_in_durable.specs.Opening.{IsUntouched}
 use Rattle.slee_run.specs.declared.status.Status.{Status}
 use Rattle.slee_run.specs.Status.{row_of, Time, Early, Refusing, Ending, DiskFailed, WantOfMemory, WritingFailed}
 

@@ -9,12 +9,12 @@ use Rattle.router_model.specs.State.{Parts, is_used_up}
 use Rattle.router_rules.specs.Step.{after, step_entry}
 use Rattle.router_rules.specs.Payload.{payload}
 use Rattle.router_rules.specs.History.{replay, due, due_next, least_choice, IsSoFar}
-use Rattle.router_durable.specs.declared.fault.StepFault.{StepFault}
-use Rattle.router_durable.specs.declared.fault.StepFault.TheVariants as faults
-use Rattle.router_durable.specs.declared.fault.Stop.{Stop}
-use Rattle.router_durable.specs.declared.fault.Stop.TheVariants as stops
-use Rattle.router_durable.specs.Facts.{Origin, size_after, size_added, HasRoom}
-use Rattle.slee_container.specs.Container.{View, is_spent}
+use Rattle.built_in_durable.specs.declared.fault.StepFault.{StepFault}
+use Rattle.built_in_durable.specs.declared.fault.StepFault.TheVariants as faults
+use Rattle.built_in_durable.specs.declared.fault.Stop.{Stop}
+use Rattle.built_in_durable.specs.declared.fault.Stop.TheVariants as stops
+use Rattle.built_in_durable.specs.Facts.{Origin, size_after, size_added, HasRoom}
+use Rattle.built_in_container.specs.Container.{View, is_spent}
 use Rattle.slee_run.specs.declared.playing.End.{End}
 use Rattle.slee_run.specs.declared.playing.End.TheVariants as ends
 use Rattle.slee_run.specs.declared.status.Status.{Status}

@@ -11,8 +11,8 @@ use Rattle.trace_history.specs.declared.entry.Entry.{Entry}
 use Rattle.router_model.specs.State.{Parts}
 use Rattle.router_rules.specs.History.{replay}
 use Rattle.router_rules.specs.Payload.{payloads}
-use Rattle.router_durable.specs.Recovery.{restart, records}
-use Rattle.router_durable.specs.Opening.{IsLeftAlone}
+use Rattle.built_in_durable.specs.Recovery.{restart, records}
+use Rattle.built_in_durable.specs.Opening.{IsLeftAlone}
 use Rattle.slee_run.specs.Opening.{kept_deployment, journal_limit, found, IsOpened, IsUntouchedAt, IsGood}
 use Rattle.slee_run.specs.declared.status.Status.{Status}
 use Rattle.slee_run.specs.declared.status.Status.TheVariants as statuses

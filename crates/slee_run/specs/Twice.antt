@@ -6,7 +6,7 @@ use Rattle.trace_history.specs.declared.entry.Entry.{Entry}
 use Rattle.router_model.specs.State.{initial}
 use Rattle.router_rules.specs.History.{Legal, replay}
 use Rattle.router_rules.specs.Payload.{payloads}
-use Rattle.router_durable.specs.Recovery.{records}
+use Rattle.built_in_durable.specs.Recovery.{records}
 use Rattle.slee_run.specs.Text.{output_text}
 use Rattle.slee_run.specs.Headline.{ComesOn}
 use Rattle.slee_run.specs.Opening.{kept_deployment}

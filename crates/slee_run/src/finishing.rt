@@ -9,7 +9,7 @@ ghost use Rattle.slee_run.specs.Answers.{status_of};
 
 use crate::Status;
 use crate::printing::{write_status, write_text};
-use slee_container::Container;
+use built_in_container::Container;
 use slee_disk::{Disk, Failed, Sink};
 
 /// Writes the status alone.

@@ -4,13 +4,13 @@ ghost use Rattle.std.specs.List.{list_all};
 ghost use Rattle.router_rules.specs.Taking.{is_input};
 ghost use Rattle.router_rules.specs.Selection.{next};
 ghost use Rattle.router_rules.specs.Step.{choice_on};
-ghost use Rattle.router_durable.specs.Facts.{base_of};
+ghost use Rattle.built_in_durable.specs.Facts.{base_of};
 ghost use Rattle.slee_run.specs.Playing.{Moves, Advances, IsPlayed, IsEndOf, HadRoom, end_of, stop_of};
-ghost use Rattle.router_durable.specs.Core.{is_down};
+ghost use Rattle.built_in_durable.specs.Core.{is_down};
 
-use router_durable::StepFault;
+use built_in_durable::StepFault;
 use router_rules::Kindred;
-use slee_container::{Container, Redone, Work};
+use built_in_container::{Container, Redone, Work};
 use slee_disk::Disk;
 use slee_value::ActivityId;
 use trace_history::Choice;

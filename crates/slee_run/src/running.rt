@@ -16,8 +16,8 @@ use crate::reading::read_lines;
 use crate::{Given, Status};
 use built_in_core::Inputs;
 use commit_journal::SIDE_LIMIT;
-use router_durable::OpenFault;
-use slee_container::{Container, Limits, Mode};
+use built_in_durable::OpenFault;
+use built_in_container::{Container, Limits, Mode};
 use slee_disk::{Disk, Sink, Source};
 use std::alloc::Global;
 

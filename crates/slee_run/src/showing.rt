@@ -11,7 +11,7 @@ use crate::finishing::refuse;
 use crate::running::{KEPT_DEPLOYMENT, status_of};
 use built_in_core::Inputs;
 use commit_journal::SIDE_LIMIT;
-use slee_container::{Container, Limits, Mode, OutFault};
+use built_in_container::{Container, Limits, Mode, OutFault};
 use slee_disk::{Disk, Sink};
 use std::alloc::Global;
 

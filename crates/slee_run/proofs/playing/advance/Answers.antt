@@ -1,5 +1,5 @@
 use Rattle.std.proofs.Common.{◌≡◌, sym, subst, Option}
-use Rattle.slee_container.specs.Container.{View}
+use Rattle.built_in_container.specs.Container.{View}
 use Rattle.slee_run.specs.Playing.{Advances}
 use Rattle.slee_run.specs.declared.playing.End.{End}
 use Rattle.slee_run.proofs.AdvanceLemmas.{done_is, spent_is, line_advances, step_advances}

@@ -1,0 +1,3 @@
+pub mod Recovers
+pub mod Steps
+pub mod Opens

@@ -1,0 +1,105 @@
+-- What a container keeps of its disk, whatever happens.
+use Rattle.std.specs.Prelude.{◌≡◌, ◌⊎◌, ℕ, ◌+◌, ◌≤◌, ◌<◌, List, [], ◌++◌, length, take, map, if◌then◌else◌, Bool, IsTrue, Ok}
+use mathlib.Core.List.{IsPrefix}
+use Rattle.slee_disk.specs.declared.side.Side.{Side}
+use Rattle.slee_disk.specs.Sides.{Sides, on}
+use Rattle.slee_disk.specs.Disk.{DiskState, is_clean}
+use Rattle.commit_journal.specs.declared.record.Record.{Record}
+use Rattle.commit_journal.specs.declared.limits.TheConstants.{RECORD_FRAME}
+use Rattle.commit_journal.specs.Views.{payload_of}
+use Rattle.commit_journal.specs.Journal.{payloads_on}
+use Rattle.commit_journal.specs.Spelling.{records_size}
+use Rattle.router_model.specs.State.{Parts, initial}
+use Rattle.router_rules.specs.Step.{is_enabled, is_choice}
+use Rattle.router_rules.specs.History.{after_all, replay}
+use Rattle.router_rules.specs.Payload.{payload, payloads}
+use Rattle.trace_history.specs.Histories.{choices_of}
+use Rattle.trace_history.specs.declared.choice.Choice.{Choice}
+use Rattle.trace_history.specs.declared.entry.Entry.{Entry}
+use Rattle.built_in_durable.specs.Recovery.{choices_in, restart, records}
+
+-- what a container was opened over, as plain data
+pub record Origin : Type 0 where
+  pub deployment : List ℕ
+  -- the payloads of the records that were found
+  pub found : List (List ℕ)
+  -- of the disk when opening began
+  pub moment : ℕ
+  pub faults : ℕ
+  -- whether it told its bytes, and whether nothing was pending then besides
+  pub told : Bool
+  pub clean : Bool
+  -- of the side that counts, when opening was done; none where the disk doesn't tell them
+  pub counting : List ℕ
+
+-- the bytes of a side, where the disk tells them, and none else
+abbrev pub told_on : Side → DiskState → List ℕ
+told_on side disk = if disk.told then on side disk.seen else []
+
+-- what a container was opened over: its deployment, the records that were found, the disk before, and the bytes of the side that counts
+abbrev pub origin_of : List ℕ → List Record → DiskState → List ℕ → Origin
+origin_of deployment records disk counting = record {
+  deployment = deployment;
+  found = map payload_of records;
+  moment = disk.moment;
+  faults = disk.faults;
+  told = disk.told;
+  clean = is_clean disk;
+  counting = counting;
+}
+
+-- the state that was found
+abbrev pub base_of : Origin → Parts
+base_of o = after_all initial (choices_in o.found)
+
+-- the payloads of the entries of a history that began there
+abbrev pub records_since : Origin → List Entry → List (List ℕ)
+records_since o history = payloads (base_of o) (choices_of history)
+
+-- A restart has the state after so many entries of the history at least, and the records are those found and theirs.
+pub record RestartsIn (o : Origin) (history : List Entry) (least : ℕ) (image : Sides) : Type 0 where
+  pub part : List Entry
+  pub front : IsPrefix part history
+  pub some : least ≤ length part
+  pub state : restart o.deployment image ≡ Ok (replay (base_of o) part)
+  pub records : records o.deployment image ≡ o.found ++ records_since o part
+
+-- Stopped now, a restart is after the acknowledged entries at least; where nothing was pending when the opening began, it
+-- is after some entries at any moment since.
+pub record IsCrashSafe (o : Origin) (history : List Entry) (acked : ℕ) (disk : DiskState) : Type 0 where
+  pub told : IsTrue o.told → IsTrue disk.told
+  pub later : IsTrue o.clean → o.moment ≤ disk.moment
+  pub since : IsTrue o.clean → (image : Sides) → disk.since o.moment image → RestartsIn o history 0 image
+  pub now : IsTrue o.told → (image : Sides) → disk.images image → RestartsIn o history acked image
+
+-- the records are those that stood at the opening, and those of so many entries
+abbrev pub HasRecords : Origin → List Entry → ℕ → Sides → Type 0
+HasRecords o history count sides = records o.deployment sides ≡ payloads_on o.counting ++ records_since o (take count history)
+
+-- the same of the acknowledged entries, or of these and the batch that was being written
+abbrev pub HasRecordsOrMore : Origin → List Entry → ℕ → Sides → Type 0
+HasRecordsOrMore o history acked sides = HasRecords o history acked sides ⊎ HasRecords o history (length history) sides
+
+-- how many bytes the counting side has with the records of the history: those that it had when opening was done, and theirs
+abbrev pub size_after : Origin → List Entry → ℕ
+size_after o history = length o.counting + records_size (records_since o history)
+
+-- how many bytes the record of a choice after the history adds
+abbrev pub size_added : Origin → List Entry → Choice → ℕ
+size_added o history c = RECORD_FRAME + length (payload (replay (base_of o) history) c)
+
+-- the record of a choice after the history fits
+abbrev pub HasRoom : Origin → ℕ → List Entry → Choice → Type 0
+HasRoom o limit history c = IsTrue o.told → size_after o history + size_added o history c ≤ limit
+
+-- The record of a choice that may be made after the history doesn't fit: the side would be longer than the limit.
+pub record IsFullFor (o : Origin) (limit : ℕ) (history : List Entry) (c : Choice) (size adding : ℕ) : Type 0 where
+  pub enabled : IsTrue (is_enabled (replay (base_of o) history) c)
+  pub given : IsTrue (is_choice c)
+  pub stands : IsTrue o.told → size ≡ size_after o history
+  pub adds : adding ≡ size_added o history c
+  pub above : limit < size + adding
+
+-- the record of some choice doesn't fit
+abbrev pub IsFull : Origin → ℕ → List Entry → ℕ → ℕ → Type 0
+IsFull o limit history size adding = (c : Choice) × IsFullFor o limit history c size adding

@@ -1,0 +1,85 @@
+-- Why a container isn't opened.
+use Rattle.std.specs.Prelude.{◌≡◌, ℕ, ◌+◌, ◌<◌, List, [], ◌∷◌, length, IsTrue, Option, Some, None, Ok, Err}
+use Rattle.slee_disk.specs.declared.side.Side.{Side}
+use Rattle.slee_disk.specs.Sides.{Sides}
+use Rattle.slee_disk.specs.Disk.{DiskState, LeavesOnly}
+use Rattle.commit_journal.specs.declared.format.Format.{Format}
+use Rattle.commit_journal.specs.declared.record.Record.{Record}
+use Rattle.commit_journal.specs.declared.limits.TheConstants.{SIDE_FRAME}
+use Rattle.commit_journal.specs.declared.fault.JournalBad.TheVariants as kinds
+use Rattle.commit_journal.specs.declared.fault.JournalFault.{JournalFault}
+use Rattle.commit_journal.specs.declared.fault.JournalFault.TheVariants as journal_faults
+use Rattle.commit_journal.specs.declared.fault.BeginFault.{BeginFault}
+use Rattle.commit_journal.specs.declared.fault.BeginFault.TheVariants as begin_faults
+use Rattle.commit_journal.specs.Reading.{Bad, Other, recovered}
+use Rattle.router_model.specs.State.{Parts, initial}
+use Rattle.built_in_durable.specs.declared.fault.OpenFault.{OpenFault}
+use Rattle.built_in_durable.specs.declared.fault.OpenFault.TheVariants as faults
+use Rattle.built_in_durable.specs.Recovery.{Misfit, misfit, or_format, past, restart, records}
+
+-- a fault of the journal, as one of opening
+abbrev pub fault_of : JournalFault → OpenFault
+fault_of journal_faults.DiskFault = faults.DiskFault
+fault_of (journal_faults.BadJournal side at kind) = faults.BadJournal side at kind
+fault_of (journal_faults.OtherDeployment kept_len place) = faults.OtherDeployment kept_len place
+fault_of journal_faults.NoMemory = faults.NoMemory
+
+-- a fault of its beginning, as one of opening
+abbrev pub begin_fault_of : BeginFault → OpenFault
+begin_fault_of begin_faults.DiskFault = faults.DiskFault
+begin_fault_of (begin_faults.Full size adding) = faults.Full size adding
+begin_fault_of begin_faults.NoMemory = faults.NoMemory
+
+-- A fault is the one that the bytes have. Where it is for the size, nothing is kept yet, and a side with the header alone would be longer than the limit.
+abbrev pub IsOpenCause : ℕ → List ℕ → Sides → OpenFault → Type 0
+IsOpenCause limit deployment sides (faults.BadJournal side at kind) = past deployment sides ≡ Err (Bad side at kind)
+IsOpenCause limit deployment sides (faults.OtherDeployment kept_len place) = past deployment sides ≡ Err (Other kept_len place)
+IsOpenCause limit deployment sides (faults.Full size adding) = (recovered deployment sides ≡ Ok None) × (size ≡ 0) × (adding ≡ SIDE_FRAME + length deployment) × (limit < adding)
+IsOpenCause limit deployment sides faults.DiskFault = Unit {0}
+IsOpenCause limit deployment sides faults.NoMemory = Unit {0}
+
+-- Whatever the disk tells, a fault for the size comes only where a side with the header alone would be longer than the limit.
+abbrev pub IsSmall : ℕ → List ℕ → OpenFault → Type 0
+IsSmall limit deployment (faults.BadJournal side at kind) = Unit {0}
+IsSmall limit deployment (faults.OtherDeployment kept_len place) = Unit {0}
+IsSmall limit deployment (faults.Full size adding) = limit < SIDE_FRAME + length deployment
+IsSmall limit deployment faults.DiskFault = Unit {0}
+IsSmall limit deployment faults.NoMemory = Unit {0}
+
+-- A restart of these sides has this state, and the records are those of the sides that were seen.
+pub record StandsFor (deployment : List ℕ) (s : Parts) (seen image : Sides) : Type 0 where
+  pub state : restart deployment image ≡ Ok s
+  pub records : records deployment image ≡ records deployment seen
+
+-- nothing was written: a stop now leaves nothing else than before, and what was settled stays so
+pub record IsUntouched (old new : DiskState) : Type 0 where
+  pub told : new.told ≡ old.told
+  pub seen : new.seen ≡ old.seen
+  pub images : (image : Sides) → new.images image → old.images image
+  pub settled : (side : Side) → IsTrue (old.settled side) → IsTrue (new.settled side)
+
+-- nothing was written, and neither did a stop at any moment leave anything else
+pub record IsLeftAlone (old new : DiskState) : Type 0 where
+  pub untouched : IsUntouched old new
+  pub moments : LeavesOnly old new old.images
+
+-- only the disk's own fault comes when something may be written
+abbrev pub IsUntouchedFor : OpenFault → DiskState → DiskState → Type 0
+IsUntouchedFor (faults.BadJournal side at kind) old new = IsUntouched old new
+IsUntouchedFor (faults.OtherDeployment kept_len place) old new = IsUntouched old new
+IsUntouchedFor (faults.Full size adding) old new = IsUntouched old new
+IsUntouchedFor faults.NoMemory old new = IsUntouched old new
+IsUntouchedFor faults.DiskFault old new = Unit {0}
+
+-- what is wrong with what was found: a snapshot, or the first record that doesn't fit, or the first format
+abbrev pub first_fault : Format → List ℕ → List Record → Option Misfit
+first_fault format [] records = or_format format (misfit initial records)
+first_fault format (b ∷ bs) records = Some (record { at = 0; kind = kinds.Snapshot })
+
+-- why what was found isn't replayed
+abbrev pub IsReplayCause : Side → Option Misfit → OpenFault → Type 0
+IsReplayCause side first (faults.BadJournal which at kind) = (which ≡ side) × (first ≡ Some (record { at = at; kind = kind }))
+IsReplayCause side first faults.NoMemory = Unit {0}
+IsReplayCause side first faults.DiskFault = ⊥
+IsReplayCause side first (faults.OtherDeployment kept_len place) = ⊥
+IsReplayCause side first (faults.Full size adding) = ⊥

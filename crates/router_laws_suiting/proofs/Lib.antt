@@ -1,0 +1,16 @@
+pub mod Staying
+pub mod Joining
+pub mod VariablesKeep
+pub mod Walking
+pub mod Still
+pub mod FiredFields
+pub mod TypedSteps
+pub mod TypedBlocks
+pub mod TypedScripts
+pub mod BlockScripts
+pub mod TypedPrograms
+pub mod ToldByStates
+pub mod StandingEffects
+pub mod Deliveries
+pub mod SpelledDeliveries
+pub mod Applied

@@ -1,0 +1,4 @@
+pub mod Typed
+pub mod Known
+pub mod Walks
+pub mod Declared

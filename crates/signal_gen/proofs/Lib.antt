@@ -1,0 +1,3 @@
+mod PlainLemmas
+mod FieldLemmas
+mod LineLemmas

@@ -1,0 +1,4 @@
+pub mod Draws
+pub mod Firing
+pub mod Generator
+pub mod Seen
