@@ -8,9 +8,9 @@ ghost use Rattle.built_in_durable.specs.Facts.{base_of};
 ghost use Rattle.slee_run.specs.Playing.{Moves, Advances, IsPlayed, IsEndOf, HadRoom, end_of, stop_of};
 ghost use Rattle.built_in_durable.specs.Core.{is_down};
 
+use built_in_container::{Container, Redone, Work};
 use built_in_durable::StepFault;
 use router_rules::Kindred;
-use built_in_container::{Container, Redone, Work};
 use slee_disk::Disk;
 use slee_value::ActivityId;
 use trace_history::Choice;

@@ -14,10 +14,10 @@ use crate::finishing::{finish, refuse};
 use crate::playing::{End, play};
 use crate::reading::read_lines;
 use crate::{Given, Status};
-use built_in_core::Inputs;
-use commit_journal::SIDE_LIMIT;
-use built_in_durable::OpenFault;
 use built_in_container::{Container, Limits, Mode};
+use built_in_core::Inputs;
+use built_in_durable::OpenFault;
+use commit_journal::SIDE_LIMIT;
 use slee_disk::{Disk, Sink, Source};
 use std::alloc::Global;
 

@@ -9,9 +9,9 @@ ghost use Rattle.slee_run.specs.Answers.{IsShownBy, IsShownAs};
 use crate::Status;
 use crate::finishing::refuse;
 use crate::running::{KEPT_DEPLOYMENT, status_of};
+use built_in_container::{Container, Limits, Mode, OutFault};
 use built_in_core::Inputs;
 use commit_journal::SIDE_LIMIT;
-use built_in_container::{Container, Limits, Mode, OutFault};
 use slee_disk::{Disk, Sink};
 use std::alloc::Global;
 
