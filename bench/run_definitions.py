@@ -281,12 +281,11 @@ def cases_of(folder):
 
 
 def examples_of(folder):
-    """Each folder with a deployment and, in its folder `deployed`, words, signals and what they print behind one another."""
+    """Each folder with a deployment and with words, signals and what they print behind one another."""
     for name in sorted(os.listdir(folder)):
         path = os.path.join(folder, name)
         ends = [""] + [f".{n}" for n in range(2, 10)]
-        runs = os.path.join(path, "deployed")
-        parts = [(read(runs, "words" + e), read(runs, "signals" + e), read(runs, "expected" + e)) for e in ends]
+        parts = [(read(path, "words" + e), read(path, "signals" + e), read(path, "expected" + e)) for e in ends]
         steps = [
             {"words": words.decode().split(), "stdin": (signals or b"").decode(), "stdout": expected.decode(), "status": 0}
             for words, signals, expected in parts

@@ -2,10 +2,12 @@
 #![tactic(auto)]
 
 mod help;
+mod selecting;
 
 use help::{HELP, VERSION};
+use selecting::run_selecting;
 use slee_disk::{HostDisk, HostSink, HostSource, LateFile, write_whole};
-use slee_run::{Status, run_one};
+use slee_run::Status;
 use slee_value::NoMemory;
 use std::alloc::Global;
 use std::fs::File;
@@ -32,7 +34,10 @@ fn words_of(rt: &HostRuntime) -> io::Result<Vec<String>> {
 
 /// Words that are no text are of no form.
 fn refuse(rt: &HostRuntime) -> Status {
-    run(rt, &[])
+    match run(rt, &[]) {
+        Ok(status) => status,
+        Err(NoMemory) => Status::NoMemory,
+    }
 }
 
 /// Does what the words say. Where no memory is found to begin with, nothing is printed.
@@ -60,12 +65,12 @@ fn run_words(rt: &HostRuntime, words: &[String]) -> Result<Status, NoMemory> {
     for word in words {
         list.push(word.as_str())?;
     }
-    Ok(run(rt, list.as_slice()))
+    run(rt, list.as_slice())
 }
 
 /// Calls the top call, on the files of this folder. The system gives the place of a standard stream that is closed to the
 /// next file that is opened: a folder takes it, which can be neither read nor written, and so no file of the journal does.
-fn run(rt: &HostRuntime, words: &[&str]) -> Status {
+fn run(rt: &HostRuntime, words: &[&str]) -> Result<Status, NoMemory> {
     let _places = (
         File::open(rt, "/"),
         File::open(rt, "/"),
@@ -75,6 +80,5 @@ fn run(rt: &HostRuntime, words: &[&str]) -> Status {
     let mut signals = HostSource::new(rt.reader());
     let mut out = HostSink::new(io::writer(rt));
     let disk = HostDisk::new(rt, ".", "journal.a", "journal.b");
-    let (status, _disk) = run_one(rt.alloc(), words, &mut deploy, &mut signals, &mut out, disk);
-    status
+    run_selecting(rt.alloc(), words, &mut deploy, &mut signals, &mut out, disk)
 }

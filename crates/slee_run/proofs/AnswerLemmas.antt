@@ -1,35 +1,49 @@
 -- What the parts of a run answer.
-use Rattle.std.proofs.Common.{◌≡◌, ◌≢◌, ◌⊎◌, inl, inr, ℕ, ◌+◌, ◌<◌, ◌≤◌, List, [], ◌∷◌, ◌++◌, length, take, Bool, true, false, refl, sym, ◌∙◌, ap, subst, append_assoc, Option, Some, None, Result, Ok, Err, IsOk, IsTrue, IfSome, arith}
-use Rattle.std.specs.Io.KnownBytes.{Appends}
+use Rattle.std.proofs.Common.{◌≡◌, ◌≢◌, ◌⊎◌, inl, inr, ℕ, ◌+◌, ◌≤◌, nat_le, List, [], ◌++◌, length, take, drop, true, false, refl, sym, ◌∙◌, ap, subst, append_assoc, Option, Some, None, Result, Ok, Err, IsOk, IfSome, MatchOption, arith, drop_of_length-le}
+use Rattle.std.proofs.lemmas.Bool.{cases_Bool, leb-true}
 use Rattle.std.proofs.KnownBytes.{Appends-trans}
+use Rattle.deploy_model.specs.Resolving.{deployed_of}
+use Rattle.signal_gen.specs.Generator.{generated}
+use Rattle.signal_script.specs.Signals.{signals_of}
 use Rattle.signal_script.specs.declared.signal.Signal.{Signal}
-use Rattle.slee_disk.specs.Disk.{DiskState, LeavesOnly, is_clean}
-use Rattle.slee_disk.specs.Writes.{AppendsFront, Writes}
-use Rattle.router_model.specs.State.{Parts}
-use Rattle.router_rules.specs.Show.{show_text}
+use Rattle.slee_disk.specs.Disk.{DiskState}
+use Rattle.slee_disk.specs.Writes.{Writes}
+use Rattle.router_state.specs.Initial.{initial}
+use Rattle.router_state.specs.State.{State}
+use Rattle.router_steps.specs.Histories.{replay}
 use Rattle.trace_history.specs.declared.entry.Entry.{Entry}
-use Rattle.built_in_durable.specs.declared.fault.Stop.TheVariants as stops
-use Rattle.built_in_durable.specs.declared.fault.OpenFault.{OpenFault}
-use Rattle.built_in_durable.specs.declared.fault.OpenFault.TheVariants as faults
 use Rattle.commit_journal.specs.Reading.{Wrong}
-use Rattle.built_in_durable.specs.Recovery.{restart, records}
-use Rattle.built_in_durable.specs.Opening.{IsOpenCause, IsSmall, IsUntouchedFor, IsLeftAlone, StandsFor}
-use Rattle.built_in_durable.specs.Facts.{base_of}
-use Rattle.built_in_durable.specs.Core.{is_down}
-use Rattle.built_in_container.specs.Container.{View, Setup, IsKept}
-use Rattle.slee_run.specs.Status.{status_line}
-use Rattle.slee_run.specs.Text.{output_text, shown_text}
-use Rattle.slee_run.specs.Headline.{lines_given, EndsOn, ComesOn, IsByOne, IsByOneFrom, IsShownAt, IsWritten}
-use Rattle.slee_run.specs.Opening.{kept_deployment, journal_limit, found, IsAnswerTo, IsUntouchedAt}
+use Rattle.router_durable.specs.declared.fault.Stop.TheVariants as stops
+use Rattle.router_durable.specs.declared.fault.OpenFault.{OpenFault}
+use Rattle.router_durable.specs.declared.fault.OpenFault.TheVariants as faults
+use Rattle.router_durable.specs.Facts.{base_of}
+use Rattle.router_durable.specs.Opening.{IsRefused, IsSmall, Opens}
+use Rattle.router_durable.specs.Core.{is_down}
+use Rattle.slee_container.specs.declared.container.Limits.{Limits}
+use Rattle.slee_container.specs.declared.container.Mode.{Mode}
+use Rattle.slee_container.specs.declared.container.Mode.TheVariants as modes
+use Rattle.slee_container.specs.Container.{View, Setup, IsKept, held_in, state_of}
+use Rattle.slee_container.specs.Opening.{Starts, skipped_by}
+use Rattle.slee_run.specs.Status.{row_of, status_line}
+use Rattle.slee_run.specs.Text.{IsReachedTime, IsUnendedTime, lines_text, output_text, short_text, shown_text}
+use Rattle.slee_run.specs.Given.{Document, IsDeployment, IsDocument, deploy_limit, refusal_of, refusal_of_deploy, lines_in, lines_read}
+use Rattle.slee_run.specs.Checking.{IsBarred, IsCheckedAt, IsLinesFor}
+use Rattle.slee_run.specs.Headline.{EndsOn, ComesOn, IsByOne, IsByOneFrom, IsRefusedAs, IsShownAt, IsTrialOn, IsTrialOrNone, IsUnread, IsWritten, lines_of_run, trial_steps}
+use Rattle.slee_run.specs.Opening.{journal_limit, found, IsAnswerTo, IsBeforeOpening, IsEarly, IsUntouchedAt}
 use Rattle.slee_run.specs.Stops.{KeepsJournal}
-use Rattle.slee_run.specs.Playing.{IsPlayed, HadRoom, stop_of, status_after}
-use Rattle.slee_run.specs.Answers.{IsPlayedBy, IsPlayOn, IsPlayFrom, IsShownBy, IsShownAs, IsEarly, status_of}
+use Rattle.slee_run.specs.Playing.{IsPlayed, HadRoom, left, stop_of, status_after}
+use Rattle.slee_run.specs.Answers.{AreInputsFrom, IsDeployedFrom, IsFinished, IsGeneratedBy, IsLinesOut, IsPlayedBy, IsPlayedFrom, IsPlayedOn, IsRefusalBy, IsShownAs, IsShownBy, IsShownOf, IsTriedBy, document_of, status_of}
+use Rattle.slee_run.specs.declared.finishing.Report.{Report}
+use Rattle.slee_run.specs.declared.finishing.Report.TheVariants as reports
 use Rattle.slee_run.specs.declared.playing.End.{End}
 use Rattle.slee_run.specs.declared.playing.End.TheVariants as ends
+use Rattle.slee_run.specs.declared.reading.Deployed.{Deployed}
+use Rattle.slee_run.specs.declared.reading.Inputs.{Inputs}
 use Rattle.slee_run.specs.declared.status.Status.{Status}
 use Rattle.slee_run.specs.declared.status.Status.TheVariants as statuses
-use Rattle.slee_run.proofs.JournalLemmas.{or_initial, no_history, untouched, refused, refused_fits, keeps, history_kept, base_is, end_answer, end_late, end_down, end_full}
+use Rattle.slee_run.proofs.JournalLemmas.{alone_still, base_on, no_history, untouched, refused, refused_fits, keeps, history_kept, end_answer, end_late, end_down, end_fell, end_full}
 use Rattle.slee_run.proofs.EndLemmas.{ends_on, alone_on, alone_at_start}
+use Rattle.slee_run.proofs.ReadLemmas.{good_deploy}
 
 -- ---- text
 
@@ -54,12 +68,26 @@ written_as before after text same stood status is w = subst (λ (l : List ℕ). 
 
 -- ---- opening was refused
 
-refused_ends : (base : Parts) (steps : ℕ) (lines : List Signal) (fault : OpenFault) → IsSmall journal_limit kept_deployment fault → EndsOn base steps lines [] (status_of fault)
-refused_ends base steps lines faults.DiskFault small = (lines, refl)
-refused_ends base steps lines (faults.BadJournal side at kind) small = refl
-refused_ends base steps lines (faults.OtherDeployment kept_len place) small = refl
-refused_ends base steps lines (faults.Full size adding) small = absurd (omega (arith, small))
-refused_ends base steps lines faults.NoMemory small = (lines, refl)
+refused_ends : (base : State) (steps : ℕ) (lines : List Signal) (bytes : List ℕ) (fault : OpenFault) → length bytes ≤ deploy_limit → IsSmall journal_limit bytes fault → EndsOn base steps lines [] (status_of fault)
+refused_ends base steps lines bytes faults.DiskFault short small = (lines, refl)
+refused_ends base steps lines bytes (faults.BadJournal side at kind) short small = refl
+refused_ends base steps lines bytes (faults.OtherDeployment kept_len place) short small = refl
+refused_ends base steps lines bytes (faults.Full size adding) short small = absurd (omega (arith, short, small))
+refused_ends base steps lines bytes faults.NoMemory short small = (lines, refl)
+
+refused_unended : (bytes : List ℕ) (fault : OpenFault) → length bytes ≤ deploy_limit → IsSmall journal_limit bytes fault → IsUnendedTime (row_of (status_of fault)).time
+refused_unended bytes faults.DiskFault short small = tt
+refused_unended bytes (faults.BadJournal side at kind) short small = tt
+refused_unended bytes (faults.OtherDeployment kept_len place) short small = tt
+refused_unended bytes (faults.Full size adding) short small = absurd (omega (arith, short, small))
+refused_unended bytes faults.NoMemory short small = tt
+
+refused_late : (fault : OpenFault) → IsBeforeOpening (status_of fault) → ⊥
+refused_late faults.DiskFault early = early
+refused_late (faults.BadJournal side at kind) early = early
+refused_late (faults.OtherDeployment kept_len place) early = early
+refused_late (faults.Full size adding) early = early
+refused_late faults.NoMemory early = early
 
 refused_done : (fault : OpenFault) → status_of fault ≢ statuses.Ok
 refused_done faults.DiskFault is = cc
@@ -89,53 +117,52 @@ refused_unwritten (faults.OtherDeployment kept_len place) is = cc
 refused_unwritten (faults.Full size adding) is = cc
 refused_unwritten faults.NoMemory is = cc
 
-refused_shown_at : (fault : OpenFault) → IsSmall journal_limit kept_deployment fault → IsShownAt (status_of fault)
-refused_shown_at faults.DiskFault small = tt
-refused_shown_at (faults.BadJournal side at kind) small = tt
-refused_shown_at (faults.OtherDeployment kept_len place) small = tt
-refused_shown_at (faults.Full size adding) small = absurd (omega (arith, small))
-refused_shown_at faults.NoMemory small = tt
+refused_shown_at : (bytes : List ℕ) (fault : OpenFault) → length bytes ≤ deploy_limit → IsSmall journal_limit bytes fault → IsShownAt (status_of fault)
+refused_shown_at bytes faults.DiskFault short small = tt
+refused_shown_at bytes (faults.BadJournal side at kind) short small = tt
+refused_shown_at bytes (faults.OtherDeployment kept_len place) short small = tt
+refused_shown_at bytes (faults.Full size adding) short small = absurd (omega (arith, short, small))
+refused_shown_at bytes faults.NoMemory short small = tt
 
-refused_text : (base : Parts) (fault : OpenFault) → status_line (status_of fault) ≡ shown_text base (status_of fault)
+refused_text : (base : State) (fault : OpenFault) → status_line (status_of fault) ≡ shown_text base (status_of fault)
 refused_text base faults.DiskFault = refl
 refused_text base (faults.BadJournal side at kind) = refl
 refused_text base (faults.OtherDeployment kept_len place) = refl
 refused_text base (faults.Full size adding) = refl
 refused_text base faults.NoMemory = refl
 
-module _ (before after : Option (List ℕ)) (old new : DiskState) (fault : OpenFault) (stood status : Status) (is : stood ≡ status_of fault)
-    (small : IsSmall journal_limit kept_deployment fault) (cause : IsTrue old.told → IsOpenCause journal_limit kept_deployment old.seen fault) (for : IsUntouchedFor fault old new)
-    (leaves : IsTrue (is_clean old) → (s : Parts) → restart kept_deployment old.seen ≡ Ok s → LeavesOnly old new (StandsFor kept_deployment s old.seen))
-    (alone : IsTrue old.told → (w : Wrong) → restart kept_deployment old.seen ≡ Err w → IsLeftAlone old new)
-    (out : IsWritten before after (status_line stood) stood status) where
+module _ (x : Document) (before after : Option (List ℕ)) (old new : DiskState) (fault : OpenFault) (stood status : Status) (is : stood ≡ status_of fault)
+    (short : length x.bytes ≤ deploy_limit) (r : IsRefused old new x.start x.bytes journal_limit fault) (out : IsWritten before after (status_line stood) stood status) where
   told_out : IsWritten before after (status_line (status_of fault)) (status_of fault) status
   told_out = subst (λ (s : Status). IsWritten before after (status_line s) s status) is out
 
-  pub refused_played : (steps : ℕ) (lines : List Signal) → IsPlayedBy (λ base history s. IsPlayOn base steps lines history s) before after old new status
-  refused_played steps lines = record {
-    base = or_initial (found old);
-    history = [];
-    acked = [];
-    stood = status_of fault;
-    legal = no_history (or_initial (found old)) (status_of fault);
-    comes = record {
-      few = omega arith;
-      ends = refused_ends (or_initial (found old)) steps lines fault small;
-      alone = alone_at_start (or_initial (found old)) steps lines (status_of fault) (refused_done fault) (refused_spent fault) (refused_fits fault small);
+  pub refused_played : (mode : Mode) (steps : ℕ) (report : Report) (lines : List Signal) → IsPlayedOn x mode steps report lines before after old new status
+  refused_played mode steps report lines = record {
+    run = record { base = base_on x old; history = []; acked = []; ended = status_of fault; stood = status_of fault; text = status_line (status_of fault) };
+    played = record {
+      legal = no_history (base_on x old) (status_of fault);
+      words = refused_words fault;
+      same = λ more. refl;
+      unwritten = refused_unwritten fault;
+      prints = inr (record { none = refl; unended = refused_unended x.bytes fault short r.small; same = refl; alone = refl });
+      journal = refused x old new fault short r;
+      output = told_out;
     };
-    words = refused_words fault;
-    unwritten = refused_unwritten fault;
-    journal = refused old new fault small cause for leaves alone;
-    output = told_out;
+    play = record {
+      few = omega arith;
+      ends = refused_ends (base_on x old) steps (lines_of_run mode (base_on x old) lines) x.bytes fault short r.small;
+      alone = alone_at_start (base_on x old) steps (lines_of_run mode (base_on x old) lines) (status_of fault) (refused_done fault) (refused_spent fault) (refused_fits x.bytes fault short r.small);
+    };
   }
 
-  pub refused_shown : IsShownBy before after old new status
+  pub refused_shown : IsShownOf x before after old new status
   refused_shown = record {
-    base = or_initial (found old);
+    base = base_on x old;
     stood = status_of fault;
-    comes = refused_shown_at fault small;
-    journal = refused old new fault small cause for leaves alone;
-    output = written_as before after (status_line (status_of fault)) (shown_text (or_initial (found old)) (status_of fault)) (status_of fault) status (refused_text (or_initial (found old)) fault) told_out;
+    comes = refused_shown_at x.bytes fault short r.small;
+    late = refused_late fault;
+    journal = refused x old new fault short r;
+    output = written_as before after (status_line (status_of fault)) (shown_text (base_on x old) (status_of fault)) (status_of fault) status (refused_text (base_on x old) fault) told_out;
   }
 
 -- ---- a container was opened
@@ -147,73 +174,140 @@ end_words entries (ends.Full size adding) is = cc
 end_words entries ends.DiskFault is = cc
 end_words entries ends.NoMemory is = cc
 
-end_unwritten : (entries : ℕ) (e : End) → status_after entries e ≢ statuses.WriteFault
+pub end_unwritten : (entries : ℕ) (e : End) → status_after entries e ≢ statuses.WriteFault
 end_unwritten entries ends.Done is = cc
 end_unwritten entries ends.Spent is = cc
 end_unwritten entries (ends.Full size adding) is = cc
 end_unwritten entries ends.DiskFault is = cc
 end_unwritten entries ends.NoMemory is = cc
 
-module _ {D : Type 0} (disk_of : D → DiskState) (old : DiskState) (first : View D)
-    (state : IsTrue old.told → restart kept_deployment old.seen ≡ Ok first.state) (stood : IsTrue old.told → records kept_deployment old.seen ≡ first.setup.origin.found)
-    (none : first.history ≡ []) (named : first.setup.origin.deployment ≡ kept_deployment) (moment : first.setup.origin.moment ≡ old.moment)
-    (tells : first.setup.origin.told ≡ old.told) (clean : first.setup.origin.clean ≡ is_clean old)
-    (kept_first : IsKept (disk_of first.disk) first) where
-  pub opened_played : (last : View D) (handed : D) (e : End) (entries steps : ℕ) (lines : List Signal) (before after : Option (List ℕ)) (at status : Status)
-      → IsKept (disk_of handed) last → handed ≡ last.disk → last.setup ≡ first.setup → first.setup.lines ≡ lines → first.setup.journal ≡ journal_limit → first.setup.steps ≡ steps
-      → IsPlayed first.setup.journal (base_of first.setup.origin) first.setup.steps first.setup.lines last.history e → last.stop ≡ stop_of e
+pub end_reached : (entries : ℕ) (e : End) → IsReachedTime (row_of (status_after entries e)).time
+end_reached entries ends.Done = tt
+end_reached entries ends.Spent = tt
+end_reached entries (ends.Full size adding) = tt
+end_reached entries ends.DiskFault = tt
+end_reached entries ends.NoMemory = tt
+
+pub end_opened : (entries : ℕ) (e : End) → IsBeforeOpening (status_after entries e) → ⊥
+end_opened entries ends.Done early = early
+end_opened entries ends.Spent early = early
+end_opened entries (ends.Full size adding) early = early
+end_opened entries ends.DiskFault early = early
+end_opened entries ends.NoMemory early = early
+
+-- the lines of a run, by how many of them are skipped
+all_skipped : (lines : List Signal) (n : ℕ) → length lines ≤ n → drop (length lines) lines ≡ drop n lines
+all_skipped lines n few = drop_of_length-le lines (omega arith) ∙ sym (drop_of_length-le lines few)
+
+run_lines : (mode : Mode) (base : State) (lines : List Signal) → drop (skipped_by mode (length lines) base.inputs) lines ≡ lines_of_run mode base lines
+run_lines modes.AllNew base lines = refl
+run_lines modes.SkipTaken base lines = elim (cases_Bool (nat_le (length lines) base.inputs)) [
+  | inl all ↦ rw all (all_skipped lines base.inputs (leb-true (length lines) base.inputs all))
+  | inr some ↦ rw some refl
+]
+
+-- what stood before a report was written
+abbrev Prints : Report → List Entry → Status → Status → List ℕ → Type 0
+Prints report acked ended stood text = ((stood ≡ ended) × (text ≡ output_text report acked ended)) ⊎ ((stood ≡ statuses.NoMemory) × (text ≡ short_text report acked))
+
+stood_same : (report : Report) (acked : List Entry) (ended stood : Status) (text : List ℕ) → Prints report acked ended stood text → stood ≢ statuses.NoMemory → stood ≡ ended
+stood_same report acked ended stood text (inl whole) more = whole.0
+stood_same report acked ended stood text (inr short) more = absurd (more short.0)
+
+stood_unwritten : (report : Report) (acked : List Entry) (ended stood : Status) (text : List ℕ) → Prints report acked ended stood text → ended ≢ statuses.WriteFault → stood ≢ statuses.WriteFault
+stood_unwritten report acked ended stood text (inl whole) fine is = fine (sym whole.0 ∙ is)
+stood_unwritten report acked ended stood text (inr short) fine is = let never : statuses.NoMemory ≡ statuses.WriteFault = sym short.0 ∙ is in cc
+
+module _ {D : Type 0} (disk_of : D → DiskState) (x : Document) (old now : DiskState) (first : View D) (mode : Mode) (limits : Limits) (lines : List Signal)
+    (starts : Starts old now x.start x.bytes lines mode limits first) (limit_is : limits.journal ≡ journal_limit) where
+  opens : Opens old now x.start x.bytes journal_limit (held_in first)
+  opens = subst (λ (n : ℕ). Opens old now x.start x.bytes n (held_in first)) limit_is starts.opened
+
+  abbrev first_base : State
+  first_base = base_of first.setup.origin
+
+  unplayed : state_of first ≡ first_base
+  unplayed = ap (replay first_base) opens.history
+
+  -- the lines that are left then are those of the run
+  lines_left : left first ≡ lines_of_run mode first_base lines
+  lines_left =
+      ap (λ (n : ℕ). drop n first.setup.lines) (starts.taken ∙ starts.skipped ∙ ap (λ (s : State). skipped_by mode (length lines) s.inputs) unplayed)
+      ∙ ap (λ (l : List Signal). drop (skipped_by mode (length lines) first_base.inputs) l) starts.lined
+      ∙ run_lines mode first_base lines
+
+  pub opened_played : (last : View D) (handed : D) (e : End) (entries steps : ℕ) (report : Report) (before after : Option (List ℕ)) (at status : Status)
+      → IsKept (disk_of handed) last → handed ≡ last.disk → last.setup ≡ first.setup → limits.steps ≡ steps
+      → IsPlayed first.setup.journal (base_of first.setup.origin) first.setup.steps (left first) last.history e → last.stop ≡ stop_of e
       → (is_down last.stop ≡ false → last.acked ≡ length last.history)
       → HadRoom first.setup.origin first.setup.journal last.history
-      → entries ≡ length last.history → at ≡ status_after entries e → IsWritten before after (output_text (take last.acked last.history) at) at status
-      → IsPlayedBy (λ base history s. IsPlayOn base steps lines history s) before after old (disk_of handed) status
-  opened_played last handed e entries steps lines before after at status kept_there back same is_lines is_limit is_steps played stopped whole roomy count_is at_is out = record {
-    base = base_of last.setup.origin;
-    history = last.history;
-    acked = take last.acked last.history;
-    stood = status_after entries e;
-    legal = history_kept disk_of old first last (status_after entries e) state stood none named moment tells clean kept_first kept same down whole full answer late room;
-    comes = record {
-      few = plays.so_far.count;
-      ends = ends_on (base_of last.setup.origin) steps lines last.history e entries count_is plays;
-      alone = alone_on (base_of last.setup.origin) steps lines last.history e entries plays;
+      → entries ≡ length last.history → at ≡ status_after entries e → IsFinished report (take last.acked last.history) at before after status
+      → IsPlayedOn x mode steps report lines before after old (disk_of handed) status
+  opened_played last handed e entries steps report before after at status kept_there back same steps_are played stopped whole roomy count_is at_is out = record {
+    run = record { base = base_of last.setup.origin; history = last.history; acked = take last.acked last.history; ended = status_after entries e; stood = done.stood; text = done.text };
+    played = record {
+      legal = history_kept disk_of x old now first last (status_after entries e) opens kept same down fell whole full answer late room;
+      words = end_words entries e;
+      same = stood_same report (take last.acked last.history) (status_after entries e) done.stood done.text done.reported.prints;
+      unwritten = stood_unwritten report (take last.acked last.history) (status_after entries e) done.stood done.text done.reported.prints (end_unwritten entries e);
+      prints = inl done.reported;
+      journal = subst (λ (d : D). KeepsJournal x (base_of last.setup.origin) last.history (take last.acked last.history) old (disk_of d) (status_after entries e)) (sym back)
+          (keeps disk_of x old now first last (status_after entries e) opens kept same down fell whole full answer late room);
+      output = done.output;
     };
-    words = end_words entries e;
-    unwritten = end_unwritten entries e;
-    journal = subst (λ (d : D). KeepsJournal (base_of last.setup.origin) last.history (take last.acked last.history) old (disk_of d) (status_after entries e)) (sym back)
-        (keeps disk_of old first last (status_after entries e) state stood none named moment tells clean kept_first kept same down whole full answer late room);
-    output = subst (λ (s : Status). IsWritten before after (output_text (take last.acked last.history) s) s status) at_is out;
+    play = record {
+      few = plays.so_far.count;
+      ends = ends_on (base_of last.setup.origin) steps (lines_of_run mode (base_of last.setup.origin) lines) last.history e entries count_is plays;
+      alone = alone_on (base_of last.setup.origin) steps (lines_of_run mode (base_of last.setup.origin) lines) last.history e entries plays;
+    };
   }
     where
+      done : IsFinished report (take last.acked last.history) (status_after entries e) before after status
+      done = subst (λ (s : Status). IsFinished report (take last.acked last.history) s before after status) at_is out
+
       kept : IsKept (disk_of last.disk) last
       kept = subst (λ (d : D). IsKept (disk_of d) last) back kept_there
 
       down : is_down last.stop ≡ true → status_after entries e ≡ statuses.DiskFault
-      down fell = end_down entries e (ap is_down (sym stopped) ∙ fell)
+      down is_fallen = end_down entries e (ap is_down (sym stopped) ∙ is_fallen)
+
+      fell : status_after entries e ≡ statuses.DiskFault → last.stop ≡ Some stops.DiskFault
+      fell is = stopped ∙ end_fell entries e is
 
       full : (size adding : ℕ) → status_after entries e ≡ statuses.Full size adding → last.stop ≡ Some (stops.Full size adding)
       full size adding is = stopped ∙ end_full entries e size adding is
 
-      answer : IsOk (found old) → IsAnswerTo (found old) (status_after entries e)
-      answer ok = end_answer (found old) entries e ok
+      answer : IsOk (found x old) → IsAnswerTo (found x old) (status_after entries e)
+      answer ok = end_answer (found x old) entries e ok
 
       late : IsUntouchedAt (status_after entries e) old (disk_of last.disk)
       late = end_late old (disk_of last.disk) entries e
 
-      room : HadRoom last.setup.origin journal_limit last.history
-      room = subst (λ (u : Setup). HadRoom u.origin journal_limit last.history) (sym same) (subst (λ (n : ℕ). HadRoom first.setup.origin n last.history) is_limit roomy)
+      limited : first.setup.journal ≡ journal_limit
+      limited = opens.limited
 
-      plays : IsPlayed journal_limit (base_of last.setup.origin) steps lines last.history e
+      room : HadRoom last.setup.origin journal_limit last.history
+      room = subst (λ (u : Setup). HadRoom u.origin journal_limit last.history) (sym same) (subst (λ (n : ℕ). HadRoom first.setup.origin n last.history) limited roomy)
+
+      based : first_base ≡ base_of last.setup.origin
+      based = sym (ap (λ (u : Setup). base_of u.origin) same)
+
+      plays : IsPlayed journal_limit (base_of last.setup.origin) steps (lines_of_run mode (base_of last.setup.origin) lines) last.history e
       plays =
-          subst (λ (b : Parts). IsPlayed journal_limit b steps lines last.history e) (sym (ap (λ (u : Setup). base_of u.origin) same))
-          (subst (λ (n : ℕ). IsPlayed journal_limit (base_of first.setup.origin) n lines last.history e) is_steps
-          (subst (λ (l : List Signal). IsPlayed journal_limit (base_of first.setup.origin) first.setup.steps l last.history e) is_lines
-          (subst (λ (n : ℕ). IsPlayed n (base_of first.setup.origin) first.setup.steps first.setup.lines last.history e) is_limit played)))
+          subst (λ (b : State). IsPlayed journal_limit b steps (lines_of_run mode b lines) last.history e) based
+          (subst (λ (n : ℕ). IsPlayed journal_limit first_base n (lines_of_run mode first_base lines) last.history e) (starts.steps ∙ steps_are)
+          (subst (λ (l : List Signal). IsPlayed journal_limit first_base first.setup.steps l last.history e) lines_left
+          (subst (λ (n : ℕ). IsPlayed n first_base first.setup.steps (left first) last.history e) limited played)))
 
   shown_at : (stood : Status) → (stood ≡ statuses.Ok) ⊎ (stood ≡ statuses.NoMemory) → IsShownAt stood
   shown_at stood (inl is) = subst IsShownAt (sym is) tt
   shown_at stood (inr is) = subst IsShownAt (sym is) tt
 
-  shown_answer : (bytes : Result Parts Wrong) (stood : Status) → (stood ≡ statuses.Ok) ⊎ (stood ≡ statuses.NoMemory) → IsOk bytes → IsAnswerTo bytes stood
+  shown_opened : (stood : Status) → (stood ≡ statuses.Ok) ⊎ (stood ≡ statuses.NoMemory) → IsBeforeOpening stood → ⊥
+  shown_opened stood (inl is) early = subst IsBeforeOpening is early
+  shown_opened stood (inr is) early = subst IsBeforeOpening is early
+
+  shown_answer : (bytes : Result State Wrong) (stood : Status) → (stood ≡ statuses.Ok) ⊎ (stood ≡ statuses.NoMemory) → IsOk bytes → IsAnswerTo bytes stood
   shown_answer bytes stood (inl is) ok = subst (λ (s : Status). IsAnswerTo bytes s) (sym is) ok
   shown_answer bytes stood (inr is) ok = subst (λ (s : Status). IsAnswerTo bytes s) (sym is) tt
 
@@ -222,43 +316,50 @@ module _ {D : Type 0} (disk_of : D → DiskState) (old : DiskState) (first : Vie
   shown_late new stood (inr is) = subst (λ (s : Status). IsUntouchedAt s old new) (sym is) tt
 
   shown_full : (stood : Status) → (stood ≡ statuses.Ok) ⊎ (stood ≡ statuses.NoMemory) → (size adding : ℕ) → stood ≡ statuses.Full size adding → ⊥
-  shown_full stood (inl ok) size adding is = cc
-  shown_full stood (inr out) size adding is = cc
+  shown_full stood (inl ok) size adding is = let never : statuses.Ok ≡ statuses.Full size adding = sym ok ∙ is in cc
+  shown_full stood (inr out) size adding is = let never : statuses.NoMemory ≡ statuses.Full size adding = sym out ∙ is in cc
 
-  pub opened_shown : (handed : D) (before after : Option (List ℕ)) (status : Status) → first.acked ≡ 0 → first.stop ≡ None → IsShownAs first.state before after status → handed ≡ first.disk
-      → IsShownBy before after old (disk_of handed) status
-  opened_shown handed before after status unacked live shown back = record {
-    base = first.state;
+  shown_up : (stood : Status) → (stood ≡ statuses.Ok) ⊎ (stood ≡ statuses.NoMemory) → stood ≢ statuses.DiskFault
+  shown_up stood (inl ok) is = let never : statuses.Ok ≡ statuses.DiskFault = sym ok ∙ is in cc
+  shown_up stood (inr out) is = let never : statuses.NoMemory ≡ statuses.DiskFault = sym out ∙ is in cc
+
+  pub opened_shown : (handed : D) (before after : Option (List ℕ)) (status : Status) → IsKept (disk_of first.disk) first → IsShownAs (state_of first) before after status → handed ≡ first.disk
+      → IsShownOf x before after old (disk_of handed) status
+  opened_shown handed before after status kept_first shown back = record {
+    base = first_base;
     stood = shown.stood;
     comes = shown_at shown.stood shown.which;
-    journal = subst (λ (d : D). KeepsJournal first.state [] [] old (disk_of d) shown.stood) (sym back)
-        (subst (λ (b : Parts). KeepsJournal b [] [] old (disk_of first.disk) shown.stood) based
-        (subst (λ (h : List Entry). KeepsJournal (base_of first.setup.origin) h [] old (disk_of first.disk) shown.stood) none
-        (subst (λ (h : List Entry). KeepsJournal (base_of first.setup.origin) first.history h old (disk_of first.disk) shown.stood) nothing kept)));
-    output = shown.output;
+    late = shown_opened shown.stood shown.which;
+    journal = subst (λ (d : D). KeepsJournal x first_base [] [] old (disk_of d) shown.stood) (sym back)
+        (subst (λ (h : List Entry). KeepsJournal x first_base h [] old (disk_of first.disk) shown.stood) opens.history
+        (subst (λ (h : List Entry). KeepsJournal x first_base first.history h old (disk_of first.disk) shown.stood) nothing kept));
+    output = subst (λ (s : State). IsWritten before after (shown_text s shown.stood) shown.stood status) unplayed shown.output;
   }
     where
       nothing : take first.acked first.history ≡ []
-      nothing = ap (λ (n : ℕ). take n first.history) unacked
+      nothing = ap (λ (n : ℕ). take n first.history) opens.acked
 
       falls : is_down first.stop ≡ true → shown.stood ≡ statuses.DiskFault
-      falls fell = let never : true ≡ false = sym fell ∙ ap is_down live in absurd (cc)
+      falls is_fallen = let never : true ≡ false = sym is_fallen ∙ ap is_down opens.stop in absurd (cc)
+
+      fell : shown.stood ≡ statuses.DiskFault → first.stop ≡ Some stops.DiskFault
+      fell is = absurd (shown_up shown.stood shown.which is)
 
       whole : is_down first.stop ≡ false → first.acked ≡ length first.history
-      whole up = unacked ∙ sym (ap length none)
+      whole up = opens.acked ∙ sym (ap length opens.history)
 
       full : (size adding : ℕ) → shown.stood ≡ statuses.Full size adding → first.stop ≡ Some (stops.Full size adding)
       full size adding is = absurd (shown_full shown.stood shown.which size adding is)
 
-      based : base_of first.setup.origin ≡ first.state
-      based = base_is disk_of old first first shown.stood state stood none named moment tells clean kept_first kept_first refl falls whole full
-          (shown_answer (found old) shown.stood shown.which) (shown_late (disk_of first.disk) shown.stood shown.which) (λ told. inl none)
+      kept : KeepsJournal x (base_of first.setup.origin) first.history (take first.acked first.history) old (disk_of first.disk) shown.stood
+      kept = keeps disk_of x old now first first shown.stood opens kept_first refl falls fell whole full
+          (shown_answer (found x old) shown.stood shown.which) (shown_late (disk_of first.disk) shown.stood shown.which) (λ told. inl opens.history)
 
-      kept : KeepsJournal (base_of first.setup.origin) first.history (take first.acked first.history) old (disk_of first.disk) shown.stood
-      kept = keeps disk_of old first first shown.stood state stood none named moment tells clean kept_first kept_first refl falls whole full
-          (shown_answer (found old) shown.stood shown.which) (shown_late (disk_of first.disk) shown.stood shown.which) (λ told. inl none)
+-- ---- sources were refused, or read
 
--- ---- lines were refused, or read
+-- no document was understood
+abbrev pub nowhere : Document
+nowhere = record { bytes = []; start = initial (record { events = []; profiles = []; tables = []; blocks = []; services = [] }) [] }
 
 early_done : (status : Status) → IsEarly status → status ≢ statuses.Ok
 early_done status early is = subst IsEarly is early
@@ -266,54 +367,297 @@ early_done status early is = subst IsEarly is early
 early_spent : (status : Status) (n : ℕ) → IsEarly status → status ≢ statuses.StepsSpent n
 early_spent status n early is = subst IsEarly is early
 
-pub early_played : (steps : ℕ) (told before after : Option (List ℕ)) (d : DiskState) (stood status : Status) → IsEarly stood → stood ≢ statuses.BadWords
-    → IfSome told (λ bytes. (base : Parts) (steps : ℕ) → ComesOn base steps bytes [] stood) → IsWritten before after (status_line stood) stood status
-    → IsPlayedBy (λ base history s. IsPlayFrom base steps told history s) before after d d status
-early_played steps told before after d stood status early words refuses out = record {
-  base = or_initial (found d);
-  history = [];
-  acked = [];
-  stood = stood;
-  legal = no_history (or_initial (found d)) stood;
-  comes = record { few = omega arith; comes = by told refuses; alone = by_one told };
+early_full : (status : Status) (size adding : ℕ) → IsEarly status → status ≢ statuses.Full size adding
+early_full status size adding early is = subst IsEarly is early
+
+early_unended : (status : Status) → IsEarly status → IsUnendedTime (row_of status).time
+early_unended statuses.Ok early = early
+early_unended statuses.BadWords early = tt
+early_unended statuses.ReadFault early = tt
+early_unended statuses.WriteFault early = early
+early_unended statuses.DiskFault early = absurd early
+early_unended (statuses.BadJournal side at kind) early = absurd early
+early_unended (statuses.OtherDeployment kept_len place) early = absurd early
+early_unended (statuses.Full size adding) early = early
+early_unended (statuses.StepsSpent entries) early = early
+early_unended statuses.NoMemory early = tt
+early_unended (statuses.BadDeploy fault) early = tt
+early_unended (statuses.BadSignals line kind) early = tt
+early_unended (statuses.TooLarge what) early = tt
+early_unended statuses.NotBuilt early = tt
+
+-- what a refusal by the sources comes to
+refusal_comes : {Good : Type 0} (o : Option Status) (status : Status) → IsRefusalBy o status → (status ≡ statuses.ReadFault → Good) → (status ≡ statuses.NoMemory → Good)
+    → MatchOption o Good (λ refusal. (◌≡◌ {A = List Entry} [] []) × IsRefusedAs refusal status)
+refusal_comes None status (inl is) read memory = read is
+refusal_comes None status (inr (inl is)) read memory = memory is
+refusal_comes None status (inr (inr is)) read memory = absurd (cc)
+refusal_comes (Some refusal) status (inl is) read memory = (refl, inr (inl is))
+refusal_comes (Some refusal) status (inr (inl is)) read memory = (refl, inr (inr is))
+refusal_comes (Some refusal) status (inr (inr is)) read memory = (refl, inl (let same : refusal ≡ status = cc in sym same))
+
+read_ends : (base : State) (steps : ℕ) (lines : List Signal) (status : Status) → status ≡ statuses.ReadFault → EndsOn base steps lines [] status
+read_ends base steps lines status is = subst (EndsOn base steps lines []) (sym is) refl
+
+memory_ends : (base : State) (steps : ℕ) (lines : List Signal) (status : Status) → status ≡ statuses.NoMemory → EndsOn base steps lines [] status
+memory_ends base steps lines status is = subst (EndsOn base steps lines []) (sym is) (lines, refl)
+
+early_by : (report : Report) (before after : Option (List ℕ)) (d : DiskState) (stood status : Status) → IsEarly stood → stood ≢ statuses.BadWords → IsWritten before after (status_line stood) stood status
+    → IsPlayedBy nowhere report before after d d status (record { base = base_on nowhere d; history = []; acked = []; ended = stood; stood = stood; text = status_line stood })
+early_by report before after d stood status early words out = record {
+  legal = no_history (base_on nowhere d) stood;
   words = words;
+  same = λ more. refl;
   unwritten = λ is. subst IsEarly is early;
-  journal = untouched d stood early;
+  prints = inr (record { none = refl; unended = early_unended stood early; same = refl; alone = refl });
+  journal = untouched nowhere d stood early;
+  output = out;
+}
+
+pub early_played : (mode : Mode) (steps : ℕ) (deploy signals before after : Option (List ℕ)) (d : DiskState) (stood status : Status) → IsEarly stood → stood ≢ statuses.BadWords
+    → IfSome deploy (λ bytes. IfSome signals (λ text. IsRefusalBy (refusal_of bytes text) stood)) → IsWritten before after (status_line stood) stood status
+    → IsPlayedFrom mode steps deploy signals before after d d status
+early_played mode steps deploy signals before after d stood status early words refuses out = record {
+  document = nowhere;
+  run = record { base = base_on nowhere d; history = []; acked = []; ended = stood; stood = stood; text = status_line stood };
+  given = inr (record { none = refl; early = early; same = alone_still d });
+  played = early_by reports.Trace before after d stood status early words out;
+  few = omega arith;
+  comes = by deploy signals refuses;
+  alone = by_one deploy signals;
+}
+  where
+    by : (deploy signals : Option (List ℕ)) → IfSome deploy (λ bytes. IfSome signals (λ text. IsRefusalBy (refusal_of bytes text) stood))
+        → IfSome deploy (λ bytes. IfSome signals (λ text. ComesOn (base_on nowhere d) mode steps bytes text [] stood))
+    by None signals refuses = tt
+    by (Some bytes) None refuses = tt
+    by (Some bytes) (Some text) refuses =
+        refusal_comes (refusal_of bytes text) stood refuses
+        (read_ends (base_on nowhere d) steps (lines_of_run mode (base_on nowhere d) (lines_in text)) stood)
+        (memory_ends (base_on nowhere d) steps (lines_of_run mode (base_on nowhere d) (lines_in text)) stood)
+
+    by_one : (deploy signals : Option (List ℕ)) → IsByOneFrom (base_on nowhere d) mode steps deploy signals [] stood
+    by_one None signals = tt
+    by_one (Some bytes) None = tt
+    by_one (Some bytes) (Some text) = λ none.
+        alone_at_start (base_on nowhere d) steps (lines_of_run mode (base_on nowhere d) (lines_in text)) stood (early_done stood early) (λ n. early_spent stood n early)
+        (λ size adding. early_full stood size adding early)
+
+document_given : (deploy : Option (List ℕ)) (d : Deployed) → IsDeployedFrom deploy d → IsDocument deploy (document_of d)
+document_given deploy d from = record { deployment = d.checked; given = from.given; start = refl; told = from.told }
+
+pub inputs_played : (mode : Mode) (steps : ℕ) (deploy signals before after : Option (List ℕ)) (old new : DiskState) (status : Status) (i : Inputs) → AreInputsFrom deploy signals i
+    → IsPlayedOn (document_of i.deployed) mode steps reports.Trace i.lines before after old new status → IsPlayedFrom mode steps deploy signals before after old new status
+inputs_played mode steps deploy signals before after old new status i from p = record {
+  document = document_of i.deployed;
+  run = p.run;
+  given = inl (document_given deploy i.deployed from.deployed);
+  played = p.played;
+  few = p.play.few;
+  comes = by deploy signals from.lines from.accepted;
+  alone = by_one deploy signals from.lines;
+}
+  where
+    lines_are : (text : List ℕ) → signals_of text ≡ Ok i.lines → i.lines ≡ lines_in text
+    lines_are text is = sym (ap lines_read is)
+
+    by : (deploy signals : Option (List ℕ)) → IfSome signals (λ text. signals_of text ≡ Ok i.lines) → IfSome deploy (λ bytes. IfSome signals (λ text. refusal_of bytes text ≡ None))
+        → IfSome deploy (λ bytes. IfSome signals (λ text. ComesOn p.run.base mode steps bytes text p.run.history p.run.ended))
+    by None signals lines none = tt
+    by (Some bytes) None lines none = tt
+    by (Some bytes) (Some text) lines none =
+        rw none (subst (λ (l : List Signal). EndsOn p.run.base steps (lines_of_run mode p.run.base l) p.run.history p.run.ended) (lines_are text lines) p.play.ends)
+
+    by_one : (deploy signals : Option (List ℕ)) → IfSome signals (λ text. signals_of text ≡ Ok i.lines) → IsByOneFrom p.run.base mode steps deploy signals p.run.history p.run.ended
+    by_one None signals lines = tt
+    by_one (Some bytes) None lines = tt
+    by_one (Some bytes) (Some text) lines = λ none.
+        subst (λ (l : List Signal). IsByOne p.run.base steps (lines_of_run mode p.run.base l) p.run.history p.run.ended) (lines_are text lines) p.play.alone
+
+-- ---- what was shown, generated or tried, by what a source told
+
+barred_memory : (bytes : List ℕ) (status : Status) → status ≡ statuses.NoMemory → IsBarred bytes status
+barred_memory bytes status is = subst (IsBarred bytes) (sym is) tt
+
+barred_read : (bytes : List ℕ) (status : Status) → status ≡ statuses.ReadFault → IsBarred bytes status
+barred_read bytes status is = subst (IsBarred bytes) (sym is) tt
+
+pub barred_late : (told : Option (List ℕ)) (status : Status) → (IsBeforeOpening status → ⊥) → IfSome told (λ bytes. IsBarred bytes status)
+barred_late None status late = tt
+barred_late (Some bytes) statuses.Ok late = tt
+barred_late (Some bytes) statuses.BadWords late = tt
+barred_late (Some bytes) statuses.ReadFault late = tt
+barred_late (Some bytes) (statuses.BadDeploy fault) late = absurd (late tt)
+barred_late (Some bytes) (statuses.BadSignals line kind) late = tt
+barred_late (Some bytes) statuses.WriteFault late = tt
+barred_late (Some bytes) statuses.DiskFault late = tt
+barred_late (Some bytes) (statuses.BadJournal side at kind) late = tt
+barred_late (Some bytes) (statuses.OtherDeployment kept_len place) late = tt
+barred_late (Some bytes) (statuses.Full size adding) late = tt
+barred_late (Some bytes) (statuses.StepsSpent entries) late = tt
+barred_late (Some bytes) statuses.NoMemory late = tt
+barred_late (Some bytes) (statuses.TooLarge what) late = absurd (late tt)
+barred_late (Some bytes) statuses.NotBuilt late = tt
+
+shown_checked : (status : Status) → IsCheckedAt status → status ≢ statuses.Ok → IsShownAt status
+shown_checked statuses.Ok comes fine = tt
+shown_checked statuses.BadWords comes fine = absurd comes
+shown_checked statuses.ReadFault comes fine = tt
+shown_checked statuses.WriteFault comes fine = absurd comes
+shown_checked statuses.DiskFault comes fine = absurd comes
+shown_checked (statuses.BadJournal side at kind) comes fine = absurd comes
+shown_checked (statuses.OtherDeployment kept_len place) comes fine = absurd comes
+shown_checked (statuses.Full size adding) comes fine = absurd comes
+shown_checked (statuses.StepsSpent entries) comes fine = absurd comes
+shown_checked statuses.NoMemory comes fine = tt
+shown_checked (statuses.BadDeploy fault) comes fine = tt
+shown_checked (statuses.BadSignals line kind) comes fine = absurd comes
+shown_checked (statuses.TooLarge what) comes fine = comes
+shown_checked statuses.NotBuilt comes fine = absurd comes
+
+shown_alone : (base : State) (status : Status) → status ≢ statuses.Ok → status_line status ≡ shown_text base status
+shown_alone base statuses.Ok fine = absurd (fine refl)
+shown_alone base statuses.BadWords fine = refl
+shown_alone base statuses.ReadFault fine = refl
+shown_alone base statuses.WriteFault fine = refl
+shown_alone base statuses.DiskFault fine = refl
+shown_alone base (statuses.BadJournal side at kind) fine = refl
+shown_alone base (statuses.OtherDeployment kept_len place) fine = refl
+shown_alone base (statuses.Full size adding) fine = refl
+shown_alone base (statuses.StepsSpent entries) fine = refl
+shown_alone base statuses.NoMemory fine = refl
+shown_alone base (statuses.BadDeploy fault) fine = refl
+shown_alone base (statuses.BadSignals line kind) fine = refl
+shown_alone base (statuses.TooLarge what) fine = refl
+shown_alone base statuses.NotBuilt fine = refl
+
+pub early_shown : (deploy before after : Option (List ℕ)) (d : DiskState) (stood status : Status) → IsEarly stood → IsCheckedAt stood
+    → IfSome deploy (λ bytes. IsBarred bytes stood) → IsWritten before after (status_line stood) stood status → IsShownBy deploy before after d d status
+early_shown deploy before after d stood status early comes barred out = record {
+  document = nowhere;
+  base = base_on nowhere d;
+  stood = stood;
+  given = inr (record { none = refl; early = early; same = alone_still d });
+  comes = shown_checked stood comes (early_done stood early);
+  barred = barred;
+  journal = untouched nowhere d stood early;
+  output = written_as before after (status_line stood) (shown_text (base_on nowhere d) stood) stood status (shown_alone (base_on nowhere d) stood (early_done stood early)) out;
+}
+
+pub kept_shown : (deploy before after : Option (List ℕ)) (old new : DiskState) (status : Status) (d : Deployed) → IsDeployedFrom deploy d
+    → IsShownOf (document_of d) before after old new status → IsShownBy deploy before after old new status
+kept_shown deploy before after old new status d from shown = record {
+  document = document_of d;
+  base = shown.base;
+  stood = shown.stood;
+  given = inl (document_given deploy d from);
+  comes = shown.comes;
+  barred = barred_late deploy shown.stood shown.late;
+  journal = shown.journal;
+  output = shown.output;
+}
+
+trial_unread : (base : State) (seed count : ℕ) (bytes : List ℕ) (status : Status) → IsUnread status → IsTrialOrNone base seed count bytes [] status
+trial_unread base seed count bytes status is = inr (refl, is)
+
+pub early_tried : (seed count : ℕ) (deploy before after : Option (List ℕ)) (d : DiskState) (stood status : Status) → IsEarly stood → stood ≢ statuses.BadWords
+    → IfSome deploy (λ bytes. IsRefusalBy (refusal_of_deploy bytes) stood) → IsWritten before after (status_line stood) stood status → IsTriedBy seed count deploy before after d d status
+early_tried seed count deploy before after d stood status early words refuses out = record {
+  document = nowhere;
+  run = record { base = base_on nowhere d; history = []; acked = []; ended = stood; stood = stood; text = status_line stood };
+  given = inr (record { none = refl; early = early; same = alone_still d });
+  played = early_by reports.Summary before after d stood status early words out;
+  few = omega arith;
+  comes = by deploy refuses;
+}
+  where
+    by : (deploy : Option (List ℕ)) → IfSome deploy (λ bytes. IsRefusalBy (refusal_of_deploy bytes) stood)
+        → IfSome deploy (λ bytes. MatchOption (refusal_of_deploy bytes) (IsTrialOrNone (base_on nowhere d) seed count bytes [] stood) (λ refusal. (◌≡◌ {A = List Entry} [] []) × IsRefusedAs refusal stood))
+    by None refuses = tt
+    by (Some bytes) refuses =
+        refusal_comes (refusal_of_deploy bytes) stood refuses
+        (λ is. trial_unread (base_on nowhere d) seed count bytes stood (inl is)) (λ is. trial_unread (base_on nowhere d) seed count bytes stood (inr is))
+
+pub lines_tried : (seed count : ℕ) (deploy before after : Option (List ℕ)) (old new : DiskState) (status : Status) (i : Inputs) → IsDeployedFrom deploy i.deployed
+    → i.lines ≡ generated seed count (deployed_of i.deployed.checked.parts)
+    → IsPlayedOn (document_of i.deployed) modes.AllNew trial_steps reports.Summary i.lines before after old new status → IsTriedBy seed count deploy before after old new status
+lines_tried seed count deploy before after old new status i from lines p = record {
+  document = document_of i.deployed;
+  run = p.run;
+  given = inl (document_given deploy i.deployed from);
+  played = p.played;
+  few = p.play.few;
+  comes = by deploy from.told;
+}
+  where
+    trial : (bytes : List ℕ) → i.deployed.bytes ≡ bytes → IsTrialOn p.run.base seed count bytes p.run.history p.run.ended
+    trial bytes same = record {
+      deployment = i.deployed.checked;
+      given = subst (λ (b : List ℕ). IsDeployment b i.deployed.checked) same from.given;
+      ends = subst (λ (l : List Signal). EndsOn p.run.base trial_steps l p.run.history p.run.ended) lines p.play.ends;
+      alone = subst (λ (l : List Signal). IsByOne p.run.base trial_steps l p.run.history p.run.ended) lines p.play.alone;
+    }
+
+    accepted : (bytes : List ℕ) → i.deployed.bytes ≡ bytes → refusal_of_deploy bytes ≡ None
+    accepted bytes same = subst (λ (b : List ℕ). refusal_of_deploy b ≡ None) same (good_deploy i.deployed.bytes i.deployed.checked from.given)
+
+    by : (deploy : Option (List ℕ)) → IfSome deploy (λ bytes. i.deployed.bytes ≡ bytes)
+        → IfSome deploy (λ bytes. MatchOption (refusal_of_deploy bytes) (IsTrialOrNone p.run.base seed count bytes p.run.history p.run.ended) (λ refusal. (p.run.history ≡ []) × IsRefusedAs refusal p.run.ended))
+    by None same = tt
+    by (Some bytes) same = rw (accepted bytes same) (inl (trial bytes same))
+
+-- ---- generated lines
+
+pub early_generated : (seed count : ℕ) (deploy before after : Option (List ℕ)) (stood status : Status) → IsEarly stood → IsCheckedAt stood
+    → IfSome deploy (λ bytes. IsBarred bytes stood) → IsWritten before after (status_line stood) stood status → IsGeneratedBy seed count deploy before after status
+early_generated seed count deploy before after stood status early comes barred out = record {
+  text = status_line stood;
+  stood = stood;
+  lines = record { comes = comes; none = refl; prints = prints stood early barred };
   output = out;
 }
   where
-    by : (told : Option (List ℕ)) → IfSome told (λ bytes. (base : Parts) (steps : ℕ) → ComesOn base steps bytes [] stood) → IfSome told (λ bytes. ComesOn (or_initial (found d)) steps bytes [] stood)
-    by None refuses = tt
-    by (Some bytes) refuses = refuses (or_initial (found d)) steps
+    prints : (s : Status) → IsEarly s → IfSome deploy (λ bytes. IsBarred bytes s) → IsLinesFor seed count deploy (status_line s) s
+    prints statuses.Ok early barred = absurd early
+    prints statuses.BadWords early barred = (refl, barred)
+    prints statuses.ReadFault early barred = (refl, barred)
+    prints statuses.WriteFault early barred = (refl, barred)
+    prints statuses.DiskFault early barred = (refl, barred)
+    prints (statuses.BadJournal side at kind) early barred = (refl, barred)
+    prints (statuses.OtherDeployment kept_len place) early barred = (refl, barred)
+    prints (statuses.Full size adding) early barred = (refl, barred)
+    prints (statuses.StepsSpent entries) early barred = (refl, barred)
+    prints statuses.NoMemory early barred = (refl, barred)
+    prints (statuses.BadDeploy fault) early barred = (refl, barred)
+    prints (statuses.BadSignals line kind) early barred = (refl, barred)
+    prints (statuses.TooLarge what) early barred = (refl, barred)
+    prints statuses.NotBuilt early barred = (refl, barred)
 
-    on_lines : (given : Option (List Signal)) → IfSome given (λ lines. IsByOne (or_initial (found d)) steps lines [] stood)
-    on_lines None = tt
-    on_lines (Some lines) = alone_at_start (or_initial (found d)) steps lines stood (early_done stood early) (λ n. early_spent stood n early) (λ size adding is. subst IsEarly is early)
-
-    by_one : (told : Option (List ℕ)) → IsByOneFrom (or_initial (found d)) steps told [] stood
-    by_one None = tt
-    by_one (Some bytes) = on_lines (lines_given bytes)
-
-pub lines_played : (steps : ℕ) (lines : List Signal) (told before after : Option (List ℕ)) (old new : DiskState) (status : Status)
-    → IfSome told (λ bytes. lines_given bytes ≡ Some lines) → IsPlayedBy (λ base history s. IsPlayOn base steps lines history s) before after old new status
-    → IsPlayedBy (λ base history s. IsPlayFrom base steps told history s) before after old new status
-lines_played steps lines told before after old new status given p = record {
-  base = p.base;
-  history = p.history;
-  acked = p.acked;
-  stood = p.stood;
-  legal = p.legal;
-  comes = record { few = p.comes.few; comes = by told given; alone = by_one told given };
-  words = p.words;
-  unwritten = p.unwritten;
-  journal = p.journal;
-  output = p.output;
+pub lines_generated : (seed count : ℕ) (deploy before after : Option (List ℕ)) (status : Status) (i : Inputs) → IsDeployedFrom deploy i.deployed
+    → i.lines ≡ generated seed count (deployed_of i.deployed.checked.parts) → IsLinesOut i.lines before after status → IsGeneratedBy seed count deploy before after status
+lines_generated seed count deploy before after status i from lines out = record {
+  text = out.text;
+  stood = out.stood;
+  lines = record { comes = comes out.stood out.which; none = refl; prints = prints out.stood out.which };
+  output = out.output;
 }
   where
-    by : (told : Option (List ℕ)) → IfSome told (λ bytes. lines_given bytes ≡ Some lines) → IfSome told (λ bytes. ComesOn p.base steps bytes p.history p.stood)
-    by None given = tt
-    by (Some bytes) given = rw given p.comes.ends
+    comes : (stood : Status) → ((stood ≡ statuses.Ok) × (out.text ≡ lines_text i.lines)) ⊎ ((stood ≡ statuses.NoMemory) × (out.text ≡ status_line statuses.NoMemory)) → IsCheckedAt stood
+    comes stood (inl is) = subst IsCheckedAt (sym is.0) tt
+    comes stood (inr is) = subst IsCheckedAt (sym is.0) tt
 
-    by_one : (told : Option (List ℕ)) → IfSome told (λ bytes. lines_given bytes ≡ Some lines) → IsByOneFrom p.base steps told p.history p.stood
-    by_one None given = tt
-    by_one (Some bytes) given = rw given p.comes.alone
+    given : (deploy : Option (List ℕ)) → IfSome deploy (λ bytes. i.deployed.bytes ≡ bytes) → IfSome deploy (λ bytes. IsDeployment bytes i.deployed.checked)
+    given None same = tt
+    given (Some bytes) same = subst (λ (b : List ℕ). IsDeployment b i.deployed.checked) same from.given
+
+    nothing : (deploy : Option (List ℕ)) → IfSome deploy (λ bytes. IsBarred bytes statuses.NoMemory)
+    nothing None = tt
+    nothing (Some bytes) = tt
+
+    prints : (stood : Status) → ((stood ≡ statuses.Ok) × (out.text ≡ lines_text i.lines)) ⊎ ((stood ≡ statuses.NoMemory) × (out.text ≡ status_line statuses.NoMemory)) → IsLinesFor seed count deploy out.text stood
+    prints stood (inl is) = subst (IsLinesFor seed count deploy out.text) (sym is.0) (i.deployed.checked, is.1 ∙ ap lines_text lines, given deploy from.told)
+    prints stood (inr is) = subst (IsLinesFor seed count deploy out.text) (sym is.0) (is.1, nothing deploy)
+
+-- words that were understood aren't bad
+pub early_words : (status : Status) → IsCheckedAt status → status ≢ statuses.BadWords
+early_words status comes is = subst IsCheckedAt is comes

@@ -9,9 +9,11 @@ use Rattle.deploy_report.specs.declared.counts.Counts.{Counts}
 use Rattle.deploy_report.specs.Counting.{counts_in}
 use Rattle.slee_run.specs.Status.{status_line}
 use Rattle.slee_run.specs.Text.{checked_text}
-use Rattle.slee_run.specs.Checking.{deploy_limit, IsCounted, IsBarred, IsTextFor, IsCheckedAt}
+use Rattle.slee_run.specs.Checking.{IsCounted, IsBarred, IsTextFor, IsCheckedAt}
+use Rattle.slee_run.specs.Given.{deploy_limit}
 use Rattle.slee_run.specs.Headline.{IsWritten}
-use Rattle.slee_run.specs.Answers.{IsCheckedBy, IsEarly, status_of_reading, status_of_fault}
+use Rattle.slee_run.specs.Opening.{IsEarly}
+use Rattle.slee_run.specs.Answers.{IsCheckedBy, status_of_reading, status_of_fault}
 use Rattle.slee_run.specs.declared.status.Given.TheVariants as givens
 use Rattle.slee_run.specs.declared.status.Status.{Status}
 use Rattle.slee_run.specs.declared.status.Status.TheVariants as statuses

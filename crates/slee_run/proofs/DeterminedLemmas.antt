@@ -1,9 +1,6 @@
 -- Words, bytes and a journal determine a run.
-use Rattle.std.proofs.Common.{◌≡◌, ◌≢◌, ◌⊎◌, inl, inr, ⊎_elim, ℕ, ◌+◌, ◌<◌, ◌≤◌, nat_le, true, false, List, [], ◌∷◌, ◌++◌, length, length-append, refl, sym, ◌∙◌, ap, subst, arith, append-nil, Option, Some, None, Result, Ok, Err, MatchOption, IfSome, IsTrue}
+use Rattle.std.proofs.Common.{◌≡◌, ◌≢◌, ◌⊎◌, inl, inr, ⊎_elim, ℕ, ◌+◌, ◌<◌, ◌≤◌, nat_le, true, false, List, [], ◌∷◌, ◌++◌, length, length-append, refl, sym, ◌∙◌, ap, subst, arith, append-nil, Option, Some, None, Result, Ok, Err, MatchOption, IsTrue}
 use Rattle.std.proofs.lemmas.Bool.{cases_Bool, cases_eq, leb-true, leb-false}
-use Rattle.signal_script.specs.Signals.{signals_of}
-use Rattle.signal_script.specs.declared.fault.SignalBad.{SignalBad}
-use Rattle.signal_script.specs.declared.fault.SignalFault.TheVariants as line_faults
 use Rattle.signal_script.specs.declared.signal.Signal.{Signal}
 use Rattle.slee_disk.specs.Disk.{DiskState}
 use Rattle.commit_journal.specs.Reading.{Wrong, Bad as WrongAt, Other as OtherFrom}
@@ -12,28 +9,41 @@ use Rattle.commit_journal.proofs.Sizes.{records_size-more}
 use Rattle.trace_history.specs.Histories.{inputs_of, choices_of}
 use Rattle.trace_history.specs.declared.choice.Choice.{Choice}
 use Rattle.trace_history.specs.declared.entry.Entry.{Entry}
-use Rattle.router_model.specs.State.{Parts, is_used_up}
-use Rattle.router_rules.specs.Step.{after}
-use Rattle.router_rules.specs.History.{replay}
-use Rattle.router_rules.specs.Payload.{payload, payloads}
-use Rattle.router_rules.proofs.HistoryLemmas.{choices_of-append, payloads-append, replay-choices}
-use Rattle.built_in_durable.specs.Recovery.{records}
-use Rattle.slee_run.specs.Words.{command_of}
-use Rattle.slee_run.specs.Status.{status_line}
-use Rattle.slee_run.specs.Text.{output_text, shown_text, checked_text}
+use Rattle.router_state.specs.State.{State, is_used_up}
+use Rattle.router_steps.specs.Steps.{after}
+use Rattle.router_steps.specs.Histories.{replay}
+use Rattle.router_steps.specs.Payloads.{payload, payloads}
+use Rattle.router_durable.proofs.HistoryLemmas.{choices_of-append, payloads-append, replay-choices}
+use Rattle.router_durable.specs.Choices.{written_format}
+use Rattle.router_durable.specs.Recovery.{records}
 use Rattle.deploy_json.specs.declared.fault.ReadFault.{ReadFault}
 use Rattle.deploy_report.specs.declared.counts.Counts.{Counts}
-use Rattle.slee_run.specs.Checking.{deploy_limit, IsCounted, IsFaulty, IsTextFor, IsCheckedAt}
-use Rattle.slee_run.specs.Headline.{Checks, HasUntakenLine, signals_limit, lines_given, AsksLater, MayFollow, IsDoneOn, IsSpentOn, EndsOn, IsRefused, IsShownAt, AddsFirst, IsByOne, IsByFault}
-use Rattle.slee_run.specs.Opening.{kept_deployment, journal_limit, found, IsAnswerTo}
-use Rattle.slee_run.specs.Stops.{size_behind, IsSized}
-use Rattle.slee_run.specs.Determined.{Outcome, IsRunOver}
+use Rattle.slee_run.specs.Status.{row_of, status_line}
+use Rattle.slee_run.specs.Text.{IsReachedTime, IsTextOf, IsUnendedTime, checked_text, generated_text, output_text, short_text, shown_text}
+use Rattle.slee_run.specs.Answers.{Outcome}
+use Rattle.slee_run.specs.declared.finishing.Report.{Report}
+use Rattle.deploy_model.specs.Resolving.{deployed_of}
+use Rattle.deploy_json.specs.Checking.{read_as, reading_of}
+use Rattle.signal_gen.specs.Generator.{generated}
+use Rattle.slee_container.specs.declared.container.Mode.{Mode}
+use Rattle.slee_container.specs.declared.container.Mode.TheVariants as modes
+use Rattle.slee_descriptor.specs.declared.deployment.Deployment.{Deployment}
+use Rattle.slee_run.specs.Determined.{IsRunOver}
+use Rattle.slee_run.specs.Given.{Document, IsDeployment, IsDocument, deploy_limit, lines_in, refusal_of, refusal_of_deploy}
 use Rattle.slee_run.specs.declared.command.Command.{Command}
 use Rattle.slee_run.specs.declared.command.Command.TheVariants as commands
+use Rattle.slee_run.proofs.DeployLemmas.{one_document, same_deployed}
+use Rattle.slee_run.proofs.ReadLemmas.{good_deploy, large_deploy, refusal_not_ok, unread_fault_of, within_deploy}
+use Rattle.slee_run.proofs.RunLemmas.{IsBarredShow, barred_good, counted_read, read_counts}
+use Rattle.slee_run.specs.Words.{command_of}
+use Rattle.slee_run.specs.declared.finishing.Report.TheVariants as reports
+use Rattle.slee_run.specs.Checking.{IsBarred, IsCounted, IsFaulty, IsLinesFor, IsTextFor, IsCheckedAt}
+use Rattle.slee_run.specs.Headline.{MayFollow, IsDoneOn, IsSpentOn, AsksLater, EndsOn, IsBefore, IsByOneOn, IsShow, IsShownAt, IsLater, IsRefusedAs, IsTrialOrNone, IsUnread, AddsFirst, IsByOne, IsByFault, Opens, Plays, command_for, lines_of_run, trial_steps}
+use Rattle.slee_run.specs.Opening.{journal_limit, found, IsAnswerTo, IsEarly}
+use Rattle.slee_run.specs.Stops.{size_behind, IsSized, KeepsJournal}
 use Rattle.slee_run.specs.declared.status.Given.TheVariants as givens
 use Rattle.slee_run.specs.declared.status.Status.{Status}
 use Rattle.slee_run.specs.declared.status.Status.TheVariants as statuses
-use Rattle.slee_run.proofs.RunLemmas.{plays_only, shows_only}
 
 -- ---- two fronts of one list
 
@@ -65,41 +75,41 @@ both_same (x ∷ h) rest (y ∷ k) tail same equal =
     (ap (λ (e : Entry). e ∷ h) both.0 ∙ ap (λ (l : List Entry). y ∷ l) two.0, two.1)
 
 -- the size of a side with more entries
-size_more : (old : DiskState) (base : Parts) (h more : List Entry) (e : Entry) → size_behind old base h + (5 + length (payload (replay base h) e.choice)) ≤ size_behind old base (h ++ e ∷ more)
-size_more old base h more e = omega (
+size_more : (x : Document) (old : DiskState) (base : State) (h more : List Entry) (e : Entry) → size_behind x old base h + (5 + length (payload written_format (replay base h) e.choice)) ≤ size_behind x old base (h ++ e ∷ more)
+size_more x old base h more e = omega (
   arith,
-  records_size-more (records kept_deployment old.seen) (payloads base (choices_of h)),
-  records_size-more (records kept_deployment old.seen) (payloads base (choices_of (h ++ e ∷ more))),
+  records_size-more (records x.bytes old.seen) (payloads written_format base (choices_of h)),
+  records_size-more (records x.bytes old.seen) (payloads written_format base (choices_of (h ++ e ∷ more))),
   ap records_size split,
-  records_size-more (payloads base (choices_of h)) (payload (replay base h) e.choice ∷ behind),
+  records_size-more (payloads written_format base (choices_of h)) (payload written_format (replay base h) e.choice ∷ behind),
 )
   where
     behind : List (List ℕ)
-    behind = payloads (after (replay base h) e.choice) (choices_of more)
+    behind = payloads written_format (after (replay base h) e.choice) (choices_of more)
 
-    split : payloads base (choices_of (h ++ e ∷ more)) ≡ payloads base (choices_of h) ++ payload (replay base h) e.choice ∷ behind
+    split : payloads written_format base (choices_of (h ++ e ∷ more)) ≡ payloads written_format base (choices_of h) ++ payload written_format (replay base h) e.choice ∷ behind
     split =
-        ap (payloads base) (choices_of-append h (e ∷ more))
+        ap (payloads written_format base) (choices_of-append h (e ∷ more))
         ∙ payloads-append base (choices_of h) (e.choice ∷ choices_of more)
-        ∙ ap (λ (s : Parts). payloads base (choices_of h) ++ payloads s (e.choice ∷ choices_of more)) (sym (replay-choices base h))
+        ∙ ap (λ (s : State). payloads written_format base (choices_of h) ++ payloads written_format s (e.choice ∷ choices_of more)) (sym (replay-choices base h))
 
 no_list : (h more : List Entry) (e : Entry) → h ++ e ∷ more ≡ [] → ⊥
 no_list h more e is = omega (arith, ap length is, length-append h (e ∷ more))
 
 -- what has no room after a front has none in a longer one
-no_room : (old : DiskState) (base : Parts) (h rest k tail : List Entry) (size adding : ℕ) → h ++ rest ≡ k ++ tail → length h < length k
-    → AddsFirst (replay base h) adding rest → size ≡ size_behind old base h → journal_limit < size + adding → (k ≡ []) ⊎ (size_behind old base k ≤ journal_limit) → ⊥
-no_room old base h rest k tail size adding same fewer adds is above room = by room
+no_room : (x : Document) (old : DiskState) (base : State) (h rest k tail : List Entry) (size adding : ℕ) → h ++ rest ≡ k ++ tail → length h < length k
+    → AddsFirst (replay base h) adding rest → size ≡ size_behind x old base h → journal_limit < size + adding → (k ≡ []) ⊎ (size_behind x old base k ≤ journal_limit) → ⊥
+no_room x old base h rest k tail size adding same fewer adds is above room = by room
   where
     g : GoesOn h rest k tail
     g = goes_on h rest k tail same fewer
 
-    first : adding ≡ 5 + length (payload (replay base h) g.next.choice)
+    first : adding ≡ 5 + length (payload written_format (replay base h) g.next.choice)
     first = subst (λ (l : List Entry). AddsFirst (replay base h) adding l) g.first adds
 
-    by : (k ≡ []) ⊎ (size_behind old base k ≤ journal_limit) → ⊥
+    by : (k ≡ []) ⊎ (size_behind x old base k ≤ journal_limit) → ⊥
     by (inl none) = no_list h g.more g.next (sym g.longer ∙ none)
-    by (inr within) = omega (arith, within, above, is, first, ap (size_behind old base) g.longer, size_more old base h g.more g.next)
+    by (inr within) = omega (arith, within, above, is, first, ap (size_behind x old base) g.longer, size_more x old base h g.more g.next)
 
 -- ---- lines determine how a run ends
 
@@ -108,7 +118,7 @@ nothing_left front [] is = refl
 nothing_left front (x ∷ left) is = absurd (omega (arith, ap length is, length-append front (x ∷ left)))
 
 -- a run that is done isn't spent
-done_or_spent : (base : Parts) (steps : ℕ) (lines : List Signal) (h k : List Entry) → k ≡ h → IsDoneOn base lines h → IsSpentOn base steps lines k → ⊥
+done_or_spent : (base : State) (steps : ℕ) (lines : List Signal) (h k : List Entry) → k ≡ h → IsDoneOn base lines h → IsSpentOn base steps lines k → ⊥
 done_or_spent base steps lines h k same done spent = ⊎_elim used (λ few. more few.1.0 few.1.1) spent.spent
   where
     left : spent.taken.0 ≡ []
@@ -125,44 +135,44 @@ abbrev Same : List Entry → List Entry → Status → Status → Type 0
 Same h k s t = (s ≡ t) × (h ≡ k)
 
 -- an end that is determined
-data Led (old : DiskState) (base : Parts) (steps : ℕ) (lines : List Signal) (history rest : List Entry) (status : Status) : Type 0 where
-  Done : status ≡ statuses.Ok → rest ≡ [] → IsDoneOn base lines history → Led old base steps lines history rest status
-  Spent : (entries : ℕ) → status ≡ statuses.StepsSpent entries → entries ≡ length history → rest ≡ [] → IsSpentOn base steps lines history → Led old base steps lines history rest status
-  Full : (size adding : ℕ) → status ≡ statuses.Full size adding → size ≡ size_behind old base history → AddsFirst (replay base history) adding rest → journal_limit < size + adding
-      → Led old base steps lines history rest status
+data Led (x : Document) (old : DiskState) (base : State) (steps : ℕ) (lines : List Signal) (history rest : List Entry) (status : Status) : Type 0 where
+  Done : status ≡ statuses.Ok → rest ≡ [] → IsDoneOn base lines history → Led x old base steps lines history rest status
+  Spent : (entries : ℕ) → status ≡ statuses.StepsSpent entries → entries ≡ length history → rest ≡ [] → IsSpentOn base steps lines history → Led x old base steps lines history rest status
+  Full : (size adding : ℕ) → status ≡ statuses.Full size adding → size ≡ size_behind x old base history → AddsFirst (replay base history) adding rest → journal_limit < size + adding
+      → Led x old base steps lines history rest status
 
-led : (old : DiskState) (base : Parts) (steps : ℕ) (lines : List Signal) (history : List Entry) (status : Status) (bytes : Result Parts Wrong) (s : Parts) → EndsOn base steps lines history status → (one : IsByOne base steps lines history status)
-    → IsSized base history old status → bytes ≡ Ok s → IsAnswerTo bytes status → (IsByFault status → ⊥) → Led old base steps lines history one.rest status
-led old base steps lines history statuses.Ok bytes s ends one sized ok answer fine = Done refl (one.done refl) ends
-led old base steps lines history statuses.BadWords bytes s ends one sized ok answer fine = absurd ends
-led old base steps lines history statuses.ReadFault bytes s ends one sized ok answer fine = absurd (fine tt)
-led old base steps lines history statuses.WriteFault bytes s ends one sized ok answer fine = absurd ends
-led old base steps lines history statuses.DiskFault bytes s ends one sized ok answer fine = absurd (fine tt)
-led old base steps lines history (statuses.BadJournal side at kind) bytes s ends one sized ok answer fine = absurd (let never : Ok s ≡ Err (WrongAt side at kind) = sym ok ∙ answer in cc)
-led old base steps lines history (statuses.OtherDeployment kept_len place) bytes s ends one sized ok answer fine = absurd (let never : Ok s ≡ Err (OtherFrom kept_len place) = sym ok ∙ answer in cc)
-led old base steps lines history (statuses.Full size adding) bytes s ends one sized ok answer fine = Full size adding refl (sized.full size adding refl) (one.full size adding refl) ends.above
-led old base steps lines history (statuses.StepsSpent entries) bytes s ends one sized ok answer fine = Spent entries refl ends.0 (one.spent entries refl) ends.1
-led old base steps lines history statuses.NoMemory bytes s ends one sized ok answer fine = absurd (fine tt)
-led old base steps lines history (statuses.BadDeploy fault) bytes s ends one sized ok answer fine = absurd ends
-led old base steps lines history (statuses.BadSignals line kind) bytes s ends one sized ok answer fine = absurd ends
-led old base steps lines history (statuses.TooLarge what) bytes s ends one sized ok answer fine = absurd ends
-led old base steps lines history statuses.NotBuilt bytes s ends one sized ok answer fine = absurd ends
+led : (x : Document) (old : DiskState) (base : State) (steps : ℕ) (lines : List Signal) (history : List Entry) (status : Status) (bytes : Result State Wrong) (s : State) → EndsOn base steps lines history status → (one : IsByOne base steps lines history status)
+    → IsSized x base history old status → bytes ≡ Ok s → IsAnswerTo bytes status → (IsByFault status → ⊥) → Led x old base steps lines history one.rest status
+led x old base steps lines history statuses.Ok bytes s ends one sized ok answer fine = Done refl (one.done refl) ends
+led x old base steps lines history statuses.BadWords bytes s ends one sized ok answer fine = absurd ends
+led x old base steps lines history statuses.ReadFault bytes s ends one sized ok answer fine = absurd (fine tt)
+led x old base steps lines history statuses.WriteFault bytes s ends one sized ok answer fine = absurd ends
+led x old base steps lines history statuses.DiskFault bytes s ends one sized ok answer fine = absurd (fine tt)
+led x old base steps lines history (statuses.BadJournal side at kind) bytes s ends one sized ok answer fine = absurd (let never : Ok s ≡ Err (WrongAt side at kind) = sym ok ∙ answer in cc)
+led x old base steps lines history (statuses.OtherDeployment kept_len place) bytes s ends one sized ok answer fine = absurd (let never : Ok s ≡ Err (OtherFrom kept_len place) = sym ok ∙ answer in cc)
+led x old base steps lines history (statuses.Full size adding) bytes s ends one sized ok answer fine = Full size adding refl (sized.full size adding refl) (one.full size adding refl) ends.above
+led x old base steps lines history (statuses.StepsSpent entries) bytes s ends one sized ok answer fine = Spent entries refl ends.0 (one.spent entries refl) ends.1
+led x old base steps lines history statuses.NoMemory bytes s ends one sized ok answer fine = absurd (fine tt)
+led x old base steps lines history (statuses.BadDeploy fault) bytes s ends one sized ok answer fine = absurd ends
+led x old base steps lines history (statuses.BadSignals line kind) bytes s ends one sized ok answer fine = absurd ends
+led x old base steps lines history (statuses.TooLarge what) bytes s ends one sized ok answer fine = absurd ends
+led x old base steps lines history statuses.NotBuilt bytes s ends one sized ok answer fine = absurd ends
 
 whole_is : (h rest k tail : List Entry) → h ++ rest ≡ k ++ tail → rest ≡ [] → tail ≡ [] → h ≡ k
 whole_is h rest k tail same none no_tail = sym (append-nil h) ∙ ap (λ (l : List Entry). h ++ l) (sym none) ∙ same ∙ ap (λ (l : List Entry). k ++ l) no_tail ∙ append-nil k
 
-module _ (old : DiskState) (base : Parts) (steps : ℕ) (lines : List Signal) where
+module _ (x : Document) (old : DiskState) (base : State) (steps : ℕ) (lines : List Signal) where
   abbrev Room : List Entry → Type 0
-  Room h = (h ≡ []) ⊎ (size_behind old base h ≤ journal_limit)
+  Room h = (h ≡ []) ⊎ (size_behind x old base h ≤ journal_limit)
 
   -- a run without room isn't whole
-  full_or_whole : (h rest k tail : List Entry) (size adding : ℕ) → h ++ rest ≡ k ++ tail → tail ≡ [] → size ≡ size_behind old base h → AddsFirst (replay base h) adding rest → journal_limit < size + adding → Room k → ⊥
+  full_or_whole : (h rest k tail : List Entry) (size adding : ℕ) → h ++ rest ≡ k ++ tail → tail ≡ [] → size ≡ size_behind x old base h → AddsFirst (replay base h) adding rest → journal_limit < size + adding → Room k → ⊥
   full_or_whole h [] k tail size adding same none is adds above room = adds
   full_or_whole h (e ∷ rest) k tail size adding same none is adds above room =
-      no_room old base h (e ∷ rest) k tail size adding same (omega (arith, ap length same, length-append h (e ∷ rest), length-append k tail, ap length none)) adds is above room
+      no_room x old base h (e ∷ rest) k tail size adding same (omega (arith, ap length same, length-append h (e ∷ rest), length-append k tail, ap length none)) adds is above room
 
-  two_full : (h rest k tail : List Entry) (s a z b : ℕ) → h ++ rest ≡ k ++ tail → s ≡ size_behind old base h → AddsFirst (replay base h) a rest → journal_limit < s + a → Room h
-      → z ≡ size_behind old base k → AddsFirst (replay base k) b tail → journal_limit < z + b → Room k → (h ≡ k) × (statuses.Full s a ≡ statuses.Full z b)
+  two_full : (h rest k tail : List Entry) (s a z b : ℕ) → h ++ rest ≡ k ++ tail → s ≡ size_behind x old base h → AddsFirst (replay base h) a rest → journal_limit < s + a → Room h
+      → z ≡ size_behind x old base k → AddsFirst (replay base k) b tail → journal_limit < z + b → Room k → (h ≡ k) × (statuses.Full s a ≡ statuses.Full z b)
   two_full h rest k tail s a z b same is adds above room also more beyond place = elim (cases_eq (length h) (length k)) [
     | inl equal ↦ at_once (both_same h rest k tail same equal)
     | inr other ↦ absurd (apart other)
@@ -176,20 +186,20 @@ module _ (old : DiskState) (base : Parts) (steps : ℕ) (lines : List Signal) wh
 
       apart : (length h ≡ length k → ⊥) → ⊥
       apart other = elim (cases_Bool (nat_le (length h) (length k))) [
-        | inl few ↦ no_room old base h rest k tail s a same (fewer (length h) (length k) (leb-true (length h) (length k) few) other) adds is above place
-        | inr many ↦ no_room old base k tail h rest z b (sym same) (leb-false (length h) (length k) many) more also beyond room
+        | inl few ↦ no_room x old base h rest k tail s a same (fewer (length h) (length k) (leb-true (length h) (length k) few) other) adds is above place
+        | inr many ↦ no_room x old base k tail h rest z b (sym same) (leb-false (length h) (length k) many) more also beyond room
       ]
 
       adds_same : (rest tail : List Entry) → h ≡ k → rest ≡ tail → AddsFirst (replay base h) a rest → AddsFirst (replay base k) b tail → a ≡ b
       adds_same [] tail one two adds more = absurd adds
       adds_same (e ∷ rest) [] one two adds more = absurd more
       adds_same (e ∷ rest) (f ∷ tail) one two adds more =
-          adds ∙ ap (λ (x : Entry). 5 + length (payload (replay base h) x.choice)) (parts_of e f rest tail two).0 ∙ ap (λ (es : List Entry). 5 + length (payload (replay base es) f.choice)) one ∙ sym more
+          adds ∙ ap (λ (y : Entry). 5 + length (payload written_format (replay base h) y.choice)) (parts_of e f rest tail two).0 ∙ ap (λ (es : List Entry). 5 + length (payload written_format (replay base es) f.choice)) one ∙ sym more
 
       at_once : (h ≡ k) × (rest ≡ tail) → (h ≡ k) × (statuses.Full s a ≡ statuses.Full z b)
-      at_once two = (two.0, ap (λ (n : ℕ). statuses.Full n a) (is ∙ ap (size_behind old base) two.0 ∙ sym also) ∙ ap (λ (n : ℕ). statuses.Full z n) (adds_same rest tail two.0 two.1 adds more))
+      at_once two = (two.0, ap (λ (n : ℕ). statuses.Full n a) (is ∙ ap (size_behind x old base) two.0 ∙ sym also) ∙ ap (λ (n : ℕ). statuses.Full z n) (adds_same rest tail two.0 two.1 adds more))
 
-  on_lines : (h rest k tail : List Entry) (s t : Status) → h ++ rest ≡ k ++ tail → Room h → Room k → Led old base steps lines h rest s → Led old base steps lines k tail t → Same h k s t
+  on_lines : (h rest k tail : List Entry) (s t : Status) → h ++ rest ≡ k ++ tail → Room h → Room k → Led x old base steps lines h rest s → Led x old base steps lines k tail t → Same h k s t
   on_lines h rest k tail s t same room place (Done is none a) (Done also nothing b) = (is ∙ sym also, whole_is h rest k tail same none nothing)
   on_lines h rest k tail s t same room place (Done is none a) (Spent n also count nothing b) = absurd (done_or_spent base steps lines h k (sym (whole_is h rest k tail same none nothing)) a b)
   on_lines h rest k tail s t same room place (Done is none a) (Full z b also fits more above) = absurd (full_or_whole k tail h rest z b (sym same) none fits more above room)
@@ -204,44 +214,28 @@ module _ (old : DiskState) (base : Parts) (steps : ℕ) (lines : List Signal) wh
       let two = two_full h rest k tail z a y b same fits adds above room within more beyond place in
       (is ∙ two.1 ∙ sym also, two.0)
 
--- a status that bytes without lines lead to
-data Barred (bytes : List ℕ) (status : Status) : Type 0 where
-  Long : status ≡ statuses.TooLarge givens.Signals → signals_limit < length bytes → Barred bytes status
-  Bad : (line : ℕ) (kind : SignalBad) → status ≡ statuses.BadSignals line kind → length bytes ≤ signals_limit → signals_of bytes ≡ Err (line_faults.At line kind) → Barred bytes status
-  Other : status ≡ statuses.NotBuilt → length bytes ≤ signals_limit → HasUntakenLine bytes → Barred bytes status
+-- a status that the bytes of sources lead to
+refused_status : (refusal status : Status) → IsRefusedAs refusal status → (IsByFault status → ⊥) → status ≡ refusal
+refused_status refusal status (inl is) fine = is
+refused_status refusal status (inr (inl read)) fine = absurd (fine (subst IsByFault (sym read) tt))
+refused_status refusal status (inr (inr out)) fine = absurd (fine (subst IsByFault (sym out) tt))
 
-barred : (bytes : List ℕ) (status : Status) → IsRefused bytes status → (IsByFault status → ⊥) → Barred bytes status
-barred bytes statuses.Ok refused fine = absurd refused
-barred bytes statuses.BadWords refused fine = absurd refused
-barred bytes statuses.ReadFault refused fine = absurd (fine tt)
-barred bytes statuses.WriteFault refused fine = absurd refused
-barred bytes statuses.DiskFault refused fine = absurd refused
-barred bytes (statuses.BadJournal side at kind) refused fine = absurd refused
-barred bytes (statuses.OtherDeployment kept_len place) refused fine = absurd refused
-barred bytes (statuses.Full size adding) refused fine = absurd refused
-barred bytes (statuses.StepsSpent entries) refused fine = absurd refused
-barred bytes statuses.NoMemory refused fine = absurd (fine tt)
-barred bytes (statuses.BadDeploy fault) refused fine = absurd refused
-barred bytes (statuses.BadSignals line kind) refused fine = Bad line kind refl refused.0 refused.1
-barred bytes (statuses.TooLarge what) refused fine = Long (ap statuses.TooLarge refused.0) refused.1
-barred bytes statuses.NotBuilt refused fine = Other refl refused.0 refused.1
-
-one_refusal : (bytes : List ℕ) (s t : Status) → Barred bytes s → Barred bytes t → s ≡ t
-one_refusal bytes s t (Long is more) (Long also much) = is ∙ sym also
-one_refusal bytes s t (Long is more) (Bad line kind also few bad) = absurd (omega (arith, more, few))
-one_refusal bytes s t (Long is more) (Other also few good) = absurd (omega (arith, more, few))
-one_refusal bytes s t (Bad line kind is few bad) (Long also more) = absurd (omega (arith, more, few))
-one_refusal bytes s t (Bad line kind is few bad) (Bad other that also less worse) =
-    let same : line_faults.At line kind ≡ line_faults.At other that = cc in
-    let lines : line ≡ other = cc in
-    let kinds : kind ≡ that = cc in
-    is ∙ ap (λ (n : ℕ). statuses.BadSignals n kind) lines ∙ ap (λ (k : SignalBad). statuses.BadSignals other k) kinds ∙ sym also
-one_refusal bytes s t (Bad line kind is few bad) (Other also less good) =
-    let never : Err (line_faults.At line kind) ≡ Ok good.lines = sym bad ∙ good.read in cc
-one_refusal bytes s t (Other is few good) (Long also more) = absurd (omega (arith, more, few))
-one_refusal bytes s t (Other is few good) (Bad line kind also less bad) =
-    let never : Err (line_faults.At line kind) ≡ Ok good.lines = sym bad ∙ good.read in cc
-one_refusal bytes s t (Other is few good) (Other also less fine) = is ∙ sym also
+-- where nothing was opened, a run on good sources is by a fault
+early_fault : (base : State) (steps : ℕ) (lines : List Signal) (history : List Entry) (status : Status) → EndsOn base steps lines history status → IsEarly status → IsByFault status
+early_fault base steps lines history statuses.Ok ends early = absurd early
+early_fault base steps lines history statuses.BadWords ends early = absurd ends
+early_fault base steps lines history statuses.ReadFault ends early = tt
+early_fault base steps lines history statuses.WriteFault ends early = absurd ends
+early_fault base steps lines history statuses.DiskFault ends early = tt
+early_fault base steps lines history (statuses.BadJournal side at kind) ends early = absurd early
+early_fault base steps lines history (statuses.OtherDeployment kept_len place) ends early = absurd early
+early_fault base steps lines history (statuses.Full size adding) ends early = absurd early
+early_fault base steps lines history (statuses.StepsSpent entries) ends early = absurd early
+early_fault base steps lines history statuses.NoMemory ends early = tt
+early_fault base steps lines history (statuses.BadDeploy fault) ends early = absurd ends
+early_fault base steps lines history (statuses.BadSignals line kind) ends early = absurd ends
+early_fault base steps lines history (statuses.TooLarge what) ends early = absurd ends
+early_fault base steps lines history statuses.NotBuilt ends early = absurd ends
 
 -- ---- deployments
 
@@ -296,10 +290,10 @@ abbrev said : Wrong → Status
 said (WrongAt side at kind) = statuses.BadJournal side at kind
 said (OtherFrom kept_len place) = statuses.OtherDeployment kept_len place
 
-wrong_is : (w x : Wrong) (r q : Result Parts Wrong) → r ≡ q → r ≡ Err w → q ≡ Err x → said w ≡ said x
+wrong_is : (w x : Wrong) (r q : Result State Wrong) → r ≡ q → r ≡ Err w → q ≡ Err x → said w ≡ said x
 wrong_is w x r q same is also = let one : w ≡ x = cc in ap said one
 
-told_wrong : (base : Parts) (steps : ℕ) (lines : List Signal) (history : List Entry) (status : Status) (w : Wrong) → EndsOn base steps lines history status → IsAnswerTo (Err w) status → (IsByFault status → ⊥) → status ≡ said w
+told_wrong : (base : State) (steps : ℕ) (lines : List Signal) (history : List Entry) (status : Status) (w : Wrong) → EndsOn base steps lines history status → IsAnswerTo (Err w) status → (IsByFault status → ⊥) → status ≡ said w
 told_wrong base steps lines history statuses.Ok w ends answer fine = absurd (cc)
 told_wrong base steps lines history statuses.BadWords w ends answer fine = absurd ends
 told_wrong base steps lines history statuses.ReadFault w ends answer fine = absurd (fine tt)
@@ -315,149 +309,422 @@ told_wrong base steps lines history (statuses.BadSignals line kind) w ends answe
 told_wrong base steps lines history (statuses.TooLarge what) w ends answer fine = absurd ends
 told_wrong base steps lines history statuses.NotBuilt w ends answer fine = absurd ends
 
-shown_wrong : (status : Status) (w : Wrong) → IsShownAt status → IsAnswerTo (Err w) status → (IsByFault status → ⊥) → status ≡ said w
-shown_wrong statuses.Ok w at answer fine = absurd (cc)
-shown_wrong statuses.BadWords w at answer fine = absurd at
-shown_wrong statuses.ReadFault w at answer fine = absurd at
-shown_wrong statuses.WriteFault w at answer fine = absurd at
-shown_wrong statuses.DiskFault w at answer fine = absurd (fine tt)
-shown_wrong (statuses.BadJournal side place kind) w at answer fine = sym (wrong_is w (WrongAt side place kind) (Err w) (Err (WrongAt side place kind)) answer refl refl)
-shown_wrong (statuses.OtherDeployment kept_len place) w at answer fine = sym (wrong_is w (OtherFrom kept_len place) (Err w) (Err (OtherFrom kept_len place)) answer refl refl)
-shown_wrong (statuses.Full size adding) w at answer fine = absurd at
-shown_wrong (statuses.StepsSpent entries) w at answer fine = absurd at
-shown_wrong statuses.NoMemory w at answer fine = absurd (fine tt)
-shown_wrong (statuses.BadDeploy fault) w at answer fine = absurd at
-shown_wrong (statuses.BadSignals line kind) w at answer fine = absurd at
-shown_wrong (statuses.TooLarge what) w at answer fine = absurd at
-shown_wrong statuses.NotBuilt w at answer fine = absurd at
+-- ---- what a run came to, unless it is by a fault
 
-shown_fine : (status : Status) (s : Parts) → IsShownAt status → IsAnswerTo (Ok s) status → (IsByFault status → ⊥) → status ≡ statuses.Ok
-shown_fine statuses.Ok s at answer fine = refl
-shown_fine statuses.BadWords s at answer fine = absurd at
-shown_fine statuses.ReadFault s at answer fine = absurd at
-shown_fine statuses.WriteFault s at answer fine = absurd at
-shown_fine statuses.DiskFault s at answer fine = absurd (fine tt)
-shown_fine (statuses.BadJournal side place kind) s at answer fine = absurd (cc)
-shown_fine (statuses.OtherDeployment kept_len place) s at answer fine = absurd (cc)
-shown_fine (statuses.Full size adding) s at answer fine = absurd at
-shown_fine (statuses.StepsSpent entries) s at answer fine = absurd at
-shown_fine statuses.NoMemory s at answer fine = absurd (fine tt)
-shown_fine (statuses.BadDeploy fault) s at answer fine = absurd at
-shown_fine (statuses.BadSignals line kind) s at answer fine = absurd at
-shown_fine (statuses.TooLarge what) s at answer fine = absurd at
-shown_fine statuses.NotBuilt s at answer fine = absurd at
+no_fault_memory : (stood : Status) → (IsByFault stood → ⊥) → stood ≢ statuses.NoMemory
+no_fault_memory stood fine is = fine (subst IsByFault (sym is) tt)
 
-said_text : (a b : Parts) (w : Wrong) → shown_text a (said w) ≡ shown_text b (said w)
+no_fault_disk : (status : Status) → (IsByFault status → ⊥) → status ≢ statuses.DiskFault
+no_fault_disk status fine is = fine (subst IsByFault (sym is) tt)
+
+-- the steps were reached and came to no end only by a fault
+between : (status : Status) → IsReachedTime (row_of status).time → IsUnendedTime (row_of status).time → IsByFault status
+between statuses.Ok reached unended = absurd unended
+between statuses.BadWords reached unended = absurd reached
+between statuses.ReadFault reached unended = absurd reached
+between statuses.WriteFault reached unended = absurd reached
+between statuses.DiskFault reached unended = tt
+between (statuses.BadJournal side at kind) reached unended = absurd reached
+between (statuses.OtherDeployment kept_len place) reached unended = absurd reached
+between (statuses.Full size adding) reached unended = absurd unended
+between (statuses.StepsSpent entries) reached unended = absurd unended
+between statuses.NoMemory reached unended = tt
+between (statuses.BadDeploy fault) reached unended = absurd reached
+between (statuses.BadSignals line kind) reached unended = absurd reached
+between (statuses.TooLarge what) reached unended = absurd reached
+between statuses.NotBuilt reached unended = absurd reached
+
+-- the whole report, or the status line alone
+data Prints (report : Report) (acked : List Entry) (ended : Status) (text : List ℕ) : Type 0 where
+  Whole : IsReachedTime (row_of ended).time → text ≡ output_text report acked ended → Prints report acked ended text
+  Alone : IsUnendedTime (row_of ended).time → text ≡ status_line ended → Prints report acked ended text
+
+prints_as : (report : Report) (history acked : List Entry) (ended stood : Status) (text : List ℕ) → IsTextOf report history acked ended stood text → (IsByFault stood → ⊥) → Prints report acked ended text
+prints_as report history acked ended stood text (inr alone) fine = Alone alone.unended alone.alone
+prints_as report history acked ended stood text (inl reported) fine = by reported.prints
+  where
+    by : ((stood ≡ ended) × (text ≡ output_text report acked ended)) ⊎ ((stood ≡ statuses.NoMemory) × (text ≡ short_text report acked)) → Prints report acked ended text
+    by (inl whole) = Whole reported.reached whole.1
+    by (inr short) = absurd (no_fault_memory stood fine short.0)
+
+one_text : (report : Report) (h k : List Entry) (s t : Status) (x y : List ℕ) → h ≡ k → s ≡ t → Prints report h s x → Prints report k t y → (IsByFault s → ⊥) → x ≡ y
+one_text report h k s t x y acked same (Whole reached is) (Whole more also) fine = is ∙ ap (λ (es : List Entry). output_text report es s) acked ∙ ap (output_text report k) same ∙ sym also
+one_text report h k s t x y acked same (Whole reached is) (Alone unended also) fine =
+    absurd (fine (between s reached (subst (λ (z : Status). IsUnendedTime (row_of z).time) (sym same) unended)))
+one_text report h k s t x y acked same (Alone unended is) (Whole reached also) fine =
+    absurd (fine (between s (subst (λ (z : Status). IsReachedTime (row_of z).time) (sym same) reached) unended))
+one_text report h k s t x y acked same (Alone unended is) (Alone more also) fine = is ∙ ap status_line same ∙ sym also
+
+-- ---- two runs over one document
+
+-- what is said of a run that opened the journal
+pub record IsMet (x : Document) (steps : ℕ) (lines : List Signal) (old new : DiskState) (o : Outcome) : Type 0 where
+  pub ends : EndsOn o.base steps lines o.history o.ended
+  pub alone : IsByOne o.base steps lines o.history o.ended
+  pub journal : KeepsJournal x o.base o.history o.acked old new o.ended
+  pub fine : IsByFault o.ended → ⊥
+
+met_state : (x : Document) (steps : ℕ) (lines other_lines : List Signal) (old one other : DiskState) (p q : Outcome) (s : State) → IsTrue old.told → found x old ≡ Ok s
+    → (p.base ≡ q.base → lines ≡ other_lines) → IsMet x steps lines old one p → IsMet x steps other_lines old other q → Same p.history q.history p.ended q.ended
+met_state x steps lines other_lines old one other p q s told is lined a b =
+    let same : p.base ≡ s = (a.journal.opened told).from s is in
+    let also : q.base ≡ s = (b.journal.opened told).from s is in
+    let first = subst (λ (t : State). IsByOne t steps lines p.history p.ended) same a.alone in
+    let again = subst (λ (l : List Signal). IsByOne q.base steps l q.history q.ended) (sym (lined (same ∙ sym also))) b.alone in
+    let second = subst (λ (t : State). IsByOne t steps lines q.history q.ended) also again in
+    let back = subst (λ (l : List Signal). EndsOn q.base steps l q.history q.ended) (sym (lined (same ∙ sym also))) b.ends in
+    let m = subst (λ (t : State). IsSized x t p.history old p.ended) same (a.journal.sized told (is ∙ ap (λ (t : State). Ok t) (sym same))) in
+    let n = subst (λ (t : State). IsSized x t q.history old q.ended) also (b.journal.sized told (is ∙ ap (λ (t : State). Ok t) (sym also))) in
+    on_lines x old s steps lines p.history first.rest q.history second.rest p.ended q.ended (first.front ∙ sym second.front) m.room n.room
+    (led x old s steps lines p.history p.ended (found x old) s (subst (λ (t : State). EndsOn t steps lines p.history p.ended) same a.ends) first m is (a.journal.opened told).answer a.fine)
+    (led x old s steps lines q.history q.ended (found x old) s (subst (λ (t : State). EndsOn t steps lines q.history q.ended) also back) second n is (b.journal.opened told).answer b.fine)
+
+met_wrong : (x : Document) (steps : ℕ) (lines other_lines : List Signal) (old one other : DiskState) (p q : Outcome) (w : Wrong) → IsTrue old.told → found x old ≡ Err w
+    → IsMet x steps lines old one p → IsMet x steps other_lines old other q → Same p.history q.history p.ended q.ended
+met_wrong x steps lines other_lines old one other p q w told is a b = (
+  told_wrong p.base steps lines p.history p.ended w a.ends (subst (λ r. IsAnswerTo r p.ended) is (a.journal.opened told).answer) a.fine
+      ∙ sym (told_wrong q.base steps other_lines q.history q.ended w b.ends (subst (λ r. IsAnswerTo r q.ended) is (b.journal.opened told).answer) b.fine),
+  (a.journal.opened told).none w is ∙ sym ((b.journal.opened told).none w is),
+)
+
+met : (x : Document) (steps : ℕ) (lines other_lines : List Signal) (old one other : DiskState) (p q : Outcome) (r : Result State Wrong) → IsTrue old.told → found x old ≡ r
+    → (p.base ≡ q.base → lines ≡ other_lines) → IsMet x steps lines old one p → IsMet x steps other_lines old other q → Same p.history q.history p.ended q.ended
+met x steps lines other_lines old one other p q (Ok s) told is lined a b = met_state x steps lines other_lines old one other p q s told is lined a b
+met x steps lines other_lines old one other p q (Err w) told is lined a b = met_wrong x steps lines other_lines old one other p q w told is a b
+
+-- ---- what is shown
+
+shown_wrong : (status : Status) (w : Wrong) → IsShownAt status → IsBarredShow status → IsAnswerTo (Err w) status → (IsByFault status → ⊥) → status ≡ said w
+shown_wrong statuses.Ok w at good answer fine = absurd (cc)
+shown_wrong statuses.BadWords w at good answer fine = absurd at
+shown_wrong statuses.ReadFault w at good answer fine = absurd (fine tt)
+shown_wrong statuses.WriteFault w at good answer fine = absurd at
+shown_wrong statuses.DiskFault w at good answer fine = absurd (fine tt)
+shown_wrong (statuses.BadJournal side place kind) w at good answer fine = sym (wrong_is w (WrongAt side place kind) (Err w) (Err (WrongAt side place kind)) answer refl refl)
+shown_wrong (statuses.OtherDeployment kept_len place) w at good answer fine = sym (wrong_is w (OtherFrom kept_len place) (Err w) (Err (OtherFrom kept_len place)) answer refl refl)
+shown_wrong (statuses.Full size adding) w at good answer fine = absurd at
+shown_wrong (statuses.StepsSpent entries) w at good answer fine = absurd at
+shown_wrong statuses.NoMemory w at good answer fine = absurd (fine tt)
+shown_wrong (statuses.BadDeploy fault) w at good answer fine = absurd good
+shown_wrong (statuses.BadSignals line kind) w at good answer fine = absurd at
+shown_wrong (statuses.TooLarge what) w at good answer fine = absurd good
+shown_wrong statuses.NotBuilt w at good answer fine = absurd at
+
+shown_fine : (status : Status) (s : State) → IsShownAt status → IsBarredShow status → IsAnswerTo (Ok s) status → (IsByFault status → ⊥) → status ≡ statuses.Ok
+shown_fine statuses.Ok s at good answer fine = refl
+shown_fine statuses.BadWords s at good answer fine = absurd at
+shown_fine statuses.ReadFault s at good answer fine = absurd (fine tt)
+shown_fine statuses.WriteFault s at good answer fine = absurd at
+shown_fine statuses.DiskFault s at good answer fine = absurd (fine tt)
+shown_fine (statuses.BadJournal side place kind) s at good answer fine = absurd (cc)
+shown_fine (statuses.OtherDeployment kept_len place) s at good answer fine = absurd (cc)
+shown_fine (statuses.Full size adding) s at good answer fine = absurd at
+shown_fine (statuses.StepsSpent entries) s at good answer fine = absurd at
+shown_fine statuses.NoMemory s at good answer fine = absurd (fine tt)
+shown_fine (statuses.BadDeploy fault) s at good answer fine = absurd good
+shown_fine (statuses.BadSignals line kind) s at good answer fine = absurd at
+shown_fine (statuses.TooLarge what) s at good answer fine = absurd good
+shown_fine statuses.NotBuilt s at good answer fine = absurd at
+
+said_text : (a b : State) (w : Wrong) → shown_text a (said w) ≡ shown_text b (said w)
 said_text a b (WrongAt side at kind) = refl
 said_text a b (OtherFrom kept_len place) = refl
 
--- what the words ask
+-- nothing is shown before the journal is opened but by a fault, where the deployment is good
+early_show : (status : Status) → IsShownAt status → IsBarredShow status → IsEarly status → IsByFault status
+early_show statuses.Ok at good early = absurd early
+early_show statuses.BadWords at good early = absurd at
+early_show statuses.ReadFault at good early = tt
+early_show statuses.WriteFault at good early = absurd at
+early_show statuses.DiskFault at good early = tt
+early_show (statuses.BadJournal side place kind) at good early = absurd early
+early_show (statuses.OtherDeployment kept_len place) at good early = absurd early
+early_show (statuses.Full size adding) at good early = absurd at
+early_show (statuses.StepsSpent entries) at good early = absurd at
+early_show statuses.NoMemory at good early = tt
+early_show (statuses.BadDeploy fault) at good early = absurd good
+early_show (statuses.BadSignals line kind) at good early = absurd at
+early_show (statuses.TooLarge what) at good early = absurd good
+early_show statuses.NotBuilt at good early = absurd at
+
+-- the refusal of a deployment is told
+one_some : (a b : Status) → ◌≡◌ {A = Option Status} (Some a) (Some b) → a ≡ b
+one_some a b is = cc
+
+faulty_refusal : (bytes : List ℕ) (fault : ReadFault) → IsFaulty bytes fault → refusal_of_deploy bytes ≡ Some (statuses.BadDeploy fault)
+faulty_refusal bytes fault is = within_deploy bytes is.within ∙ unread_fault_of (reading_of bytes) fault (counted_read bytes fault is.first)
+
+show_refused : (bytes : List ℕ) (refusal status : Status) → refusal_of_deploy bytes ≡ Some refusal → IsShownAt status → IsBarred bytes status → IsEarly status → (IsByFault status → ⊥) → status ≡ refusal
+show_refused bytes refusal statuses.Ok is at barred early fine = absurd early
+show_refused bytes refusal statuses.BadWords is at barred early fine = absurd at
+show_refused bytes refusal statuses.ReadFault is at barred early fine = absurd (fine tt)
+show_refused bytes refusal statuses.WriteFault is at barred early fine = absurd at
+show_refused bytes refusal statuses.DiskFault is at barred early fine = absurd (fine tt)
+show_refused bytes refusal (statuses.BadJournal side place kind) is at barred early fine = absurd early
+show_refused bytes refusal (statuses.OtherDeployment kept_len place) is at barred early fine = absurd early
+show_refused bytes refusal (statuses.Full size adding) is at barred early fine = absurd at
+show_refused bytes refusal (statuses.StepsSpent entries) is at barred early fine = absurd at
+show_refused bytes refusal statuses.NoMemory is at barred early fine = absurd (fine tt)
+show_refused bytes refusal (statuses.BadDeploy fault) is at barred early fine = one_some (statuses.BadDeploy fault) refusal (sym (faulty_refusal bytes fault barred) ∙ is)
+show_refused bytes refusal (statuses.BadSignals line kind) is at barred early fine = absurd at
+show_refused bytes refusal (statuses.TooLarge givens.Deploy) is at barred early fine = one_some (statuses.TooLarge givens.Deploy) refusal (sym (large_deploy bytes barred) ∙ is)
+show_refused bytes refusal (statuses.TooLarge givens.Signals) is at barred early fine = absurd at
+show_refused bytes refusal statuses.NotBuilt is at barred early fine = absurd at
+
+-- ---- what the words ask
+
 data Asked (c : Command) : Type 0 where
-  Play : (steps : ℕ) → c ≡ commands.Play 1 steps → Asked c
+  Play : (mode : Mode) (steps : ℕ) → c ≡ command_for mode steps → Asked c
   Show : c ≡ commands.Show → Asked c
   Check : c ≡ commands.Check → Asked c
-  Later : ((steps : ℕ) → c ≢ commands.Play 1 steps) → c ≢ commands.Show → c ≢ commands.Check → Asked c
+  Gen : (seed count : ℕ) → c ≡ commands.Gen seed count → Asked c
+  Trial : (seed count : ℕ) → c ≡ commands.Trial seed count → Asked c
+  Later : IsLater c → Asked c
+
+by_workers : (mode : Mode) (workers steps : ℕ) (c : ℕ → Command) → ((n : ℕ) → (n ≢ 1) → IsLater (c n)) → c 1 ≡ command_for mode steps → Asked (c workers)
+by_workers mode workers steps c later one = elim (cases_eq workers 1) [
+  | inl is ↦ Play mode steps (ap c is ∙ one)
+  | inr more ↦ Later (later workers more)
+]
 
 asked : (c : Command) → Asked c
 asked commands.Check = Check refl
 asked commands.Show = Show refl
-asked commands.Compact = Later (λ steps is. cc) (λ is. cc) (λ is. cc)
-asked (commands.Resume workers steps) = Later (λ others is. cc) (λ is. cc) (λ is. cc)
-asked (commands.Gen seed count) = Later (λ others is. cc) (λ is. cc) (λ is. cc)
-asked (commands.Trial seed count) = Later (λ others is. cc) (λ is. cc) (λ is. cc)
-asked (commands.Play workers steps) = elim (cases_eq workers 1) [
-  | inl one ↦ Play steps (ap (λ (n : ℕ). commands.Play n steps) one)
-  | inr more ↦ Later (λ others is. let one : workers ≡ 1 = cc in more one) (λ is. cc) (λ is. cc)
-]
+asked commands.Compact = Later tt
+asked (commands.Gen seed count) = Gen seed count refl
+asked (commands.Trial seed count) = Trial seed count refl
+asked (commands.Play workers steps) = by_workers modes.AllNew workers steps (λ n. commands.Play n steps) (λ n more. more) refl
+asked (commands.Resume workers steps) = by_workers modes.SkipTaken workers steps (λ n. commands.Resume n steps) (λ n more. more) refl
 
--- ---- two runs
+plays_open : (words : List (List ℕ)) (mode : Mode) (steps : ℕ) → Plays words mode steps → Opens words
+plays_open words modes.AllNew steps plays = record { command = commands.Play 1 steps; asks = plays; opening = refl }
+plays_open words modes.SkipTaken steps plays = record { command = commands.Resume 1 steps; asks = plays; opening = refl }
 
-abbrev Equal : List Entry → List Entry → List ℕ → List ℕ → Status → Status → Type 0
-Equal h k x y s t = (s ≡ t) × (h ≡ k) × (x ≡ y)
+-- ---- one deployment
 
-no_disk : (status : Status) → (IsByFault status → ⊥) → status ≢ statuses.DiskFault
-no_disk status fine is = fine (subst IsByFault (sym is) tt)
+one_deployed : (bytes : List ℕ) (d e : Deployment) → IsDeployment bytes d → IsDeployment bytes e → deployed_of d.parts ≡ deployed_of e.parts
+one_deployed bytes d e one other = same_deployed bytes d e one.read other.read
+
+-- generated lines that were written
+data Generated (bytes text : List ℕ) (seed count : ℕ) (status : Status) : Type 0 where
+  Given : (d : Deployment) → status ≡ statuses.Ok → text ≡ generated_text seed count (deployed_of d.parts) → IsDeployment bytes d → Generated bytes text seed count status
+  Faulted : (fault : ReadFault) → status ≡ statuses.BadDeploy fault → text ≡ status_line status → IsFaulty bytes fault → Generated bytes text seed count status
+  Over : status ≡ statuses.TooLarge givens.Deploy → text ≡ status_line status → deploy_limit < length bytes → Generated bytes text seed count status
+
+generated_as : (bytes text : List ℕ) (seed count : ℕ) (status : Status) → IsCheckedAt status → IsLinesFor seed count (Some bytes) text status → (IsByFault status → ⊥) → Generated bytes text seed count status
+generated_as bytes text seed count statuses.Ok at is fine = Given is.0 refl is.1 is.2
+generated_as bytes text seed count statuses.BadWords at is fine = absurd at
+generated_as bytes text seed count statuses.ReadFault at is fine = absurd (fine tt)
+generated_as bytes text seed count (statuses.BadDeploy fault) at is fine = Faulted fault refl is.0 is.1
+generated_as bytes text seed count (statuses.BadSignals line kind) at is fine = absurd at
+generated_as bytes text seed count statuses.WriteFault at is fine = absurd at
+generated_as bytes text seed count statuses.DiskFault at is fine = absurd at
+generated_as bytes text seed count (statuses.BadJournal side place kind) at is fine = absurd at
+generated_as bytes text seed count (statuses.OtherDeployment kept_len place) at is fine = absurd at
+generated_as bytes text seed count (statuses.Full size adding) at is fine = absurd at
+generated_as bytes text seed count (statuses.StepsSpent entries) at is fine = absurd at
+generated_as bytes text seed count statuses.NoMemory at is fine = absurd (fine tt)
+generated_as bytes text seed count (statuses.TooLarge givens.Deploy) at is fine = Over refl is.0 is.1
+generated_as bytes text seed count (statuses.TooLarge givens.Signals) at is fine = absurd at
+generated_as bytes text seed count statuses.NotBuilt at is fine = absurd at
+
+one_generated : (bytes x y : List ℕ) (seed count : ℕ) (s t : Status) → Generated bytes x seed count s → Generated bytes y seed count t → (s ≡ t) × (x ≡ y)
+one_generated bytes x y seed count s t (Given d is prints a) (Given e also writes b) =
+    (is ∙ sym also, prints ∙ ap (generated_text seed count) (one_deployed bytes d e a b) ∙ sym writes)
+one_generated bytes x y seed count s t (Given d is prints a) (Faulted f also writes b) = absurd (read_counts bytes f (read_as d) a.read b.first)
+one_generated bytes x y seed count s t (Given d is prints a) (Over also writes more) = absurd (omega (arith, more, a.within))
+one_generated bytes x y seed count s t (Faulted e is prints a) (Given d also writes b) = absurd (read_counts bytes e (read_as d) b.read a.first)
+one_generated bytes x y seed count s t (Faulted e is prints a) (Faulted f also writes b) =
+    let both : ◌≡◌ {A = Result Counts ReadFault} (Err e) (Err f) = sym a.first ∙ b.first in
+    let same : e ≡ f = cc in
+    same_line x y s t (is ∙ ap statuses.BadDeploy same ∙ sym also) prints writes
+one_generated bytes x y seed count s t (Faulted e is prints a) (Over also writes more) = absurd (omega (arith, more, a.within))
+one_generated bytes x y seed count s t (Over is prints more) (Given d also writes b) = absurd (omega (arith, more, b.within))
+one_generated bytes x y seed count s t (Over is prints more) (Faulted f also writes b) = absurd (omega (arith, more, b.within))
+one_generated bytes x y seed count s t (Over is prints more) (Over also writes much) = same_line x y s t (is ∙ sym also) prints writes
+
+-- ---- a run that is by no fault
+
+unread_fault : (status : Status) → IsUnread status → IsByFault status
+unread_fault status (inl is) = subst IsByFault (sym is) tt
+unread_fault status (inr is) = subst IsByFault (sym is) tt
+
+record IsFine (words : List (List ℕ)) (deploy bytes : List ℕ) (old new : DiskState) (o : Outcome) : Type 0 where
+  pub over : IsRunOver words deploy bytes old new o
+  pub stands : o.stood ≡ o.ended
+  pub stood : IsByFault o.stood → ⊥
+  pub fine : IsByFault o.ended → ⊥
+
+fine_run : (words : List (List ℕ)) (deploy bytes : List ℕ) (old new : DiskState) (o : Outcome) → IsRunOver words deploy bytes old new o → (IsByFault o.stood → ⊥) → IsFine words deploy bytes old new o
+fine_run words deploy bytes old new o over stood =
+    let stands : o.stood ≡ o.ended = over.run.same (no_fault_memory o.stood stood) in
+    record { over = over; stands = stands; stood = stood; fine = λ fault. stood (subst IsByFault (sym stands) fault) }
+
+-- the document of such a run
+opened_by : (words : List (List ℕ)) (deploy bytes : List ℕ) (old new : DiskState) (o : Outcome) (r : IsFine words deploy bytes old new o) → Opens words → (IsEarly o.ended → IsByFault o.ended) → IsDocument (Some deploy) r.over.document
+opened_by words deploy bytes old new o r opens early = by (r.over.given opens)
+  where
+    by : IsDocument (Some deploy) r.over.document ⊎ IsBefore o.history old new o.ended → IsDocument (Some deploy) r.over.document
+    by (inl is) = is
+    by (inr before) = absurd (r.fine (early before.early))
+
+-- the same over another name of the document
+same_journal : (x y : Document) (old new : DiskState) (o : Outcome) → x ≡ y → KeepsJournal x o.base o.history o.acked old new o.ended → KeepsJournal y o.base o.history o.acked old new o.ended
+same_journal x y old new o is keeps = subst (λ (z : Document). KeepsJournal z o.base o.history o.acked old new o.ended) is keeps
+
+module _ (old one other : DiskState) (words : List (List ℕ)) (deploy bytes : List ℕ) (p q : Outcome) (told : IsTrue old.told)
+    (first : IsFine words deploy bytes old one p) (second : IsFine words deploy bytes old other q) where
+  -- equal outcomes, by what they ended with
+  equal : (report : Report) → Same p.history q.history p.ended q.ended → IsTextOf report p.history p.acked p.ended p.stood p.text → IsTextOf report q.history q.acked q.ended q.stood q.text
+      → (p.stood ≡ q.stood) × (p.history ≡ q.history) × (p.text ≡ q.text)
+  equal report same x y =
+      let acked : p.acked ≡ q.acked = first.over.run.legal.whole (no_fault_disk p.ended first.fine) ∙ same.1 ∙ sym (second.over.run.legal.whole (no_fault_disk q.ended second.fine)) in (
+        first.stands ∙ same.0 ∙ sym second.stands,
+        same.1,
+        one_text report p.acked q.acked p.ended q.ended p.text q.text acked same.0 (prints_as report p.history p.acked p.ended p.stood p.text x first.stood)
+            (prints_as report q.history q.acked q.ended q.stood q.text y second.stood) first.fine,
+      )
+
+  -- where the sources are refused
+  refused_same : (refusal : Status) → (p.history ≡ []) × IsRefusedAs refusal p.ended → (q.history ≡ []) × IsRefusedAs refusal q.ended → Same p.history q.history p.ended q.ended
+  refused_same refusal a b =
+      (refused_status refusal p.ended a.1 first.fine ∙ sym (refused_status refusal q.ended b.1 second.fine), a.0 ∙ sym b.0)
+
+  -- both opened one document
+  documents : Opens words → (IsEarly p.ended → IsByFault p.ended) → (IsEarly q.ended → IsByFault q.ended) → second.over.document ≡ first.over.document
+  documents opens a b =
+      one_document deploy second.over.document first.over.document (opened_by words deploy bytes old other q second opens b) (opened_by words deploy bytes old one p first opens a)
+
+  both_met : (opens : Opens words) (steps : ℕ) (lines other_lines : List Signal) → (p.base ≡ q.base → lines ≡ other_lines)
+      → EndsOn p.base steps lines p.history p.ended → IsByOne p.base steps lines p.history p.ended
+      → EndsOn q.base steps other_lines q.history q.ended → IsByOne q.base steps other_lines q.history q.ended → Same p.history q.history p.ended q.ended
+  both_met opens steps lines other_lines lined a b c d =
+      let same = documents opens (early_fault p.base steps lines p.history p.ended a) (early_fault q.base steps other_lines q.history q.ended c) in
+      met first.over.document steps lines other_lines old one other p q (found first.over.document old) told refl lined
+      (record { ends = a; alone = b; journal = first.over.journal opens; fine = first.fine })
+      (record { ends = c; alone = d; journal = same_journal second.over.document first.over.document old other q same (second.over.journal opens); fine = second.fine })
+
+  play_same : (opens : Opens words) (mode : Mode) (steps : ℕ) (o : Option Status) → refusal_of deploy bytes ≡ o
+      → MatchOption o (EndsOn p.base steps (lines_of_run mode p.base (lines_in bytes)) p.history p.ended) (λ r. (p.history ≡ []) × IsRefusedAs r p.ended) → IsByOneOn p.base mode steps deploy bytes p.history p.ended
+      → MatchOption o (EndsOn q.base steps (lines_of_run mode q.base (lines_in bytes)) q.history q.ended) (λ r. (q.history ≡ []) × IsRefusedAs r q.ended) → IsByOneOn q.base mode steps deploy bytes q.history q.ended
+      → Same p.history q.history p.ended q.ended
+  play_same opens mode steps None is a b c d =
+      both_met opens steps (lines_of_run mode p.base (lines_in bytes)) (lines_of_run mode q.base (lines_in bytes)) (λ same. ap (λ (s : State). lines_of_run mode s (lines_in bytes)) same) a (b is) c (d is)
+  play_same opens mode steps (Some refusal) is a b c d = refused_same refusal a c
+
+  trial_same : (opens : Opens words) (seed count : ℕ) (o : Option Status) → MatchOption o (IsTrialOrNone p.base seed count deploy p.history p.ended) (λ r. (p.history ≡ []) × IsRefusedAs r p.ended)
+      → MatchOption o (IsTrialOrNone q.base seed count deploy q.history q.ended) (λ r. (q.history ≡ []) × IsRefusedAs r q.ended) → Same p.history q.history p.ended q.ended
+  trial_same opens seed count (Some refusal) a b = refused_same refusal a b
+  trial_same opens seed count None (inr nothing) b = absurd (first.fine (unread_fault p.ended nothing.1))
+  trial_same opens seed count None (inl x) (inr nothing) = absurd (second.fine (unread_fault q.ended nothing.1))
+  trial_same opens seed count None (inl x) (inl y) =
+      both_met opens trial_steps (generated seed count (deployed_of x.deployment.parts)) (generated seed count (deployed_of y.deployment.parts))
+      (λ same. ap (generated seed count) (one_deployed deploy x.deployment y.deployment x.given y.given)) x.ends x.alone y.ends y.alone
+
+  -- a deployment that is refused was opened by none
+  unopened : (opens : Opens words) (refusal : Status) → refusal_of_deploy deploy ≡ Some refusal → (new : DiskState) (o : Outcome) (r : IsFine words deploy bytes old new o) → IsShownAt o.ended → IsBarred deploy o.ended → o.ended ≡ refusal
+  unopened opens refusal is new o r at barred = by (r.over.given opens)
+    where
+      none : (x : Document) → IsDocument (Some deploy) x → refusal_of_deploy deploy ≡ None
+      none x document = subst (λ (b : List ℕ). refusal_of_deploy b ≡ None) document.told (good_deploy x.bytes document.deployment document.given)
+
+      by : IsDocument (Some deploy) r.over.document ⊎ IsBefore o.history old new o.ended → o.ended ≡ refusal
+      by (inl document) = let never : ◌≡◌ {A = Option Status} (Some refusal) None = sym is ∙ none r.over.document document in absurd (cc)
+      by (inr before) = show_refused deploy refusal o.ended is at barred before.early r.fine
+
+  bad_shown : (refusal : Status) → refusal_of_deploy deploy ≡ Some refusal → (status : Status) → status ≡ refusal → (a b : State) → (status ≢ statuses.Ok) → shown_text a status ≡ shown_text b status
+  bad_shown refusal is status same a b fine = by status fine
+    where
+      by : (t : Status) → (t ≢ statuses.Ok) → shown_text a t ≡ shown_text b t
+      by statuses.Ok up = absurd (up refl)
+      by statuses.BadWords up = refl
+      by statuses.ReadFault up = refl
+      by statuses.WriteFault up = refl
+      by statuses.DiskFault up = refl
+      by (statuses.BadJournal side place kind) up = refl
+      by (statuses.OtherDeployment kept_len place) up = refl
+      by (statuses.Full size adding) up = refl
+      by (statuses.StepsSpent entries) up = refl
+      by statuses.NoMemory up = refl
+      by (statuses.BadDeploy fault) up = refl
+      by (statuses.BadSignals line kind) up = refl
+      by (statuses.TooLarge what) up = refl
+      by statuses.NotBuilt up = refl
+
+  -- both show one state
+  show_found : (opens : Opens words) (x : Document) → first.over.document ≡ x → second.over.document ≡ x → (r : Result State Wrong) → found x old ≡ r → IsShownAt p.ended → IsShownAt q.ended → IsBarredShow p.ended → IsBarredShow q.ended
+      → (p.ended ≡ q.ended) × (shown_text p.base p.ended ≡ shown_text q.base q.ended)
+  show_found opens x one_is other_is (Ok s) is a b good better =
+      let keeps = same_journal first.over.document x old one p one_is (first.over.journal opens) in
+      let kept = same_journal second.over.document x old other q other_is (second.over.journal opens) in
+      let m : p.ended ≡ statuses.Ok = shown_fine p.ended s a good (subst (λ r. IsAnswerTo r p.ended) is (keeps.opened told).answer) first.fine in
+      let n : q.ended ≡ statuses.Ok = shown_fine q.ended s b better (subst (λ r. IsAnswerTo r q.ended) is (kept.opened told).answer) second.fine in
+      let based : p.base ≡ q.base = (keeps.opened told).from s is ∙ sym ((kept.opened told).from s is) in
+      (m ∙ sym n, ap (shown_text p.base) (m ∙ sym n) ∙ ap (λ (t : State). shown_text t q.ended) based)
+  show_found opens x one_is other_is (Err w) is a b good better =
+      let keeps = same_journal first.over.document x old one p one_is (first.over.journal opens) in
+      let kept = same_journal second.over.document x old other q other_is (second.over.journal opens) in
+      let m : p.ended ≡ said w = shown_wrong p.ended w a good (subst (λ r. IsAnswerTo r p.ended) is (keeps.opened told).answer) first.fine in
+      let n : q.ended ≡ said w = shown_wrong q.ended w b better (subst (λ r. IsAnswerTo r q.ended) is (kept.opened told).answer) second.fine in
+      (m ∙ sym n, ap (shown_text p.base) m ∙ said_text p.base q.base w ∙ ap (shown_text q.base) (sym n))
+
+  no_ok : (refusal status : Status) → refusal_of_deploy deploy ≡ Some refusal → status ≡ refusal → status ≢ statuses.Ok
+  no_ok refusal status is same fine = refusal_not_ok deploy (is ∙ ap (λ (s : Status). Some s) (sym same ∙ fine))
+
+  show_same : (opens : Opens words) (o : Option Status) → refusal_of_deploy deploy ≡ o → IsShow p.base (Some deploy) p.history p.text p.ended → IsShow q.base (Some deploy) q.history q.text q.ended
+      → (p.ended ≡ q.ended) × (shown_text p.base p.ended ≡ shown_text q.base q.ended)
+  show_same opens (Some refusal) is x y =
+      let m = unopened opens refusal is one p first x.comes x.barred in
+      let n = unopened opens refusal is other q second y.comes y.barred in
+      (m ∙ sym n, ap (shown_text p.base) (m ∙ sym n) ∙ bad_shown refusal is q.ended n p.base q.base (no_ok refusal q.ended is n))
+  show_same opens None is x y =
+      let good = barred_good deploy p.ended x.barred is in
+      let better = barred_good deploy q.ended y.barred is in
+      show_found opens first.over.document refl (documents opens (early_show p.ended x.comes good) (early_show q.ended y.comes better)) (found first.over.document old) refl x.comes y.comes good better
+
+  by_asked : (c : Command) → command_of words ≡ Some c → Asked c → (p.stood ≡ q.stood) × (p.history ≡ q.history) × (p.text ≡ q.text)
+  by_asked c is (Later later) =
+      let asks : AsksLater words = record { command = c; asks = is; later = later } in
+      let x = first.over.run.later asks in
+      let y = second.over.run.later asks in
+      (first.stands ∙ x.same ∙ sym y.same ∙ sym second.stands, x.none ∙ sym y.none, x.alone ∙ sym y.alone)
+  by_asked c is (Check checks) =
+      let asks : command_of words ≡ Some commands.Check = is ∙ ap (λ (d : Command). Some d) checks in
+      let x = first.over.run.checks asks in
+      let y = second.over.run.checks asks in
+      let two = one_check deploy p.text q.text p.ended q.ended (checked_as deploy p.text p.ended x.comes x.prints first.fine) (checked_as deploy q.text q.ended y.comes y.prints second.fine) in
+      (first.stands ∙ two.0 ∙ sym second.stands, x.none ∙ sym y.none, two.1)
+  by_asked c is (Gen seed count gens) =
+      let asks : command_of words ≡ Some (commands.Gen seed count) = is ∙ ap (λ (d : Command). Some d) gens in
+      let x = first.over.run.generates seed count asks in
+      let y = second.over.run.generates seed count asks in
+      let two = one_generated deploy p.text q.text seed count p.ended q.ended (generated_as deploy p.text seed count p.ended x.comes x.prints first.fine) (generated_as deploy q.text seed count q.ended y.comes y.prints second.fine) in
+      (first.stands ∙ two.0 ∙ sym second.stands, x.none ∙ sym y.none, two.1)
+  by_asked c is (Show shows) =
+      let asks : command_of words ≡ Some commands.Show = is ∙ ap (λ (d : Command). Some d) shows in
+      let x = first.over.run.shows asks in
+      let y = second.over.run.shows asks in
+      let two = show_same (record { command = commands.Show; asks = asks; opening = tt }) (refusal_of_deploy deploy) refl x y in
+      (first.stands ∙ two.0 ∙ sym second.stands, x.none ∙ sym y.none, x.prints ∙ two.1 ∙ sym y.prints)
+  by_asked c is (Play mode steps plays) =
+      let asks : command_of words ≡ Some (command_for mode steps) = is ∙ ap (λ (d : Command). Some d) plays in
+      let x = first.over.run.plays mode steps asks in
+      let y = second.over.run.plays mode steps asks in
+      equal reports.Trace (play_same (plays_open words mode steps asks) mode steps (refusal_of deploy bytes) refl x.comes (first.over.run.alone mode steps asks) y.comes (second.over.run.alone mode steps asks)) x.prints y.prints
+  by_asked c is (Trial seed count tries) =
+      let asks : command_of words ≡ Some (commands.Trial seed count) = is ∙ ap (λ (d : Command). Some d) tries in
+      let x = first.over.run.tries seed count asks in
+      let y = second.over.run.tries seed count asks in
+      equal reports.Summary (trial_same (record { command = commands.Trial seed count; asks = asks; opening = tt }) seed count (refusal_of_deploy deploy) x.comes y.comes) x.prints y.prints
+
+  by_command : (o : Option Command) → command_of words ≡ o → (p.stood ≡ q.stood) × (p.history ≡ q.history) × (p.text ≡ q.text)
+  by_command None is =
+      let x = first.over.run.bad is in
+      let y = second.over.run.bad is in
+      (first.stands ∙ x.same ∙ sym y.same ∙ sym second.stands, x.none ∙ sym y.none, x.alone ∙ sym y.alone)
+  by_command (Some c) is = by_asked c is (asked c)
 
 pub determined : (old one other : DiskState) (words : List (List ℕ)) (deploy bytes : List ℕ) (p q : Outcome) → IsTrue old.told → IsRunOver words deploy bytes old one p → IsRunOver words deploy bytes old other q
-    → (IsByFault p.status → ⊥) → (IsByFault q.status → ⊥) → (p.status ≡ q.status) × (p.history ≡ q.history) × (p.text ≡ q.text)
-determined old one other words deploy bytes p q told first second fine good = by_command (command_of words) refl
-  where
-    -- what both have where the bytes of the disk stand for a state
-    base_is : (unchecked : Checks words → ⊥) (s : Parts) → found old ≡ Ok s → p.base ≡ q.base
-    base_is unchecked s is = ((first.journal unchecked).opened told).from s is ∙ sym (((second.journal unchecked).opened told).from s is)
-
-    on_state : (unchecked : Checks words → ⊥) (steps : ℕ) (lines : List Signal) (s : Parts) → found old ≡ Ok s → EndsOn p.base steps lines p.history p.status → IsByOne p.base steps lines p.history p.status
-        → EndsOn q.base steps lines q.history q.status → IsByOne q.base steps lines q.history q.status → Same p.history q.history p.status q.status
-    on_state unchecked steps lines s is a b c d =
-        let same : p.base ≡ s = ((first.journal unchecked).opened told).from s is in
-        let also : q.base ≡ s = ((second.journal unchecked).opened told).from s is in
-        let x = subst (λ (t : Parts). IsByOne t steps lines p.history p.status) same b in
-        let y = subst (λ (t : Parts). IsByOne t steps lines q.history q.status) also d in
-        let m = subst (λ (t : Parts). IsSized t p.history old p.status) same ((first.journal unchecked).sized told (is ∙ ap (λ (t : Parts). Ok t) (sym same))) in
-        let n = subst (λ (t : Parts). IsSized t q.history old q.status) also ((second.journal unchecked).sized told (is ∙ ap (λ (t : Parts). Ok t) (sym also))) in
-        on_lines old s steps lines p.history x.rest q.history y.rest p.status q.status (x.front ∙ sym y.front) m.room n.room
-        (led old s steps lines p.history p.status (found old) s (subst (λ (t : Parts). EndsOn t steps lines p.history p.status) same a) x m is ((first.journal unchecked).opened told).answer fine)
-        (led old s steps lines q.history q.status (found old) s (subst (λ (t : Parts). EndsOn t steps lines q.history q.status) also c) y n is ((second.journal unchecked).opened told).answer good)
-
-    on_wrong : (unchecked : Checks words → ⊥) (steps : ℕ) (lines : List Signal) (w : Wrong) → found old ≡ Err w → EndsOn p.base steps lines p.history p.status → EndsOn q.base steps lines q.history q.status
-        → Same p.history q.history p.status q.status
-    on_wrong unchecked steps lines w is a c = (
-      told_wrong p.base steps lines p.history p.status w a (subst (λ r. IsAnswerTo r p.status) is ((first.journal unchecked).opened told).answer) fine
-          ∙ sym (told_wrong q.base steps lines q.history q.status w c (subst (λ r. IsAnswerTo r q.status) is ((second.journal unchecked).opened told).answer) good),
-      ((first.journal unchecked).opened told).none w is ∙ sym (((second.journal unchecked).opened told).none w is),
-    )
-
-    on_bytes : (unchecked : Checks words → ⊥) (steps : ℕ) (lines : List Signal) (r : Result Parts Wrong) → found old ≡ r → EndsOn p.base steps lines p.history p.status → IsByOne p.base steps lines p.history p.status
-        → EndsOn q.base steps lines q.history q.status → IsByOne q.base steps lines q.history q.status → Same p.history q.history p.status q.status
-    on_bytes unchecked steps lines (Ok s) is a b c d = on_state unchecked steps lines s is a b c d
-    on_bytes unchecked steps lines (Err w) is a b c d = on_wrong unchecked steps lines w is a c
-
-    on_given : (unchecked : Checks words → ⊥) (steps : ℕ) (given : Option (List Signal))
-        → MatchOption given ((p.history ≡ []) × IsRefused bytes p.status) (λ lines. EndsOn p.base steps lines p.history p.status) → IfSome given (λ lines. IsByOne p.base steps lines p.history p.status)
-        → MatchOption given ((q.history ≡ []) × IsRefused bytes q.status) (λ lines. EndsOn q.base steps lines q.history q.status) → IfSome given (λ lines. IsByOne q.base steps lines q.history q.status)
-        → Same p.history q.history p.status q.status
-    on_given unchecked steps None a b c d = (one_refusal bytes p.status q.status (barred bytes p.status a.1 fine) (barred bytes q.status c.1 good), a.0 ∙ sym c.0)
-    on_given unchecked steps (Some lines) a b c d = on_bytes unchecked steps lines (found old) refl a b c d
-
-    show_on : (unchecked : Checks words → ⊥) (r : Result Parts Wrong) → found old ≡ r → IsShownAt p.status → IsShownAt q.status → (p.status ≡ q.status) × (shown_text p.base p.status ≡ shown_text q.base q.status)
-    show_on unchecked (Ok s) is a b =
-        let x : p.status ≡ statuses.Ok = shown_fine p.status s a (subst (λ r. IsAnswerTo r p.status) is ((first.journal unchecked).opened told).answer) fine in
-        let y : q.status ≡ statuses.Ok = shown_fine q.status s b (subst (λ r. IsAnswerTo r q.status) is ((second.journal unchecked).opened told).answer) good in
-        (x ∙ sym y, ap (shown_text p.base) (x ∙ sym y) ∙ ap (λ (t : Parts). shown_text t q.status) (base_is unchecked s is))
-    show_on unchecked (Err w) is a b =
-        let x : p.status ≡ said w = shown_wrong p.status w a (subst (λ r. IsAnswerTo r p.status) is ((first.journal unchecked).opened told).answer) fine in
-        let y : q.status ≡ said w = shown_wrong q.status w b (subst (λ r. IsAnswerTo r q.status) is ((second.journal unchecked).opened told).answer) good in
-        (x ∙ sym y, ap (shown_text p.base) x ∙ said_text p.base q.base w ∙ ap (shown_text q.base) (sym y))
-
-    by_asked : (c : Command) → command_of words ≡ Some c → Asked c → Equal p.history q.history p.text q.text p.status q.status
-    by_asked c is (Later play show check) =
-        let asks : AsksLater words = record { command = c; asks = is; no_play = play; no_show = show; no_check = check } in
-        let x = first.run.later asks in
-        let y = second.run.later asks in
-        (x.same ∙ sym y.same, x.none ∙ sym y.none, x.alone ∙ sym y.alone)
-    by_asked c is (Check checks) =
-        let asks : command_of words ≡ Some commands.Check = is ∙ ap (λ (d : Command). Some d) checks in
-        let x = first.run.checks asks in
-        let y = second.run.checks asks in
-        let two = one_check deploy p.text q.text p.status q.status (checked_as deploy p.text p.status x.comes x.prints fine) (checked_as deploy q.text q.status y.comes y.prints good) in
-        (two.0, x.none ∙ sym y.none, two.1)
-    by_asked c is (Show shows) =
-        let asks : command_of words ≡ Some commands.Show = is ∙ ap (λ (d : Command). Some d) shows in
-        let x = first.run.shows asks in
-        let y = second.run.shows asks in
-        let two = show_on (shows_only words asks) (found old) refl x.comes y.comes in
-        (two.0, x.none ∙ sym y.none, x.prints ∙ two.1 ∙ sym y.prints)
-    by_asked c is (Play steps plays) =
-        let asks : command_of words ≡ Some (commands.Play 1 steps) = is ∙ ap (λ (d : Command). Some d) plays in
-        let x = first.run.plays steps asks in
-        let y = second.run.plays steps asks in
-        let same = on_given (plays_only words steps asks) steps (lines_given bytes) x.comes (first.run.alone steps asks) y.comes (second.run.alone steps asks) in
-        let acked : p.acked ≡ q.acked = first.run.legal.whole (no_disk p.status fine) ∙ same.1 ∙ sym (second.run.legal.whole (no_disk q.status good)) in
-        (same.0, same.1, x.prints ∙ ap (λ (es : List Entry). output_text es p.status) acked ∙ ap (output_text q.acked) same.0 ∙ sym y.prints)
-
-    by_command : (o : Option Command) → command_of words ≡ o → Equal p.history q.history p.text q.text p.status q.status
-    by_command None is =
-        let x = first.run.bad is in
-        let y = second.run.bad is in
-        (x.same ∙ sym y.same, x.none ∙ sym y.none, x.alone ∙ sym y.alone)
-    by_command (Some c) is = by_asked c is (asked c)
+    → (IsByFault p.stood → ⊥) → (IsByFault q.stood → ⊥) → (p.stood ≡ q.stood) × (p.history ≡ q.history) × (p.text ≡ q.text)
+determined old one other words deploy bytes p q told first second fine good =
+    by_command old one other words deploy bytes p q told (fine_run words deploy bytes old one p first fine) (fine_run words deploy bytes old other q second good) (command_of words) refl

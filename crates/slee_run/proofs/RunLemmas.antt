@@ -1,186 +1,357 @@
 -- What a run is, by what its words ask.
-use Rattle.std.proofs.Common.{◌≡◌, ◌≢◌, ◌⊎◌, inl, inr, ℕ, List, [], true, false, refl, sym, ◌∙◌, ap, subst, Option, Some, None, Result, Ok, Err, IsOk, IfSome, MatchOption, is_some, arith}
-use Rattle.signal_script.specs.declared.signal.Signal.{Signal}
+use Rattle.std.proofs.Common.{◌≡◌, ◌≢◌, ◌⊎◌, inl, inr, ℕ, ◌<◌, ◌≤◌, List, [], length, true, false, refl, sym, ◌∙◌, ap, subst, Option, Some, None, Result, Ok, Err, IsOk, IsTrue, IfSome, MatchOption, arith}
 use Rattle.slee_disk.specs.Disk.{DiskState}
 use Rattle.commit_journal.specs.Reading.{Wrong, Bad, Other}
-use Rattle.router_model.specs.State.{Parts}
+use Rattle.router_state.specs.State.{State}
+use Rattle.signal_script.specs.declared.signal.Signal.{Signal}
 use Rattle.trace_history.specs.declared.entry.Entry.{Entry}
 use Rattle.deploy_json.specs.declared.fault.ReadFault.{ReadFault}
+use Rattle.deploy_json.specs.Checking.{Reading, reading_of, read_as}
+use Rattle.deploy_report.specs.Counting.{counts_in, counts_of, counts_read}
 use Rattle.deploy_report.specs.declared.counts.Counts.{Counts}
+use Rattle.slee_container.specs.declared.container.Mode.{Mode}
+use Rattle.slee_container.specs.declared.container.Mode.TheVariants as modes
 use Rattle.slee_run.specs.Words.{command_of}
 use Rattle.slee_run.specs.Status.{status_line}
-use Rattle.slee_run.specs.Text.{output_text, shown_text}
-use Rattle.slee_run.specs.Headline.{Plays, Shows, Checks, lines_given, EndsOn, ComesOn, IsShownAt, IsWritten, IsLegalRun, IsComplete, IsShown, IsWholeCheck}
-use Rattle.slee_run.specs.Opening.{found, IsAnswerTo, IsGood}
-use Rattle.slee_run.specs.Answers.{IsPlayedBy, IsPlayFrom, IsShownBy, IsCheckedBy, IsFormOf}
-use Rattle.slee_run.specs.Checking.{IsTextFor, IsCheckedAt, IsAnswerFor}
+use Rattle.slee_run.specs.Text.{shown_text}
+use Rattle.slee_run.specs.Given.{Document, IsDocument, deploy_limit, refusal_of, refusal_of_deploy, unread}
+use Rattle.slee_run.specs.Headline.{command_for, Plays, Shows, Tries, Opens, IsLater, IsOpening, IsOfDeployment, EndsOn, ComesOn, IsBefore, IsByOneFrom, IsTrial, IsTrialOrNone, IsUnread, IsShownAt, IsWritten, IsLegalRun, IsComplete, IsCompleteTrial, IsShown, IsWholeCheck, trial_steps}
+use Rattle.slee_run.specs.Opening.{found, IsAnswerTo, IsEarly, IsGood}
+use Rattle.slee_run.specs.Answers.{Outcome, IsCheckedBy, IsFormOf, IsGeneratedBy, IsPlayedFrom, IsShownBy, IsTriedBy}
+use Rattle.slee_run.specs.Checking.{IsTextFor, IsCheckedAt, IsAnswerFor, IsBarred, IsFaulty, IsGenerated, IsLinesFor}
 use Rattle.slee_run.specs.declared.command.Command.{Command}
 use Rattle.slee_run.specs.declared.command.Command.TheVariants as commands
+use Rattle.slee_run.specs.declared.running.Run.{Run}
+use Rattle.slee_run.specs.declared.generating.Seeded.{Seeded}
 use Rattle.slee_run.specs.declared.top.Form.TheVariants as forms
 use Rattle.slee_run.specs.declared.status.Given.TheVariants as givens
 use Rattle.slee_run.specs.declared.status.Status.{Status}
 use Rattle.slee_run.specs.declared.status.Status.TheVariants as statuses
-use Rattle.slee_run.proofs.JournalLemmas.{or_initial, no_history, untouched}
+use Rattle.slee_run.proofs.JournalLemmas.{base_on, no_history}
+use Rattle.slee_run.proofs.AnswerLemmas.{nowhere}
+use Rattle.slee_run.proofs.DeployLemmas.{one_document}
+use Rattle.slee_run.proofs.ReadLemmas.{large_deploy, within_deploy}
 
 one_command : (o : Option Command) (c d : Command) → o ≡ Some c → o ≡ Some d → c ≡ d
 one_command o c d p q = cc (sym p ∙ q)
 
-no_command : (o : Option Command) (c : Command) → o ≡ None → o ≡ Some c → ⊥
+pub no_command : (o : Option Command) (c : Command) → o ≡ None → o ≡ Some c → ⊥
 no_command o c p q = cc
 
-other_command : (c d : Command) → c ≡ d → (d ≢ c) → ⊥
-other_command c d is other = other (sym is)
+-- which form a command has
+abbrev pub Kind : Command → ℕ
+Kind commands.Check = 0
+Kind (commands.Play workers steps) = 1
+Kind (commands.Resume workers steps) = 2
+Kind commands.Show = 3
+Kind commands.Compact = 4
+Kind (commands.Gen seed count) = 5
+Kind (commands.Trial seed count) = 6
 
--- words that play, and words that show, don't check
-pub plays_only : (words : List (List ℕ)) (steps : ℕ) → Plays words steps → Checks words → ⊥
-plays_only words steps plays checks = let never : commands.Play 1 steps ≡ commands.Check = one_command (command_of words) (commands.Play 1 steps) commands.Check plays checks in cc
+pub other : (words : List (List ℕ)) (c d : Command) → command_of words ≡ Some c → command_of words ≡ Some d → Kind c ≡ Kind d
+other words c d p q = ap Kind (one_command (command_of words) c d p q)
 
-pub shows_only : (words : List (List ℕ)) → Shows words → Checks words → ⊥
-shows_only words shows checks = let never : commands.Show ≡ commands.Check = one_command (command_of words) commands.Show commands.Check shows checks in cc
+plays_kind : (mode : Mode) (steps : ℕ) → (Kind (command_for mode steps) ≡ 1) ⊎ (Kind (command_for mode steps) ≡ 2)
+plays_kind modes.AllNew steps = inl refl
+plays_kind modes.SkipTaken steps = inr refl
+
+-- words of another form don't play
+pub no_play : (words : List (List ℕ)) (c : Command) (mode : Mode) (steps : ℕ) → command_of words ≡ Some c → (Kind c ≡ 1 → ⊥) → (Kind c ≡ 2 → ⊥) → Plays words mode steps → ⊥
+no_play words c mode steps asks one two plays = by (plays_kind mode steps)
+  where
+    by : (Kind (command_for mode steps) ≡ 1) ⊎ (Kind (command_for mode steps) ≡ 2) → ⊥
+    by (inl is) = one (other words c (command_for mode steps) asks plays ∙ is)
+    by (inr is) = two (other words c (command_for mode steps) asks plays ∙ is)
+
+no_later : (words : List (List ℕ)) (c : Command) → command_of words ≡ Some c → (IsLater c → ⊥) → (d : Command) → command_of words ≡ Some d → IsLater d → ⊥
+no_later words c asks now d asks_too later = now (subst IsLater (sym (one_command (command_of words) c d asks asks_too)) later)
+
+pub plays_now : (mode : Mode) (steps : ℕ) → IsLater (command_for mode steps) → ⊥
+plays_now modes.AllNew steps later = later refl
+plays_now modes.SkipTaken steps later = later refl
+
+no_opening : (words : List (List ℕ)) (c : Command) → command_of words ≡ Some c → (IsOpening c → ⊥) → Opens words → ⊥
+no_opening words c asks closed opens = closed (subst IsOpening (sym (one_command (command_of words) c opens.command asks opens.asks)) opens.opening)
+
+later_closed : (c : Command) → IsLater c → IsOpening c → ⊥
+later_closed commands.Check later opening = later
+later_closed (commands.Play workers steps) later opening = later opening
+later_closed (commands.Resume workers steps) later opening = later opening
+later_closed commands.Show later opening = later
+later_closed commands.Compact later opening = opening
+later_closed (commands.Gen seed count) later opening = later
+later_closed (commands.Trial seed count) later opening = later
+
+later_plays : (words : List (List ℕ)) (c : Command) (mode : Mode) (steps : ℕ) → command_of words ≡ Some c → IsLater c → Plays words mode steps → ⊥
+later_plays words c mode steps asks later plays = plays_now mode steps (subst IsLater (one_command (command_of words) c (command_for mode steps) asks plays) later)
+
+later_other : (words : List (List ℕ)) (c d : Command) → command_of words ≡ Some c → IsLater c → (IsLater d → ⊥) → command_of words ≡ Some d → ⊥
+later_other words c d asks later now asks_too = now (subst IsLater (one_command (command_of words) c d asks asks_too) later)
 
 -- the words are of no form
-pub run_of_bad : (words : List (List ℕ)) (deploy told before after : Option (List ℕ)) (d : DiskState) (status : Status) → command_of words ≡ None
-    → IsWritten before after (status_line statuses.BadWords) statuses.BadWords status → IsLegalRun words deploy told before after d d status
-run_of_bad words deploy told before after d status none out = record {
-  base = or_initial (found d);
+pub run_of_bad : (words : List (List ℕ)) (deploy signals before after : Option (List ℕ)) (d : DiskState) (status : Status) → command_of words ≡ None
+    → IsWritten before after (status_line statuses.BadWords) statuses.BadWords status → IsLegalRun words deploy signals before after d d status
+run_of_bad words deploy signals before after d status none out = record {
+  document = nowhere;
+  base = base_on nowhere d;
   history = [];
   acked = [];
   text = status_line statuses.BadWords;
+  ended = statuses.BadWords;
   stood = statuses.BadWords;
   run = record {
-    legal = no_history (or_initial (found d)) statuses.BadWords;
+    legal = no_history (base_on nowhere d) statuses.BadWords;
     bad = λ e. record { same = refl; none = refl; alone = refl };
     later = λ asks. absurd (no_command (command_of words) asks.command none asks.asks);
-    plays = λ steps is. absurd (no_command (command_of words) (commands.Play 1 steps) none is);
+    plays = λ mode steps is. absurd (no_command (command_of words) (command_for mode steps) none is);
     shows = λ is. absurd (no_command (command_of words) commands.Show none is);
     checks = λ is. absurd (no_command (command_of words) commands.Check none is);
-    alone = λ steps is. absurd (no_command (command_of words) (commands.Play 1 steps) none is);
+    generates = λ seed count is. absurd (no_command (command_of words) (commands.Gen seed count) none is);
+    tries = λ seed count is. absurd (no_command (command_of words) (commands.Trial seed count) none is);
+    alone = λ mode steps is. absurd (no_command (command_of words) (command_for mode steps) none is);
+    same = λ more. refl;
     unwritten = λ is. cc;
   };
-  journal = λ unchecked. untouched d statuses.BadWords tt;
+  given = λ opens. absurd (no_command (command_of words) opens.command none opens.asks);
+  journal = λ opens. absurd (no_command (command_of words) opens.command none opens.asks);
   output = out;
 }
 
 -- they ask what isn't built
-pub run_of_later : (words : List (List ℕ)) (deploy told before after : Option (List ℕ)) (d : DiskState) (status : Status) (c : Command) → command_of words ≡ Some c → IsFormOf c forms.Later
-    → IsWritten before after (status_line statuses.NotBuilt) statuses.NotBuilt status → IsLegalRun words deploy told before after d d status
-run_of_later words deploy told before after d status c asks later out = record {
-  base = or_initial (found d);
+pub run_of_later : (words : List (List ℕ)) (deploy signals before after : Option (List ℕ)) (d : DiskState) (status : Status) (c : Command) → command_of words ≡ Some c → IsFormOf c forms.Later
+    → IsWritten before after (status_line statuses.NotBuilt) statuses.NotBuilt status → IsLegalRun words deploy signals before after d d status
+run_of_later words deploy signals before after d status c asks later out = record {
+  document = nowhere;
+  base = base_on nowhere d;
   history = [];
   acked = [];
   text = status_line statuses.NotBuilt;
+  ended = statuses.NotBuilt;
   stood = statuses.NotBuilt;
   run = record {
-    legal = no_history (or_initial (found d)) statuses.NotBuilt;
+    legal = no_history (base_on nowhere d) statuses.NotBuilt;
     bad = λ none. absurd (no_command (command_of words) c none asks);
     later = λ e. record { same = refl; none = refl; alone = refl };
-    plays = λ steps is. absurd (later.0 steps (one_command (command_of words) c (commands.Play 1 steps) asks is));
-    shows = λ is. absurd (later.1 (one_command (command_of words) c commands.Show asks is));
-    checks = λ is. absurd (later.2 (one_command (command_of words) c commands.Check asks is));
-    alone = λ steps is. absurd (later.0 steps (one_command (command_of words) c (commands.Play 1 steps) asks is));
+    plays = λ mode steps is. absurd (later_plays words c mode steps asks later is);
+    shows = λ is. absurd (later_other words c commands.Show asks later (λ e. e) is);
+    checks = λ is. absurd (later_other words c commands.Check asks later (λ e. e) is);
+    generates = λ seed count is. absurd (later_other words c (commands.Gen seed count) asks later (λ e. e) is);
+    tries = λ seed count is. absurd (later_other words c (commands.Trial seed count) asks later (λ e. e) is);
+    alone = λ mode steps is. absurd (later_plays words c mode steps asks later is);
+    same = λ more. refl;
     unwritten = λ is. cc;
   };
-  journal = λ unchecked. untouched d statuses.NotBuilt tt;
+  given = λ opens. absurd (no_opening words c asks (later_closed c later) opens);
+  journal = λ opens. absurd (no_opening words c asks (later_closed c later) opens);
   output = out;
 }
 
--- they ask to play
-same_steps : (m n : ℕ) → commands.Play 1 m ≡ commands.Play 1 n → m ≡ n
-same_steps m n is = cc
+-- what is said of a play by these words
+record IsFrom (deploy signals : Option (List ℕ)) (mode : Mode) (steps : ℕ) (o : Outcome) : Type 0 where
+  pub few : length o.history ≤ steps
+  pub comes : IfSome deploy (λ d. IfSome signals (λ bytes. ComesOn o.base mode steps d bytes o.history o.ended))
+  pub alone : IsByOneFrom o.base mode steps deploy signals o.history o.ended
 
-pub run_of_play : (words : List (List ℕ)) (deploy told before after : Option (List ℕ)) (old new : DiskState) (status : Status) (c : Command) (steps : ℕ) → command_of words ≡ Some c → c ≡ commands.Play 1 steps
-    → IsPlayedBy (λ base history s. IsPlayFrom base steps told history s) before after old new status → IsLegalRun words deploy told before after old new status
-run_of_play words deploy told before after old new status c steps asks plays p = record {
-  base = p.base;
-  history = p.history;
-  acked = p.acked;
-  text = output_text p.acked p.stood;
-  stood = p.stood;
+-- they ask to play
+one_mode : (mode other : Mode) (m n : ℕ) → command_for mode m ≡ command_for other n → (mode ≡ other) × (m ≡ n)
+one_mode modes.AllNew modes.AllNew m n is = (refl, cc)
+one_mode modes.AllNew modes.SkipTaken m n is = absurd (cc)
+one_mode modes.SkipTaken modes.AllNew m n is = absurd (cc)
+one_mode modes.SkipTaken modes.SkipTaken m n is = (refl, cc)
+
+pub run_of_play : (words : List (List ℕ)) (deploy signals before after : Option (List ℕ)) (old new : DiskState) (status : Status) (c : Command) (run : Run) → command_of words ≡ Some c → IsFormOf c (forms.Play run)
+    → IsPlayedFrom run.mode run.steps deploy signals before after old new status → IsLegalRun words deploy signals before after old new status
+run_of_play words deploy signals before after old new status c run asks plays p = record {
+  document = p.document;
+  base = p.run.base;
+  history = p.run.history;
+  acked = p.run.acked;
+  text = p.run.text;
+  ended = p.run.ended;
+  stood = p.run.stood;
   run = record {
-    legal = p.legal;
+    legal = p.played.legal;
     bad = λ none. absurd (no_command (command_of words) c none asks);
-    later = λ asked. absurd (asked.no_play steps (one_command (command_of words) asked.command (commands.Play 1 steps) asked.asks asked_play));
-    plays = λ n is. record { few = (from n is).few; comes = (from n is).comes; words = p.words; prints = refl };
-    shows = λ is. absurd (no_play (one_command (command_of words) commands.Show (commands.Play 1 steps) is asked_play));
-    checks = λ is. absurd (plays_only words steps asked_play is);
-    alone = λ n is. (from n is).alone;
-    unwritten = p.unwritten;
+    later = λ asked. absurd (no_later words (command_for run.mode run.steps) asked_play (plays_now run.mode run.steps) asked.command asked.asks asked.later);
+    plays = λ mode steps is. record {
+      few = (from mode steps is).few;
+      comes = (from mode steps is).comes;
+      words = p.played.words;
+      prints = p.played.prints;
+    };
+    shows = λ is. absurd (no_play words commands.Show run.mode run.steps is (λ e. cc) (λ e. cc) asked_play);
+    checks = λ is. absurd (no_play words commands.Check run.mode run.steps is (λ e. cc) (λ e. cc) asked_play);
+    generates = λ seed count is. absurd (no_play words (commands.Gen seed count) run.mode run.steps is (λ e. cc) (λ e. cc) asked_play);
+    tries = λ seed count is. absurd (no_play words (commands.Trial seed count) run.mode run.steps is (λ e. cc) (λ e. cc) asked_play);
+    alone = λ mode steps is. (from mode steps is).alone;
+    same = p.played.same;
+    unwritten = p.played.unwritten;
   };
-  journal = λ unchecked. p.journal;
-  output = p.output;
+  given = λ opens. p.given;
+  journal = λ opens. p.played.journal;
+  output = p.played.output;
 }
   where
-    asked_play : command_of words ≡ Some (commands.Play 1 steps)
-    asked_play = asks ∙ ap (λ (d : Command). Some d) plays
+    asked_play : command_of words ≡ Some (command_for run.mode run.steps)
+    asked_play = asks ∙ ap (λ (d : Command). Some d) plays.0
 
-    no_play : commands.Show ≡ commands.Play 1 steps → ⊥
-    no_play is = cc
-
-    from : (n : ℕ) → command_of words ≡ Some (commands.Play 1 n) → IsPlayFrom p.base n told p.history p.stood
-    from n is = subst (λ k. IsPlayFrom p.base k told p.history p.stood) (same_steps steps n (one_command (command_of words) (commands.Play 1 steps) (commands.Play 1 n) asked_play is)) p.comes
+    from : (mode : Mode) (steps : ℕ) → Plays words mode steps → IsFrom deploy signals mode steps p.run
+    from mode steps is =
+        let one = one_mode run.mode mode run.steps steps (one_command (command_of words) (command_for run.mode run.steps) (command_for mode steps) asked_play is) in
+        subst (λ (m : Mode). IsFrom deploy signals m steps p.run) one.0 (subst (λ (n : ℕ). IsFrom deploy signals run.mode n p.run) one.1
+        (record { few = p.few; comes = p.comes; alone = p.alone }))
 
 -- they ask to show
-pub run_of_show : (words : List (List ℕ)) (deploy told before after : Option (List ℕ)) (old new : DiskState) (status : Status) (c : Command) → command_of words ≡ Some c → c ≡ commands.Show
-    → IsShownBy before after old new status → IsLegalRun words deploy told before after old new status
-run_of_show words deploy told before after old new status c asks shows p = record {
+pub run_of_show : (words : List (List ℕ)) (deploy signals before after : Option (List ℕ)) (old new : DiskState) (status : Status) (c : Command) → command_of words ≡ Some c → c ≡ commands.Show
+    → IsShownBy deploy before after old new status → IsLegalRun words deploy signals before after old new status
+run_of_show words deploy signals before after old new status c asks shows p = record {
+  document = p.document;
   base = p.base;
   history = [];
   acked = [];
   text = shown_text p.base p.stood;
+  ended = p.stood;
   stood = p.stood;
   run = record {
     legal = no_history p.base p.stood;
     bad = λ none. absurd (no_command (command_of words) c none asks);
-    later = λ asked. absurd (asked.no_show (one_command (command_of words) asked.command commands.Show asked.asks asked_show));
-    plays = λ n is. absurd (no_play n (one_command (command_of words) commands.Show (commands.Play 1 n) asked_show is));
-    shows = λ is. record { comes = p.comes; none = refl; prints = refl };
-    checks = λ is. absurd (shows_only words asked_show is);
-    alone = λ n is. absurd (no_play n (one_command (command_of words) commands.Show (commands.Play 1 n) asked_show is));
+    later = λ asked. absurd (no_later words commands.Show asked_show (λ e. e) asked.command asked.asks asked.later);
+    plays = λ mode steps is. absurd (no_play words commands.Show mode steps asked_show (λ e. cc) (λ e. cc) is);
+    shows = λ is. record { comes = p.comes; none = refl; barred = p.barred; prints = refl };
+    checks = λ is. absurd (let never : 3 ≡ 0 = other words commands.Show commands.Check asked_show is in cc);
+    generates = λ seed count is. absurd (let never : 3 ≡ 5 = other words commands.Show (commands.Gen seed count) asked_show is in cc);
+    tries = λ seed count is. absurd (let never : 3 ≡ 6 = other words commands.Show (commands.Trial seed count) asked_show is in cc);
+    alone = λ mode steps is. absurd (no_play words commands.Show mode steps asked_show (λ e. cc) (λ e. cc) is);
+    same = λ more. refl;
     unwritten = λ is. subst IsShownAt is p.comes;
   };
-  journal = λ unchecked. p.journal;
+  given = λ opens. p.given;
+  journal = λ opens. p.journal;
   output = p.output;
 }
   where
     asked_show : command_of words ≡ Some commands.Show
     asked_show = asks ∙ ap (λ (d : Command). Some d) shows
 
-    no_play : (n : ℕ) → commands.Show ≡ commands.Play 1 n → ⊥
-    no_play n is = cc
-
 -- they ask to check
-pub run_of_check : (words : List (List ℕ)) (deploy told before after : Option (List ℕ)) (d : DiskState) (status : Status) (c : Command) → command_of words ≡ Some c → c ≡ commands.Check
-    → IsCheckedBy deploy before after status → IsLegalRun words deploy told before after d d status
-run_of_check words deploy told before after d status c asks checks p = record {
-  base = or_initial (found d);
+pub run_of_check : (words : List (List ℕ)) (deploy signals before after : Option (List ℕ)) (d : DiskState) (status : Status) (c : Command) → command_of words ≡ Some c → c ≡ commands.Check
+    → IsCheckedBy deploy before after status → IsLegalRun words deploy signals before after d d status
+run_of_check words deploy signals before after d status c asks checks p = record {
+  document = nowhere;
+  base = base_on nowhere d;
   history = [];
   acked = [];
   text = p.text;
+  ended = p.stood;
   stood = p.stood;
   run = record {
-    legal = no_history (or_initial (found d)) p.stood;
+    legal = no_history (base_on nowhere d) p.stood;
     bad = λ none. absurd (no_command (command_of words) c none asks);
-    later = λ asked. absurd (asked.no_check (one_command (command_of words) asked.command commands.Check asked.asks asked_check));
-    plays = λ n is. absurd (plays_only words n is asked_check);
-    shows = λ is. absurd (shows_only words is asked_check);
+    later = λ asked. absurd (no_later words commands.Check asked_check (λ e. e) asked.command asked.asks asked.later);
+    plays = λ mode steps is. absurd (no_play words commands.Check mode steps asked_check (λ e. cc) (λ e. cc) is);
+    shows = λ is. absurd (let never : 0 ≡ 3 = other words commands.Check commands.Show asked_check is in cc);
     checks = λ is. p.check;
-    alone = λ n is. absurd (plays_only words n is asked_check);
+    generates = λ seed count is. absurd (let never : 0 ≡ 5 = other words commands.Check (commands.Gen seed count) asked_check is in cc);
+    tries = λ seed count is. absurd (let never : 0 ≡ 6 = other words commands.Check (commands.Trial seed count) asked_check is in cc);
+    alone = λ mode steps is. absurd (no_play words commands.Check mode steps asked_check (λ e. cc) (λ e. cc) is);
+    same = λ more. refl;
     unwritten = λ is. subst IsCheckedAt is p.check.comes;
   };
-  journal = λ unchecked. absurd (unchecked asked_check);
+  given = λ opens. absurd (no_opening words commands.Check asked_check (λ e. e) opens);
+  journal = λ opens. absurd (no_opening words commands.Check asked_check (λ e. e) opens);
   output = p.output;
 }
   where
     asked_check : command_of words ≡ Some commands.Check
     asked_check = asks ∙ ap (λ (d : Command). Some d) checks
 
+-- they ask for generated lines
+one_seed : (seed count m n : ℕ) → commands.Gen seed count ≡ commands.Gen m n → (seed ≡ m) × (count ≡ n)
+one_seed seed count m n is = (cc, cc)
+
+pub run_of_gen : (words : List (List ℕ)) (deploy signals before after : Option (List ℕ)) (d : DiskState) (status : Status) (c : Command) (seeded : Seeded) → command_of words ≡ Some c
+    → c ≡ commands.Gen seeded.seed seeded.count → IsGeneratedBy seeded.seed seeded.count deploy before after status → IsLegalRun words deploy signals before after d d status
+run_of_gen words deploy signals before after d status c seeded asks gens p = record {
+  document = nowhere;
+  base = base_on nowhere d;
+  history = [];
+  acked = [];
+  text = p.text;
+  ended = p.stood;
+  stood = p.stood;
+  run = record {
+    legal = no_history (base_on nowhere d) p.stood;
+    bad = λ none. absurd (no_command (command_of words) c none asks);
+    later = λ asked. absurd (no_later words (commands.Gen seeded.seed seeded.count) asked_gen (λ e. e) asked.command asked.asks asked.later);
+    plays = λ mode steps is. absurd (no_play words (commands.Gen seeded.seed seeded.count) mode steps asked_gen (λ e. cc) (λ e. cc) is);
+    shows = λ is. absurd (let never : 5 ≡ 3 = other words (commands.Gen seeded.seed seeded.count) commands.Show asked_gen is in cc);
+    checks = λ is. absurd (let never : 5 ≡ 0 = other words (commands.Gen seeded.seed seeded.count) commands.Check asked_gen is in cc);
+    generates = λ seed count is.
+        let one = one_seed seeded.seed seeded.count seed count (one_command (command_of words) (commands.Gen seeded.seed seeded.count) (commands.Gen seed count) asked_gen is) in
+        subst (λ (m : ℕ). IsGenerated m count deploy [] p.text p.stood) one.0 (subst (λ (n : ℕ). IsGenerated seeded.seed n deploy [] p.text p.stood) one.1 p.lines);
+    tries = λ seed count is. absurd (let never : 5 ≡ 6 = other words (commands.Gen seeded.seed seeded.count) (commands.Trial seed count) asked_gen is in cc);
+    alone = λ mode steps is. absurd (no_play words (commands.Gen seeded.seed seeded.count) mode steps asked_gen (λ e. cc) (λ e. cc) is);
+    same = λ more. refl;
+    unwritten = λ is. subst IsCheckedAt is p.lines.comes;
+  };
+  given = λ opens. absurd (no_opening words (commands.Gen seeded.seed seeded.count) asked_gen (λ e. e) opens);
+  journal = λ opens. absurd (no_opening words (commands.Gen seeded.seed seeded.count) asked_gen (λ e. e) opens);
+  output = p.output;
+}
+  where
+    asked_gen : command_of words ≡ Some (commands.Gen seeded.seed seeded.count)
+    asked_gen = asks ∙ ap (λ (d : Command). Some d) gens
+
+-- they ask to play generated lines
+one_trial : (seed count m n : ℕ) → commands.Trial seed count ≡ commands.Trial m n → (seed ≡ m) × (count ≡ n)
+one_trial seed count m n is = (cc, cc)
+
+pub run_of_trial : (words : List (List ℕ)) (deploy signals before after : Option (List ℕ)) (old new : DiskState) (status : Status) (c : Command) (seeded : Seeded) → command_of words ≡ Some c
+    → c ≡ commands.Trial seeded.seed seeded.count → IsTriedBy seeded.seed seeded.count deploy before after old new status → IsLegalRun words deploy signals before after old new status
+run_of_trial words deploy signals before after old new status c seeded asks tries p = record {
+  document = p.document;
+  base = p.run.base;
+  history = p.run.history;
+  acked = p.run.acked;
+  text = p.run.text;
+  ended = p.run.ended;
+  stood = p.run.stood;
+  run = record {
+    legal = p.played.legal;
+    bad = λ none. absurd (no_command (command_of words) c none asks);
+    later = λ asked. absurd (no_later words (commands.Trial seeded.seed seeded.count) asked_trial (λ e. e) asked.command asked.asks asked.later);
+    plays = λ mode steps is. absurd (no_play words (commands.Trial seeded.seed seeded.count) mode steps asked_trial (λ e. cc) (λ e. cc) is);
+    shows = λ is. absurd (let never : 6 ≡ 3 = other words (commands.Trial seeded.seed seeded.count) commands.Show asked_trial is in cc);
+    checks = λ is. absurd (let never : 6 ≡ 0 = other words (commands.Trial seeded.seed seeded.count) commands.Check asked_trial is in cc);
+    generates = λ seed count is. absurd (let never : 6 ≡ 5 = other words (commands.Trial seeded.seed seeded.count) (commands.Gen seed count) asked_trial is in cc);
+    tries = λ seed count is. tried seed count (one_trial seeded.seed seeded.count seed count (one_command (command_of words) (commands.Trial seeded.seed seeded.count) (commands.Trial seed count) asked_trial is));
+    alone = λ mode steps is. absurd (no_play words (commands.Trial seeded.seed seeded.count) mode steps asked_trial (λ e. cc) (λ e. cc) is);
+    same = p.played.same;
+    unwritten = p.played.unwritten;
+  };
+  given = λ opens. p.given;
+  journal = λ opens. p.played.journal;
+  output = p.played.output;
+}
+  where
+    asked_trial : command_of words ≡ Some (commands.Trial seeded.seed seeded.count)
+    asked_trial = asks ∙ ap (λ (d : Command). Some d) tries
+
+    here : IsTrial p.run.base seeded.seed seeded.count deploy p.run.history p.run.acked p.run.ended p.run.stood p.run.text
+    here = record { few = p.few; comes = p.comes; words = p.played.words; prints = p.played.prints }
+
+    tried : (seed count : ℕ) → (seeded.seed ≡ seed) × (seeded.count ≡ count) → IsTrial p.run.base seed count deploy p.run.history p.run.acked p.run.ended p.run.stood p.run.text
+    tried seed count one =
+        subst (λ (m : ℕ). IsTrial p.run.base m count deploy p.run.history p.run.acked p.run.ended p.run.stood p.run.text) one.0
+        (subst (λ (n : ℕ). IsTrial p.run.base seeded.seed n deploy p.run.history p.run.acked p.run.ended p.run.stood p.run.text) one.1 here)
+
 -- ---- without a fault
 
-no_fault : (bytes : Result Parts Wrong) (wrong : Wrong) → IsOk bytes → bytes ≡ Err wrong → ⊥
+no_fault : (bytes : Result State Wrong) (wrong : Wrong) → IsOk bytes → bytes ≡ Err wrong → ⊥
 no_fault bytes wrong ok is = let never : false ≡ true = subst IsOk is ok in cc
 
-good : (base : Parts) (steps : ℕ) (lines : List Signal) (history : List Entry) (bytes : Result Parts Wrong) (stood : Status) → EndsOn base steps lines history stood → IsOk bytes → IsAnswerTo bytes stood
-    → stood ≢ statuses.ReadFault → stood ≢ statuses.DiskFault → IsGood stood
+good : (base : State) (steps : ℕ) (lines : List Signal) (history : List Entry) (bytes : Result State Wrong) (ended : Status) → EndsOn base steps lines history ended → IsOk bytes → IsAnswerTo bytes ended
+    → ended ≢ statuses.ReadFault → ended ≢ statuses.DiskFault → IsGood ended
 good base steps lines history bytes statuses.Ok comes ok answer reads keeps = tt
 good base steps lines history bytes statuses.BadWords comes ok answer reads keeps = absurd comes
 good base steps lines history bytes statuses.ReadFault comes ok answer reads keeps = absurd (reads refl)
@@ -196,45 +367,222 @@ good base steps lines history bytes (statuses.BadSignals line kind) comes ok ans
 good base steps lines history bytes (statuses.TooLarge what) comes ok answer reads keeps = absurd comes
 good base steps lines history bytes statuses.NotBuilt comes ok answer reads keeps = absurd comes
 
-good_given : (base : Parts) (steps : ℕ) (given : Option (List Signal)) (refusal : Type 0) (history : List Entry) (bytes : Result Parts Wrong) (stood : Status)
-    → MatchOption given refusal (λ lines. EndsOn base steps lines history stood) → is_some given ≡ true → IsOk bytes → IsAnswerTo bytes stood
-    → stood ≢ statuses.ReadFault → stood ≢ statuses.DiskFault → IsGood stood
-good_given base steps None refusal history bytes stood comes some ok answer reads keeps = absurd (cc)
-good_given base steps (Some lines) refusal history bytes stood comes some ok answer reads keeps = good base steps lines history bytes stood comes ok answer reads keeps
+-- before the journal is opened only memory stops a run on good sources
+good_early : (base : State) (steps : ℕ) (lines : List Signal) (history : List Entry) (ended : Status) → EndsOn base steps lines history ended → IsEarly ended → ended ≢ statuses.ReadFault → IsGood ended
+good_early base steps lines history statuses.Ok comes early reads = tt
+good_early base steps lines history statuses.BadWords comes early reads = absurd comes
+good_early base steps lines history statuses.ReadFault comes early reads = absurd (reads refl)
+good_early base steps lines history statuses.WriteFault comes early reads = absurd comes
+good_early base steps lines history statuses.DiskFault comes early reads = absurd early
+good_early base steps lines history (statuses.BadJournal side at kind) comes early reads = absurd early
+good_early base steps lines history (statuses.OtherDeployment kept_len place) comes early reads = absurd early
+good_early base steps lines history (statuses.Full size adding) comes early reads = tt
+good_early base steps lines history (statuses.StepsSpent entries) comes early reads = tt
+good_early base steps lines history statuses.NoMemory comes early reads = tt
+good_early base steps lines history (statuses.BadDeploy fault) comes early reads = absurd comes
+good_early base steps lines history (statuses.BadSignals line kind) comes early reads = absurd comes
+good_early base steps lines history (statuses.TooLarge what) comes early reads = absurd comes
+good_early base steps lines history statuses.NotBuilt comes early reads = absurd comes
 
-pub complete : (words : List (List ℕ)) (deploy told before after : Option (List ℕ)) (old new : DiskState) (status : Status) (Faulted : Type 0) → IsLegalRun words deploy told before after old new status
-    → (status ≡ statuses.ReadFault → Faulted) → (status ≡ statuses.WriteFault → Faulted) → (status ≡ statuses.DiskFault → Faulted) → IsComplete words told old Faulted status
-complete words deploy told before after old new status Faulted r read write disk steps plays tells ok = by told (r.run.plays steps plays).comes
+good_unread : (ended : Status) → IsUnread ended → ended ≢ statuses.ReadFault → IsGood ended
+good_unread ended (inl is) reads = absurd (reads is)
+good_unread ended (inr is) reads = subst IsGood (sym is) tt
+
+-- the journal that a run met is the one that is asked of
+good_met : (bytes : List ℕ) (words : List (List ℕ)) (signals before after : Option (List ℕ)) (old new : DiskState) (status : Status) (r : IsLegalRun words (Some bytes) signals before after old new status) (opens : Opens words)
+    (x : Document) → IsDocument (Some bytes) x → IsTrue old.told → IsOk (found x old) → (steps : ℕ) (lines : List Signal) → EndsOn r.base steps lines r.history r.ended
+    → r.ended ≢ statuses.ReadFault → r.ended ≢ statuses.DiskFault → IsGood r.ended
+good_met bytes words signals before after old new status r opens x is told ok steps lines ends reads keeps = by (r.given opens)
   where
-    by : (told : Option (List ℕ)) → IfSome told (λ bytes. ComesOn r.base steps bytes r.history r.stood) → IfSome told (λ bytes. is_some (lines_given bytes) ≡ true → (Faulted → ⊥) → IsGood status)
-    by None comes = tt
-    by (Some bytes) comes = λ given none.
-        let same : r.stood ≡ status = (r.output.whole (λ is. none (write is))).0 in
-        subst IsGood same (good_given r.base steps (lines_given bytes) _ r.history (found old) r.stood comes given ok ((r.journal (plays_only words steps plays)).opened tells).answer
-        (λ is. none (read (sym same ∙ is))) (λ is. none (disk (sym same ∙ is))))
+    by : IsDocument (Some bytes) r.document ⊎ IsBefore r.history old new r.ended → IsGood r.ended
+    by (inr unopened) = good_early r.base steps lines r.history r.ended ends unopened.early reads
+    by (inl document) =
+        good r.base steps lines r.history (found r.document old) r.ended ends
+        (subst (λ (y : Document). IsOk (found y old)) (one_document bytes x r.document is document) ok) ((r.journal opens).opened told).answer reads keeps
 
-shown_or : (bytes : Result Parts Wrong) (stood : Status) → IsShownAt stood → IsOk bytes → IsAnswerTo bytes stood → stood ≢ statuses.DiskFault → (stood ≡ statuses.Ok) ⊎ (stood ≡ statuses.NoMemory)
-shown_or bytes statuses.Ok comes ok answer keeps = inl refl
-shown_or bytes statuses.BadWords comes ok answer keeps = absurd comes
-shown_or bytes statuses.ReadFault comes ok answer keeps = absurd comes
-shown_or bytes statuses.WriteFault comes ok answer keeps = absurd comes
-shown_or bytes statuses.DiskFault comes ok answer keeps = absurd (keeps refl)
-shown_or bytes (statuses.BadJournal side at kind) comes ok answer keeps = absurd (no_fault bytes (Bad side at kind) ok answer)
-shown_or bytes (statuses.OtherDeployment kept_len place) comes ok answer keeps = absurd (no_fault bytes (Other kept_len place) ok answer)
-shown_or bytes (statuses.Full size adding) comes ok answer keeps = absurd comes
-shown_or bytes (statuses.StepsSpent entries) comes ok answer keeps = absurd comes
-shown_or bytes statuses.NoMemory comes ok answer keeps = inr refl
-shown_or bytes (statuses.BadDeploy fault) comes ok answer keeps = absurd comes
-shown_or bytes (statuses.BadSignals line kind) comes ok answer keeps = absurd comes
-shown_or bytes (statuses.TooLarge what) comes ok answer keeps = absurd comes
-shown_or bytes statuses.NotBuilt comes ok answer keeps = absurd comes
+-- memory ran out
+abbrev is_memory : Status → Type 0
+is_memory stood = stood ≡ statuses.NoMemory
 
-pub shown_whole : (words : List (List ℕ)) (deploy told before after : Option (List ℕ)) (old new : DiskState) (status : Status) (Faulted : Type 0) → IsLegalRun words deploy told before after old new status
-    → (status ≡ statuses.WriteFault → Faulted) → (status ≡ statuses.DiskFault → Faulted) → IsShown words old Faulted status
-shown_whole words deploy told before after old new status Faulted r write disk shows tells ok none =
-    let same : r.stood ≡ status = (r.output.whole (λ is. none (write is))).0 in
-    subst (λ (s : Status). (s ≡ statuses.Ok) ⊎ (s ≡ statuses.NoMemory)) same
-    (shown_or (found old) r.stood (r.run.shows shows).comes ok ((r.journal (shows_only words shows)).opened tells).answer (λ is. none (disk (sym same ∙ is))))
+-- the status that stood is good where the one that the run came to is
+good_stood : (ended stood : Status) → (stood ≢ statuses.NoMemory → stood ≡ ended) → (stood ≢ statuses.NoMemory → IsGood ended) → is_memory stood ⊎ (stood ≢ statuses.NoMemory) → IsGood stood
+good_stood ended stood same good (inl out) = subst IsGood (sym out) tt
+good_stood ended stood same good (inr other) = subst IsGood (sym (same other)) (good other)
+
+memory_or : (stood : Status) → is_memory stood ⊎ (stood ≢ statuses.NoMemory)
+memory_or statuses.Ok = inr (λ e. cc)
+memory_or statuses.BadWords = inr (λ e. cc)
+memory_or statuses.ReadFault = inr (λ e. cc)
+memory_or statuses.WriteFault = inr (λ e. cc)
+memory_or statuses.DiskFault = inr (λ e. cc)
+memory_or (statuses.BadJournal side at kind) = inr (λ e. cc)
+memory_or (statuses.OtherDeployment kept_len place) = inr (λ e. cc)
+memory_or (statuses.Full size adding) = inr (λ e. cc)
+memory_or (statuses.StepsSpent entries) = inr (λ e. cc)
+memory_or statuses.NoMemory = inl refl
+memory_or (statuses.BadDeploy fault) = inr (λ e. cc)
+memory_or (statuses.BadSignals line kind) = inr (λ e. cc)
+memory_or (statuses.TooLarge what) = inr (λ e. cc)
+memory_or statuses.NotBuilt = inr (λ e. cc)
+
+plays_open : (words : List (List ℕ)) (mode : Mode) (steps : ℕ) → Plays words mode steps → Opens words
+plays_open words modes.AllNew steps plays = record { command = commands.Play 1 steps; asks = plays; opening = refl }
+plays_open words modes.SkipTaken steps plays = record { command = commands.Resume 1 steps; asks = plays; opening = refl }
+
+ends_given : {Good : Type 0} (o : Option Status) (bad : Status → Type 0) → MatchOption o Good bad → o ≡ None → Good
+ends_given None bad comes is = comes
+ends_given (Some refusal) bad comes is = absurd (cc)
+
+pub complete : (words : List (List ℕ)) (deploy signals before after : Option (List ℕ)) (old new : DiskState) (status : Status) (Faulted : Type 0) → IsLegalRun words deploy signals before after old new status
+    → (status ≡ statuses.ReadFault → Faulted) → (status ≡ statuses.WriteFault → Faulted) → (status ≡ statuses.DiskFault → Faulted) → IsComplete words deploy signals old Faulted status
+complete words None signals before after old new status Faulted r read write disk mode steps plays told x is ok = tt
+complete words (Some bytes) None before after old new status Faulted r read write disk mode steps plays told x is ok = tt
+complete words (Some bytes) (Some text) before after old new status Faulted r read write disk mode steps plays told x is ok = λ accepted none.
+    let same : r.stood ≡ status = (r.output.whole (λ e. none (write e))).0 in
+    let ends = ends_given (refusal_of bytes text) _ (r.run.plays mode steps plays).comes accepted in
+    subst IsGood same (good_stood r.ended r.stood r.run.same
+    (λ other. good_met bytes words (Some text) before after old new status r (plays_open words mode steps plays) x is told ok steps _ ends
+    (λ e. none (read (sym same ∙ r.run.same other ∙ e))) (λ e. none (disk (sym same ∙ r.run.same other ∙ e))))
+    (memory_or r.stood))
+
+trial_ends : (base : State) (seed count : ℕ) (bytes : List ℕ) (history : List Entry) (ended : Status) → IsTrialOrNone base seed count bytes history ended
+    → ((lines : List Signal) → EndsOn base trial_steps lines history ended → IsGood ended) → ended ≢ statuses.ReadFault → IsGood ended
+trial_ends base seed count bytes history ended (inl trial) met reads = met _ trial.ends
+trial_ends base seed count bytes history ended (inr nothing) met reads = good_unread ended nothing.1 reads
+
+tries_open : (words : List (List ℕ)) (seed count : ℕ) → Tries words seed count → Opens words
+tries_open words seed count tries = record { command = commands.Trial seed count; asks = tries; opening = tt }
+
+pub complete_trial : (words : List (List ℕ)) (deploy signals before after : Option (List ℕ)) (old new : DiskState) (status : Status) (Faulted : Type 0) → IsLegalRun words deploy signals before after old new status
+    → (status ≡ statuses.ReadFault → Faulted) → (status ≡ statuses.WriteFault → Faulted) → (status ≡ statuses.DiskFault → Faulted) → IsCompleteTrial words deploy old Faulted status
+complete_trial words None signals before after old new status Faulted r read write disk seed count tries told x is ok = tt
+complete_trial words (Some bytes) signals before after old new status Faulted r read write disk seed count tries told x is ok = λ accepted none.
+    let same : r.stood ≡ status = (r.output.whole (λ e. none (write e))).0 in
+    let trial = ends_given (refusal_of_deploy bytes) _ (r.run.tries seed count tries).comes accepted in
+    subst IsGood same (good_stood r.ended r.stood r.run.same
+    (λ other. trial_ends r.base seed count bytes r.history r.ended trial
+    (λ lines ends. good_met bytes words signals before after old new status r (tries_open words seed count tries) x is told ok trial_steps lines ends
+    (λ e. none (read (sym same ∙ r.run.same other ∙ e))) (λ e. none (disk (sym same ∙ r.run.same other ∙ e))))
+    (λ e. none (read (sym same ∙ r.run.same other ∙ e))))
+    (memory_or r.stood))
+
+-- neither the deployment nor its size is refused
+abbrev pub IsBarredShow : Status → Type 0
+IsBarredShow statuses.Ok = Unit {0}
+IsBarredShow statuses.BadWords = Unit {0}
+IsBarredShow statuses.ReadFault = Unit {0}
+IsBarredShow statuses.WriteFault = Unit {0}
+IsBarredShow statuses.DiskFault = Unit {0}
+IsBarredShow (statuses.BadJournal side at kind) = Unit {0}
+IsBarredShow (statuses.OtherDeployment kept_len place) = Unit {0}
+IsBarredShow (statuses.Full size adding) = Unit {0}
+IsBarredShow (statuses.StepsSpent entries) = Unit {0}
+IsBarredShow statuses.NoMemory = Unit {0}
+IsBarredShow (statuses.BadDeploy fault) = ⊥
+IsBarredShow (statuses.BadSignals line kind) = Unit {0}
+IsBarredShow (statuses.TooLarge what) = ⊥
+IsBarredShow statuses.NotBuilt = Unit {0}
+
+shown_or : (bytes : Result State Wrong) (stood : Status) → IsShownAt stood → IsOk bytes → IsAnswerTo bytes stood → stood ≢ statuses.ReadFault → stood ≢ statuses.DiskFault → IsBarredShow stood
+    → (stood ≡ statuses.Ok) ⊎ (stood ≡ statuses.NoMemory)
+shown_or bytes statuses.Ok comes ok answer reads keeps good = inl refl
+shown_or bytes statuses.BadWords comes ok answer reads keeps good = absurd comes
+shown_or bytes statuses.ReadFault comes ok answer reads keeps good = absurd (reads refl)
+shown_or bytes statuses.WriteFault comes ok answer reads keeps good = absurd comes
+shown_or bytes statuses.DiskFault comes ok answer reads keeps good = absurd (keeps refl)
+shown_or bytes (statuses.BadJournal side at kind) comes ok answer reads keeps good = absurd (no_fault bytes (Bad side at kind) ok answer)
+shown_or bytes (statuses.OtherDeployment kept_len place) comes ok answer reads keeps good = absurd (no_fault bytes (Other kept_len place) ok answer)
+shown_or bytes (statuses.Full size adding) comes ok answer reads keeps good = absurd comes
+shown_or bytes (statuses.StepsSpent entries) comes ok answer reads keeps good = absurd comes
+shown_or bytes statuses.NoMemory comes ok answer reads keeps good = inr refl
+shown_or bytes (statuses.BadDeploy fault) comes ok answer reads keeps good = absurd good
+shown_or bytes (statuses.BadSignals line kind) comes ok answer reads keeps good = absurd comes
+shown_or bytes (statuses.TooLarge what) comes ok answer reads keeps good = absurd good
+shown_or bytes statuses.NotBuilt comes ok answer reads keeps good = absurd comes
+
+-- the same where the journal wasn't opened
+shown_early : (stood : Status) → IsShownAt stood → IsEarly stood → stood ≢ statuses.ReadFault → IsBarredShow stood → (stood ≡ statuses.Ok) ⊎ (stood ≡ statuses.NoMemory)
+shown_early statuses.Ok comes early reads good = inl refl
+shown_early statuses.BadWords comes early reads good = absurd comes
+shown_early statuses.ReadFault comes early reads good = absurd (reads refl)
+shown_early statuses.WriteFault comes early reads good = absurd comes
+shown_early statuses.DiskFault comes early reads good = absurd early
+shown_early (statuses.BadJournal side at kind) comes early reads good = absurd early
+shown_early (statuses.OtherDeployment kept_len place) comes early reads good = absurd early
+shown_early (statuses.Full size adding) comes early reads good = absurd comes
+shown_early (statuses.StepsSpent entries) comes early reads good = absurd comes
+shown_early statuses.NoMemory comes early reads good = inr refl
+shown_early (statuses.BadDeploy fault) comes early reads good = absurd good
+shown_early (statuses.BadSignals line kind) comes early reads good = absurd comes
+shown_early (statuses.TooLarge what) comes early reads good = absurd good
+shown_early statuses.NotBuilt comes early reads good = absurd comes
+
+-- bytes that give no refusal bar nothing
+not_faulty : (reading : Result Reading ReadFault) (fault : ReadFault) → counts_read reading ≡ Err fault → unread reading ≡ None → ⊥
+not_faulty (Ok reading) fault is none = cc
+not_faulty (Err found) fault is none = cc
+
+pub counted_read : (bytes : List ℕ) (fault : ReadFault) → counts_in bytes ≡ Err fault → counts_read (reading_of bytes) ≡ Err fault
+unfolding counts_in
+counted_read bytes fault is = is
+
+pub barred_good : (bytes : List ℕ) (stood : Status) → IsBarred bytes stood → refusal_of_deploy bytes ≡ None → IsBarredShow stood
+barred_good bytes statuses.Ok barred none = tt
+barred_good bytes statuses.BadWords barred none = tt
+barred_good bytes statuses.ReadFault barred none = tt
+barred_good bytes statuses.WriteFault barred none = tt
+barred_good bytes statuses.DiskFault barred none = tt
+barred_good bytes (statuses.BadJournal side at kind) barred none = tt
+barred_good bytes (statuses.OtherDeployment kept_len place) barred none = tt
+barred_good bytes (statuses.Full size adding) barred none = tt
+barred_good bytes (statuses.StepsSpent entries) barred none = tt
+barred_good bytes statuses.NoMemory barred none = tt
+barred_good bytes (statuses.BadDeploy fault) barred none =
+    absurd (not_faulty (reading_of bytes) fault (counted_read bytes fault barred.first) (sym (within_deploy bytes barred.within) ∙ none))
+barred_good bytes (statuses.BadSignals line kind) barred none = tt
+barred_good bytes (statuses.TooLarge what) barred none = let never : ◌≡◌ {A = Option Status} (Some (statuses.TooLarge givens.Deploy)) None = sym (large_deploy bytes barred) ∙ none in absurd (cc)
+barred_good bytes statuses.NotBuilt barred none = tt
+
+shows_open : (words : List (List ℕ)) → Shows words → Opens words
+shows_open words shows = record { command = commands.Show; asks = shows; opening = tt }
+
+pub shown_whole : (words : List (List ℕ)) (deploy signals before after : Option (List ℕ)) (old new : DiskState) (status : Status) (Faulted : Type 0) → IsLegalRun words deploy signals before after old new status
+    → (status ≡ statuses.ReadFault → Faulted) → (status ≡ statuses.WriteFault → Faulted) → (status ≡ statuses.DiskFault → Faulted) → IsShown words deploy old Faulted status
+shown_whole words None signals before after old new status Faulted r read write disk shows told x is ok = tt
+shown_whole words (Some bytes) signals before after old new status Faulted r read write disk shows told x is ok = λ accepted none.
+    let same : r.stood ≡ status = (r.output.whole (λ e. none (write e))).0 in
+    by same (memory_or r.stood) accepted none (r.given (shows_open words shows))
+  where
+    found_ok : IsDocument (Some bytes) r.document → IsOk (found r.document old)
+    found_ok document = subst (λ (y : Document). IsOk (found y old)) (one_document bytes x r.document is document) ok
+
+    by : r.stood ≡ status → is_memory r.stood ⊎ (r.stood ≢ statuses.NoMemory) → refusal_of_deploy bytes ≡ None → (Faulted → ⊥)
+        → IsDocument (Some bytes) r.document ⊎ IsBefore r.history old new r.ended → (status ≡ statuses.Ok) ⊎ (status ≡ statuses.NoMemory)
+    by same (inl out) accepted none given = inr (sym same ∙ out)
+    by same (inr more) accepted none (inl document) =
+        subst (λ (s : Status). (s ≡ statuses.Ok) ⊎ (s ≡ statuses.NoMemory)) (sym (r.run.same more) ∙ same)
+        (shown_or (found r.document old) r.ended (r.run.shows shows).comes (found_ok document) ((r.journal (shows_open words shows)).opened told).answer
+        (λ e. none (read (sym same ∙ r.run.same more ∙ e))) (λ e. none (disk (sym same ∙ r.run.same more ∙ e))) (barred_good bytes r.ended (r.run.shows shows).barred accepted))
+    by same (inr more) accepted none (inr unopened) =
+        subst (λ (s : Status). (s ≡ statuses.Ok) ⊎ (s ≡ statuses.NoMemory)) (sym (r.run.same more) ∙ same)
+        (shown_early r.ended (r.run.shows shows).comes unopened.early (λ e. none (read (sym same ∙ r.run.same more ∙ e))) (barred_good bytes r.ended (r.run.shows shows).barred accepted))
+
+faulty_answer : (bytes : List ℕ) (fault : ReadFault) → IsFaulty bytes fault → IsAnswerFor bytes (statuses.BadDeploy fault)
+faulty_answer bytes fault is = record {
+  good = λ counts counted. absurd (let never : Err fault ≡ Ok counts = sym is.first ∙ counted.counted in cc);
+  bad = λ other faulty. let one : ◌≡◌ {A = Result Counts ReadFault} (Err fault) (Err other) = sym is.first ∙ faulty.first in let same : fault ≡ other = cc in inl (ap statuses.BadDeploy same);
+  large = λ more. absurd (omega (arith, more, is.within));
+}
+
+memory_answer : (bytes : List ℕ) → IsAnswerFor bytes statuses.NoMemory
+memory_answer bytes = record { good = λ counts counted. inr refl; bad = λ fault faulty. inr refl; large = λ more. inr refl }
+
+large_answer : (bytes : List ℕ) → deploy_limit < length bytes → IsAnswerFor bytes (statuses.TooLarge givens.Deploy)
+large_answer bytes more = record {
+  good = λ counts counted. absurd (omega (arith, more, counted.within));
+  bad = λ fault faulty. absurd (omega (arith, more, faulty.within));
+  large = λ more. inl refl;
+}
 
 -- a check that read its bytes gives the one answer to them, or memory ran out
 answer : (bytes text : List ℕ) (stood : Status) → IsCheckedAt stood → IsTextFor (Some bytes) text stood → stood ≢ statuses.ReadFault → IsAnswerFor bytes stood
@@ -245,11 +593,7 @@ answer bytes text statuses.Ok comes is reads = record {
 }
 answer bytes text statuses.BadWords comes is reads = absurd comes
 answer bytes text statuses.ReadFault comes is reads = absurd (reads refl)
-answer bytes text (statuses.BadDeploy fault) comes is reads = record {
-  good = λ counts counted. absurd (let never : Err fault ≡ Ok counts = sym is.1.first ∙ counted.counted in cc);
-  bad = λ other faulty. let one : ◌≡◌ {A = Result Counts ReadFault} (Err fault) (Err other) = sym is.1.first ∙ faulty.first in let same : fault ≡ other = cc in inl (ap statuses.BadDeploy same);
-  large = λ more. absurd (omega (arith, more, is.1.within));
-}
+answer bytes text (statuses.BadDeploy fault) comes is reads = faulty_answer bytes fault is.1
 answer bytes text (statuses.BadSignals line kind) comes is reads = absurd comes
 answer bytes text statuses.WriteFault comes is reads = absurd comes
 answer bytes text statuses.DiskFault comes is reads = absurd comes
@@ -257,21 +601,48 @@ answer bytes text (statuses.BadJournal side at kind) comes is reads = absurd com
 answer bytes text (statuses.OtherDeployment kept_len place) comes is reads = absurd comes
 answer bytes text (statuses.Full size adding) comes is reads = absurd comes
 answer bytes text (statuses.StepsSpent entries) comes is reads = absurd comes
-answer bytes text statuses.NoMemory comes is reads = record { good = λ counts counted. inr refl; bad = λ fault faulty. inr refl; large = λ more. inr refl }
-answer bytes text (statuses.TooLarge givens.Deploy) comes is reads = record {
-  good = λ counts counted. absurd (omega (arith, is.1, counted.within));
-  bad = λ fault faulty. absurd (omega (arith, is.1, faulty.within));
-  large = λ more. inl refl;
-}
+answer bytes text statuses.NoMemory comes is reads = memory_answer bytes
+answer bytes text (statuses.TooLarge givens.Deploy) comes is reads = large_answer bytes is.1
 answer bytes text (statuses.TooLarge givens.Signals) comes is reads = absurd comes
 answer bytes text statuses.NotBuilt comes is reads = absurd comes
 
-pub check_whole : (words : List (List ℕ)) (deploy told before after : Option (List ℕ)) (old new : DiskState) (status : Status) (Faulted : Type 0) → IsLegalRun words deploy told before after old new status
+-- and so do generated lines
+pub read_counts : (bytes : List ℕ) (fault : ReadFault) (reading : Reading) → reading_of bytes ≡ Ok reading → counts_in bytes ≡ Err fault → ⊥
+read_counts bytes fault reading read wrong = let never : Ok (counts_of reading.parts) ≡ Err fault = sym (ap counts_read read) ∙ counted_read bytes fault wrong in cc
+
+lines_answer : (bytes text : List ℕ) (seed count : ℕ) (stood : Status) → IsCheckedAt stood → IsLinesFor seed count (Some bytes) text stood → stood ≢ statuses.ReadFault → IsAnswerFor bytes stood
+lines_answer bytes text seed count statuses.Ok comes is reads = record {
+  good = λ counts counted. inl refl;
+  bad = λ fault faulty. absurd (read_counts bytes fault (read_as is.0) is.2.read faulty.first);
+  large = λ more. absurd (omega (arith, more, is.2.within));
+}
+lines_answer bytes text seed count statuses.BadWords comes is reads = absurd comes
+lines_answer bytes text seed count statuses.ReadFault comes is reads = absurd (reads refl)
+lines_answer bytes text seed count (statuses.BadDeploy fault) comes is reads = faulty_answer bytes fault is.1
+lines_answer bytes text seed count (statuses.BadSignals line kind) comes is reads = absurd comes
+lines_answer bytes text seed count statuses.WriteFault comes is reads = absurd comes
+lines_answer bytes text seed count statuses.DiskFault comes is reads = absurd comes
+lines_answer bytes text seed count (statuses.BadJournal side at kind) comes is reads = absurd comes
+lines_answer bytes text seed count (statuses.OtherDeployment kept_len place) comes is reads = absurd comes
+lines_answer bytes text seed count (statuses.Full size adding) comes is reads = absurd comes
+lines_answer bytes text seed count (statuses.StepsSpent entries) comes is reads = absurd comes
+lines_answer bytes text seed count statuses.NoMemory comes is reads = memory_answer bytes
+lines_answer bytes text seed count (statuses.TooLarge givens.Deploy) comes is reads = large_answer bytes is.1
+lines_answer bytes text seed count (statuses.TooLarge givens.Signals) comes is reads = absurd comes
+lines_answer bytes text seed count statuses.NotBuilt comes is reads = absurd comes
+
+pub check_whole : (words : List (List ℕ)) (deploy signals before after : Option (List ℕ)) (old new : DiskState) (status : Status) (Faulted : Type 0) → IsLegalRun words deploy signals before after old new status
     → (status ≡ statuses.ReadFault → Faulted) → (status ≡ statuses.WriteFault → Faulted) → IsWholeCheck words deploy Faulted status
-check_whole words deploy told before after old new status Faulted r read write checks = by deploy (r.run.checks checks).comes (r.run.checks checks).prints
+check_whole words None signals before after old new status Faulted r read write asked = tt
+check_whole words (Some bytes) signals before after old new status Faulted r read write asked = λ none.
+    let same : r.stood ≡ status = (r.output.whole (λ e. none (write e))).0 in
+    by same (memory_or r.stood) none asked
   where
-    by : (given : Option (List ℕ)) → IsCheckedAt r.stood → IsTextFor given r.text r.stood → IfSome given (λ bytes. (Faulted → ⊥) → IsAnswerFor bytes status)
-    by None comes is = tt
-    by (Some bytes) comes is = λ none.
-        let same : r.stood ≡ status = (r.output.whole (λ is. none (write is))).0 in
-        subst (IsAnswerFor bytes) same (answer bytes r.text r.stood comes is (λ is. none (read (sym same ∙ is))))
+    by : r.stood ≡ status → is_memory r.stood ⊎ (r.stood ≢ statuses.NoMemory) → (Faulted → ⊥) → IsOfDeployment words → IsAnswerFor bytes status
+    by same (inl out) none asked = subst (IsAnswerFor bytes) (sym out ∙ same) (memory_answer bytes)
+    by same (inr more) none (inl checks) =
+        subst (IsAnswerFor bytes) (sym (r.run.same more) ∙ same)
+        (answer bytes r.text r.ended (r.run.checks checks).comes (r.run.checks checks).prints (λ e. none (read (sym same ∙ r.run.same more ∙ e))))
+    by same (inr more) none (inr (seed, count, generates)) =
+        subst (IsAnswerFor bytes) (sym (r.run.same more) ∙ same)
+        (lines_answer bytes r.text seed count r.ended (r.run.generates seed count generates).comes (r.run.generates seed count generates).prints (λ e. none (read (sym same ∙ r.run.same more ∙ e))))

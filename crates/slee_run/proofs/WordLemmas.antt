@@ -1,5 +1,5 @@
 -- Words, numbers and commands.
-use Rattle.std.proofs.Common.{◌≡◌, ℕ, ◌<◌, ◌≤◌, ◌^◌, ◌+◌, Bool, true, false, ◌&&◌, nat_le, if◌then◌else◌, List, [], ◌∷◌, length, get_or, Ok, refl, sym, ◌∙◌, ap, subst, arith, decimal, Option, Some, None, option_map, option_and_then, ◌⊎◌, inl, inr, codes}
+use Rattle.std.proofs.Common.{◌≡◌, ℕ, ◌<◌, ◌^◌, Bool, true, false, ◌&&◌, nat_le, if◌then◌else◌, List, [], ◌∷◌, length, get_or, refl, sym, ◌∙◌, ap, subst, arith, decimal, Option, Some, None, ◌⊎◌, inl, inr, codes, IfSome}
 use Rattle.std.specs.Str.{bytes_eq}
 use Rattle.std.specs.Str.Parse.{digits_value}
 use Rattle.std.proofs.lemmas.Fmt.{decimal_is_IsNumeral}
@@ -236,3 +236,8 @@ spelled_command commands.Show is = refl
 spelled_command commands.Compact is = refl
 spelled_command (commands.Gen seed count) is = seed_made commands.Gen seed count is
 spelled_command (commands.Trial seed count) is = seed_made commands.Trial seed count is
+
+-- a command that is asked has its numbers in range
+pub asked_in_range : (words : List (List ℕ)) (asked : Option Command) → asked ≡ command_of words → IfSome asked (λ command. is_in_range command ≡ true)
+asked_in_range words None is = tt
+asked_in_range words (Some command) is = command_in_range words command (sym is)

@@ -1,5 +1,5 @@
 -- What the parts of a run answer: what is said of the whole in Headline, but for the words.
-use Rattle.std.specs.Prelude.{◌≡◌, ◌≢◌, ◌⊎◌, ◌≤◌, ℕ, List, [], length, Option, IfSome}
+use Rattle.std.specs.Prelude.{◌≡◌, ◌≢◌, ◌⊎◌, ◌≤◌, ℕ, List, [], length, Option, Some, None, Ok, IfSome, MatchOption}
 use Rattle.signal_script.specs.declared.signal.Signal.{Signal}
 use Rattle.signal_script.specs.declared.fault.SignalFault.{SignalFault}
 use Rattle.signal_script.specs.declared.fault.SignalFault.TheVariants as line_faults
@@ -7,16 +7,26 @@ use Rattle.slee_disk.specs.declared.reading.ReadFault.{ReadFault}
 use Rattle.slee_disk.specs.declared.reading.ReadFault.TheVariants as read_faults
 use Rattle.slee_disk.specs.Disk.{DiskState}
 use Rattle.trace_history.specs.declared.entry.Entry.{Entry}
-use Rattle.router_model.specs.State.{Parts}
-use Rattle.built_in_durable.specs.declared.fault.OpenFault.{OpenFault}
-use Rattle.built_in_durable.specs.declared.fault.OpenFault.TheVariants as faults
+use Rattle.router_state.specs.State.{State}
+use Rattle.router_durable.specs.declared.fault.OpenFault.{OpenFault}
+use Rattle.router_durable.specs.declared.fault.OpenFault.TheVariants as faults
+use Rattle.deploy_json.specs.Checking.{reading_of, read_as}
 use Rattle.deploy_json.specs.declared.fault.ReadFault.{ReadFault as DeployFault}
 use Rattle.deploy_json.specs.declared.fault.ReadFault.TheVariants as deploy_faults
-use Rattle.slee_run.specs.Text.{output_text, shown_text}
-use Rattle.slee_run.specs.Checking.{IsCheck}
-use Rattle.slee_run.specs.Headline.{IsHistory, EndsOn, ComesOn, IsByOne, IsByOneFrom, IsShownAt, IsWritten}
+use Rattle.slee_container.specs.declared.container.Mode.{Mode}
+use Rattle.slee_run.specs.Given.{Document, IsDeployment, IsDocument, start_of, refusal_of, refusal_of_deploy}
+use Rattle.script_types.specs.ProgramOf.{IsChecked}
+use Rattle.slee_run.specs.declared.reading.Deployed.{Deployed}
+use Rattle.slee_run.specs.declared.reading.Inputs.{Inputs}
+use Rattle.signal_script.specs.Signals.{signals_of}
+use Rattle.slee_run.specs.Status.{status_line}
+use Rattle.slee_run.specs.Text.{IsReported, IsTextOf, lines_text, shown_text}
+use Rattle.slee_run.specs.Opening.{IsBeforeOpening}
+use Rattle.slee_run.specs.Checking.{IsBarred, IsCheck, IsGenerated}
+use Rattle.slee_run.specs.Headline.{command_for, lines_of_run, trial_steps, IsLater, IsBefore, IsHistory, IsRefusedAs, IsTrialOrNone, EndsOn, ComesOn, IsByOne, IsByOneFrom, IsShownAt, IsWritten}
 use Rattle.slee_run.specs.Stops.{KeepsJournal}
-use Rattle.slee_run.specs.Status.{row_of, Time, Early, Refusing, Ending, DiskFailed, WantOfMemory, WritingFailed}
+use Rattle.slee_run.specs.declared.finishing.Report.{Report}
+use Rattle.slee_run.specs.declared.finishing.Report.TheVariants as reports
 use Rattle.slee_run.specs.declared.status.Given.{Given}
 use Rattle.slee_run.specs.declared.command.Command.{Command}
 use Rattle.slee_run.specs.declared.command.Command.TheVariants as commands
@@ -25,38 +35,97 @@ use Rattle.slee_run.specs.declared.top.Form.TheVariants as forms
 use Rattle.slee_run.specs.declared.status.Status.{Status}
 use Rattle.slee_run.specs.declared.status.Status.TheVariants as statuses
 
--- a history that came so, was written and is kept
-pub record IsPlayedBy (Comes : Parts → List Entry → Status → Type 0) (before after : Option (List ℕ)) (old new : DiskState) (status : Status) : Type 0 where
-  pub base : Parts
+-- what a run came to: its history, the status that it came to and the one that stood before writing failed, and its text
+pub record Outcome : Type 0 where
+  pub base : State
   pub history : List Entry
   pub acked : List Entry
+  pub ended : Status
   pub stood : Status
-  pub legal : IsHistory base history acked stood
-  pub comes : Comes base history stood
-  pub words : stood ≢ statuses.BadWords
-  pub unwritten : stood ≢ statuses.WriteFault
-  pub journal : KeepsJournal base history acked old new stood
-  pub output : IsWritten before after (output_text acked stood) stood status
+  pub text : List ℕ
+
+-- such a run is legal, was written and is kept
+pub record IsPlayedBy (x : Document) (report : Report) (before after : Option (List ℕ)) (old new : DiskState) (status : Status) (r : Outcome) : Type 0 where
+  pub legal : IsHistory r.base r.history r.acked r.ended
+  pub words : r.ended ≢ statuses.BadWords
+  pub same : r.stood ≢ statuses.NoMemory → r.stood ≡ r.ended
+  pub unwritten : r.stood ≢ statuses.WriteFault
+  pub prints : IsTextOf report r.history r.acked r.ended r.stood r.text
+  pub journal : KeepsJournal x r.base r.history r.acked old new r.ended
+  pub output : IsWritten before after r.text r.stood status
 
 -- a history on lines, in so many entries at most, and the status that it came to
-pub record IsPlayOn (base : Parts) (steps : ℕ) (lines : List Signal) (history : List Entry) (status : Status) : Type 0 where
+pub record IsPlayOn (base : State) (steps : ℕ) (lines : List Signal) (history : List Entry) (status : Status) : Type 0 where
   pub few : length history ≤ steps
   pub ends : EndsOn base steps lines history status
   pub alone : IsByOne base steps lines history status
 
--- the same on the bytes that a source told, if it did
-pub record IsPlayFrom (base : Parts) (steps : ℕ) (told : Option (List ℕ)) (history : List Entry) (status : Status) : Type 0 where
-  pub few : length history ≤ steps
-  pub comes : IfSome told (λ bytes. ComesOn base steps bytes history status)
-  pub alone : IsByOneFrom base steps told history status
+-- lines were played for a deployment's document
+pub record IsPlayedOn (x : Document) (mode : Mode) (steps : ℕ) (report : Report) (lines : List Signal) (before after : Option (List ℕ)) (old new : DiskState) (status : Status) : Type 0 where
+  pub run : Outcome
+  pub played : IsPlayedBy x report before after old new status run
+  pub play : IsPlayOn run.base steps (lines_of_run mode run.base lines) run.history run.ended
 
--- a state that was shown
-pub record IsShownBy (before after : Option (List ℕ)) (old new : DiskState) (status : Status) : Type 0 where
-  pub base : Parts
+-- what two sources told was played
+pub record IsPlayedFrom (mode : Mode) (steps : ℕ) (deploy signals before after : Option (List ℕ)) (old new : DiskState) (status : Status) : Type 0 where
+  pub document : Document
+  pub run : Outcome
+  pub given : IsDocument deploy document ⊎ IsBefore run.history old new run.ended
+  pub played : IsPlayedBy document reports.Trace before after old new status run
+  pub few : length run.history ≤ steps
+  pub comes : IfSome deploy (λ d. IfSome signals (λ bytes. ComesOn run.base mode steps d bytes run.history run.ended))
+  pub alone : IsByOneFrom run.base mode steps deploy signals run.history run.ended
+
+-- lines that were generated for what a source told were played
+pub record IsTriedBy (seed count : ℕ) (deploy before after : Option (List ℕ)) (old new : DiskState) (status : Status) : Type 0 where
+  pub document : Document
+  pub run : Outcome
+  pub given : IsDocument deploy document ⊎ IsBefore run.history old new run.ended
+  pub played : IsPlayedBy document reports.Summary before after old new status run
+  pub few : length run.history ≤ trial_steps
+  pub comes : IfSome deploy (λ bytes. MatchOption (refusal_of_deploy bytes) (IsTrialOrNone run.base seed count bytes run.history run.ended)
+      (λ refusal. (run.history ≡ []) × IsRefusedAs refusal run.ended))
+
+-- a report that was written, of a run that came to this status
+pub record IsFinished (report : Report) (acked : List Entry) (ended : Status) (before after : Option (List ℕ)) (status : Status) : Type 0 where
+  pub stood : Status
+  pub text : List ℕ
+  pub reported : IsReported report acked ended stood text
+  pub output : IsWritten before after text stood status
+
+-- the state of a document that was shown
+pub record IsShownOf (x : Document) (before after : Option (List ℕ)) (old new : DiskState) (status : Status) : Type 0 where
+  pub base : State
   pub stood : Status
   pub comes : IsShownAt stood
-  pub journal : KeepsJournal base [] [] old new stood
+  pub late : IsBeforeOpening stood → ⊥
+  pub journal : KeepsJournal x base [] [] old new stood
   pub output : IsWritten before after (shown_text base stood) stood status
+
+-- a state that was shown
+pub record IsShownBy (deploy before after : Option (List ℕ)) (old new : DiskState) (status : Status) : Type 0 where
+  pub document : Document
+  pub base : State
+  pub stood : Status
+  pub given : IsDocument deploy document ⊎ IsBefore [] old new stood
+  pub comes : IsShownAt stood
+  pub barred : IfSome deploy (λ bytes. IsBarred bytes stood)
+  pub journal : KeepsJournal document base [] [] old new stood
+  pub output : IsWritten before after (shown_text base stood) stood status
+
+-- lines were written, or memory ran out
+pub record IsLinesOut (lines : List Signal) (before after : Option (List ℕ)) (status : Status) : Type 0 where
+  pub text : List ℕ
+  pub stood : Status
+  pub which : ((stood ≡ statuses.Ok) × (text ≡ lines_text lines)) ⊎ ((stood ≡ statuses.NoMemory) × (text ≡ status_line statuses.NoMemory))
+  pub output : IsWritten before after text stood status
+
+-- lines that were generated and written
+pub record IsGeneratedBy (seed count : ℕ) (deploy before after : Option (List ℕ)) (status : Status) : Type 0 where
+  pub text : List ℕ
+  pub stood : Status
+  pub lines : IsGenerated seed count deploy [] text stood
+  pub output : IsWritten before after text stood status
 
 -- a deployment that was checked
 pub record IsCheckedBy (told before after : Option (List ℕ)) (status : Status) : Type 0 where
@@ -79,6 +148,45 @@ status_of_reading read_faults.Failed what = statuses.ReadFault
 status_of_reading read_faults.TooLarge what = statuses.TooLarge what
 status_of_reading read_faults.NoMemory what = statuses.NoMemory
 
+-- a refusal of bytes, or want of memory
+abbrev pub IsRefusalFor : Option Status → Status → Type 0
+IsRefusalFor refusal status = (status ≡ statuses.NoMemory) ⊎ (refusal ≡ Some status)
+
+-- the same where they had to be read
+abbrev pub IsRefusalBy : Option Status → Status → Type 0
+IsRefusalBy refusal status = (status ≡ statuses.ReadFault) ⊎ IsRefusalFor refusal status
+
+-- a source wasn't read to its end
+abbrev pub IsUnreadAs : Given → Status → Type 0
+IsUnreadAs what status = (status ≡ statuses.ReadFault) ⊎ ((status ≡ statuses.NoMemory) ⊎ (status ≡ statuses.TooLarge what))
+
+-- a document was read as a deployment
+pub record IsDeployedBy (document : List ℕ) (d : Deployed) : Type 0 where
+  pub bytes : d.bytes ≡ document
+  pub checked : IsChecked d.checked.codes
+  pub read : reading_of d.bytes ≡ Ok (read_as d.checked)
+
+-- these bytes are lines, and with those of the document they give no refusal
+pub record AreInputs (document bytes : List ℕ) (i : Inputs) : Type 0 where
+  pub lines : signals_of bytes ≡ Ok i.lines
+  pub accepted : refusal_of document bytes ≡ None
+
+-- what a source gave as a deployment
+pub record IsDeployedFrom (source : Option (List ℕ)) (d : Deployed) : Type 0 where
+  pub checked : IsChecked d.checked.codes
+  pub given : IsDeployment d.bytes d.checked
+  pub told : IfSome source (λ bytes. d.bytes ≡ bytes)
+
+-- what two sources gave as a deployment and lines
+pub record AreInputsFrom (deploy signals : Option (List ℕ)) (i : Inputs) : Type 0 where
+  pub deployed : IsDeployedFrom deploy i.deployed
+  pub lines : IfSome signals (λ bytes. signals_of bytes ≡ Ok i.lines)
+  pub accepted : IfSome deploy (λ d. IfSome signals (λ bytes. refusal_of d bytes ≡ None))
+
+-- the document of a deployment that was read
+abbrev pub document_of : Deployed → Document
+document_of d = record { bytes = d.bytes; start = start_of d.checked }
+
 -- the status of bytes that are no deployment
 abbrev pub status_of_fault : DeployFault → Status
 status_of_fault deploy_faults.NoMemory = statuses.NoMemory
@@ -89,20 +197,8 @@ abbrev pub status_of_lines : SignalFault → Status
 status_of_lines (line_faults.At line kind) = statuses.BadSignals line kind
 status_of_lines line_faults.NoMemory = statuses.NoMemory
 
--- a status that comes before the journal is opened, or for want of memory
-abbrev pub IsEarlyOrWanting : Time → Type 0
-IsEarlyOrWanting Early = Unit {0}
-IsEarlyOrWanting (Refusing wrong) = ⊥
-IsEarlyOrWanting Ending = ⊥
-IsEarlyOrWanting DiskFailed = ⊥
-IsEarlyOrWanting WantOfMemory = Unit {0}
-IsEarlyOrWanting WritingFailed = ⊥
-
-abbrev pub IsEarly : Status → Type 0
-IsEarly status = IsEarlyOrWanting (row_of status).time
-
 -- what was shown of a state, or memory ran out
-pub record IsShownAs (state : Parts) (before after : Option (List ℕ)) (status : Status) : Type 0 where
+pub record IsShownAs (state : State) (before after : Option (List ℕ)) (status : Status) : Type 0 where
   pub stood : Status
   pub which : (stood ≡ statuses.Ok) ⊎ (stood ≡ statuses.NoMemory)
   pub output : IsWritten before after (shown_text state stood) stood status
@@ -110,6 +206,8 @@ pub record IsShownAs (state : Parts) (before after : Option (List ℕ)) (status 
 -- what a command asks of this program
 abbrev pub IsFormOf : Command → Form → Type 0
 IsFormOf command forms.Check = command ≡ commands.Check
-IsFormOf command (forms.Play steps) = command ≡ commands.Play 1 steps
+IsFormOf command (forms.Play run) = (command ≡ command_for run.mode run.steps) × (run.report ≡ reports.Trace)
 IsFormOf command forms.Show = command ≡ commands.Show
-IsFormOf command forms.Later = ((steps : ℕ) → command ≢ commands.Play 1 steps) × (command ≢ commands.Show) × (command ≢ commands.Check)
+IsFormOf command (forms.Gen seeded) = command ≡ commands.Gen seeded.seed seeded.count
+IsFormOf command (forms.Trial seeded) = command ≡ commands.Trial seeded.seed seeded.count
+IsFormOf command forms.Later = IsLater command

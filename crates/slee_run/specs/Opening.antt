@@ -1,29 +1,26 @@
 -- What the bytes of a disk stand for, and what a run says of it.
 use Rattle.std.specs.Prelude.{◌≡◌, ℕ, List, [], Result, Ok, Err, IsOk}
 use Rattle.slee_disk.specs.Disk.{DiskState}
-use Rattle.router_model.specs.State.{Parts}
+use Rattle.router_state.specs.State.{State}
 use Rattle.commit_journal.specs.declared.limits.TheConstants.{SIDE_LIMIT}
 use Rattle.commit_journal.specs.Reading.{Wrong}
 use Rattle.trace_history.specs.declared.entry.Entry.{Entry}
-use Rattle.built_in_durable.specs.Recovery.{restart}
-use Rattle.built_in_durable.specs.Opening.{IsUntouched}
+use Rattle.router_durable.specs.Recovery.{restart}
+use Rattle.router_durable.specs.Opening.{IsUntouched}
 use Rattle.slee_run.specs.declared.status.Status.{Status}
+use Rattle.slee_run.specs.Given.{Document}
 use Rattle.slee_run.specs.Status.{row_of, Time, Early, Refusing, Ending, DiskFailed, WantOfMemory, WritingFailed}
-
--- the deployment is built in, and its text in the journal is empty
-abbrev pub kept_deployment : List ℕ
-kept_deployment = []
 
 -- the most bytes of a side of the journal
 abbrev pub journal_limit : ℕ
 journal_limit = SIDE_LIMIT
 
--- the state that the bytes of a disk stand for, or what is wrong with them
-abbrev pub found : DiskState → Result Parts Wrong
-found disk = restart kept_deployment disk.seen
+-- the state that the bytes of a disk stand for, to a deployment of this document, or what is wrong with them
+abbrev pub found : Document → DiskState → Result State Wrong
+found x disk = restart x.start x.bytes disk.seen
 
 -- A run comes to its end only where the bytes stand for a state. What is wrong with them is told with its numbers.
-abbrev pub AnswersAt : Result Parts Wrong → Time → Type 0
+abbrev pub AnswersAt : Result State Wrong → Time → Type 0
 AnswersAt bytes Early = Unit {0}
 AnswersAt bytes (Refusing wrong) = bytes ≡ Err wrong
 AnswersAt bytes Ending = IsOk bytes
@@ -31,12 +28,12 @@ AnswersAt bytes DiskFailed = Unit {0}
 AnswersAt bytes WantOfMemory = Unit {0}
 AnswersAt bytes WritingFailed = Unit {0}
 
-abbrev pub IsAnswerTo : Result Parts Wrong → Status → Type 0
+abbrev pub IsAnswerTo : Result State Wrong → Status → Type 0
 IsAnswerTo bytes status = AnswersAt bytes (row_of status).time
 
 -- A run goes on from the state that the bytes stand for; where they stand for none, it has no entry.
-pub record IsOpened (bytes : Result Parts Wrong) (base : Parts) (history : List Entry) (status : Status) : Type 0 where
-  pub from : (state : Parts) → bytes ≡ Ok state → base ≡ state
+pub record IsOpened (bytes : Result State Wrong) (base : State) (history : List Entry) (status : Status) : Type 0 where
+  pub from : (state : State) → bytes ≡ Ok state → base ≡ state
   pub none : (wrong : Wrong) → bytes ≡ Err wrong → history ≡ []
   pub answer : IsAnswerTo bytes status
 
@@ -75,3 +72,15 @@ IsGoodTime WritingFailed = ⊥
 
 abbrev pub IsGood : Status → Type 0
 IsGood status = IsGoodTime (row_of status).time
+
+-- a status that comes before the journal is opened, or for want of memory
+abbrev pub IsEarlyOrWanting : Time → Type 0
+IsEarlyOrWanting Early = Unit {0}
+IsEarlyOrWanting (Refusing wrong) = ⊥
+IsEarlyOrWanting Ending = ⊥
+IsEarlyOrWanting DiskFailed = ⊥
+IsEarlyOrWanting WantOfMemory = Unit {0}
+IsEarlyOrWanting WritingFailed = ⊥
+
+abbrev pub IsEarly : Status → Type 0
+IsEarly status = IsEarlyOrWanting (row_of status).time

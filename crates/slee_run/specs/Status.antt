@@ -56,7 +56,7 @@ pub record Row : Type 0 where
   pub time : Time
   -- showing may come to it
   pub shown : Bool
-  -- checking a deployment may come to it
+  -- checking a deployment, or generating lines for it, may come to it
   pub checked : Bool
   -- it doesn't follow from the words, the lines and the journal
   pub faulty : Bool
@@ -65,8 +65,8 @@ pub record Row : Type 0 where
 abbrev pub row_of : Status → Row
 row_of statuses.Ok = record { code = 0; line = codes "status 0 ok\n"; time = Ending; shown = true; checked = true; faulty = false }
 row_of statuses.BadWords = record { code = 2; line = codes "status 2 bad-words\n"; time = Early; shown = false; checked = false; faulty = false }
-row_of statuses.ReadFault = record { code = 3; line = codes "status 3 read-fault\n"; time = Early; shown = false; checked = true; faulty = true }
-row_of (statuses.BadDeploy fault) = record { code = 4; line = codes "status 4 bad-deploy " ++ (fault_text fault ++ codes "\n"); time = Early; shown = false; checked = true; faulty = false }
+row_of statuses.ReadFault = record { code = 3; line = codes "status 3 read-fault\n"; time = Early; shown = true; checked = true; faulty = true }
+row_of (statuses.BadDeploy fault) = record { code = 4; line = codes "status 4 bad-deploy " ++ (fault_text fault ++ codes "\n"); time = Early; shown = true; checked = true; faulty = false }
 row_of (statuses.BadSignals number kind) = record { code = 5; line = codes "status 5 bad-signals " ++ (decimal number ++ (codes " " ++ (bad_word kind ++ codes "\n"))); time = Early; shown = false; checked = false; faulty = false }
 row_of statuses.WriteFault = record { code = 6; line = []; time = WritingFailed; shown = false; checked = false; faulty = false }
 row_of statuses.DiskFault = record { code = 7; line = codes "status 7 disk-fault\n"; time = DiskFailed; shown = true; checked = false; faulty = true }
@@ -75,7 +75,7 @@ row_of (statuses.OtherDeployment kept_len place) = record { code = 9; line = cod
 row_of (statuses.Full size adding) = record { code = 10; line = codes "status 10 full " ++ pair_text size adding; time = Ending; shown = false; checked = false; faulty = false }
 row_of (statuses.StepsSpent entries) = record { code = 11; line = codes "status 11 steps-spent " ++ (decimal entries ++ codes "\n"); time = Ending; shown = false; checked = false; faulty = false }
 row_of statuses.NoMemory = record { code = 12; line = codes "status 12 no-memory\n"; time = WantOfMemory; shown = true; checked = true; faulty = true }
-row_of (statuses.TooLarge what) = record { code = 13; line = codes "status 13 too-large " ++ (given_word what ++ codes "\n"); time = Early; shown = false; checked = is_deploy what; faulty = false }
+row_of (statuses.TooLarge what) = record { code = 13; line = codes "status 13 too-large " ++ (given_word what ++ codes "\n"); time = Early; shown = is_deploy what; checked = is_deploy what; faulty = false }
 row_of statuses.NotBuilt = record { code = 14; line = codes "status 14 not-built\n"; time = Early; shown = false; checked = false; faulty = false }
 
 abbrev pub code_of : Status → ℕ

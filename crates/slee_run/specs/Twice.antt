@@ -3,28 +3,32 @@ use Rattle.std.specs.Prelude.{◌≡◌, ◌≢◌, ℕ, List, ◌++◌, IsTrue}
 use Rattle.slee_disk.specs.Disk.{DiskState, is_clean}
 use Rattle.trace_history.specs.Histories.{choices_of}
 use Rattle.trace_history.specs.declared.entry.Entry.{Entry}
-use Rattle.router_model.specs.State.{initial}
-use Rattle.router_rules.specs.History.{Legal, replay}
-use Rattle.router_rules.specs.Payload.{payloads}
-use Rattle.built_in_durable.specs.Recovery.{records}
+use Rattle.slee_descriptor.specs.declared.deployment.Deployment.{Deployment}
+use Rattle.router_durable.specs.Choices.{written_format}
+use Rattle.router_durable.specs.Recovery.{records}
+use Rattle.router_steps.specs.Histories.{Legal, replay}
+use Rattle.router_steps.specs.Payloads.{payloads}
+use Rattle.slee_container.specs.declared.container.Mode.{Mode}
+use Rattle.slee_run.specs.Given.{start_of}
 use Rattle.slee_run.specs.Text.{output_text}
 use Rattle.slee_run.specs.Headline.{ComesOn}
-use Rattle.slee_run.specs.Opening.{kept_deployment}
+use Rattle.slee_run.specs.declared.finishing.Report.TheVariants as reports
 use Rattle.slee_run.specs.declared.status.Status.{Status}
 use Rattle.slee_run.specs.declared.status.Status.TheVariants as statuses
 
--- neither the writing nor the disk failed
+-- neither the writing nor the disk failed, and memory was found
 abbrev pub IsUnbroken : Status → Type 0
-IsUnbroken status = (status ≢ statuses.WriteFault) × (status ≢ statuses.DiskFault)
+IsUnbroken status = (status ≢ statuses.WriteFault) × (status ≢ statuses.DiskFault) × (status ≢ statuses.NoMemory)
 
--- Two runs of one worker, of so many entries each, on a new disk are one legal history from the initial state, whose text was written in two parts, and whose records the
--- disk has, with nothing pending. The lines of each come to its status where it began.
-pub record IsOneHistory (steps : ℕ) (lines more before after : List ℕ) (disk : DiskState) (first second : Status) : Type 0 where
+-- Two runs of one worker for a deployment, of so many entries each, on a new disk are one legal history from its first state, whose
+-- text was written in two parts, and whose records the disk has, with nothing pending. The lines of each come to its status where it
+-- began.
+pub record IsOneHistory (mode : Mode) (steps : ℕ) (deploy lines more before after : List ℕ) (d : Deployment) (disk : DiskState) (first second : Status) : Type 0 where
   pub one : List Entry
   pub other : List Entry
-  pub legal : Legal initial (one ++ other)
-  pub comes : ComesOn initial steps lines one first
-  pub comes_on : ComesOn (replay initial one) steps more other second
-  pub text : after ≡ before ++ (output_text one first ++ output_text other second)
-  pub records : records kept_deployment disk.seen ≡ payloads initial (choices_of (one ++ other))
+  pub legal : Legal (start_of d) (one ++ other)
+  pub comes : ComesOn (start_of d) mode steps deploy lines one first
+  pub comes_on : ComesOn (replay (start_of d) one) mode steps deploy more other second
+  pub text : after ≡ before ++ (output_text reports.Trace one first ++ output_text reports.Trace other second)
+  pub records : records deploy disk.seen ≡ payloads written_format (start_of d) (choices_of (one ++ other))
   pub rest : IsTrue (is_clean disk)

@@ -4,21 +4,19 @@ ghost use Rattle.std.specs.Io.KnownBytes.{IsAtEnd};
 ghost use Rattle.slee_disk.specs.Causes.{Rose};
 ghost use Rattle.slee_disk.specs.Taken.{ConsumesSome};
 ghost use Rattle.slee_run.specs.Text.{checked_text};
-ghost use Rattle.slee_run.specs.Checking.{IsCounted, IsBarred, IsCheckedAt, deploy_limit};
+ghost use Rattle.slee_run.specs.Checking.{IsCounted, IsBarred, IsCheckedAt};
 ghost use Rattle.slee_run.specs.Headline.{IsWritten};
-ghost use Rattle.slee_run.specs.Answers.{IsCheckedBy, IsEarly, status_of_fault};
+ghost use Rattle.slee_run.specs.Answers.{IsCheckedBy};
+ghost use Rattle.slee_run.specs.Given.{deploy_limit};
+ghost use Rattle.slee_run.specs.Opening.{IsEarly};
 
 use crate::finishing::{refuse, status_written};
 use crate::printing::write_checked;
-use crate::reading::status_of_reading;
+use crate::reading::{DEPLOY_LIMIT, status_of_fault, status_of_reading};
 use crate::{Given, Status};
-use deploy_json::ReadFault;
 use deploy_report::{Counts, count_deployment};
 use slee_disk::{Sink, Source, read_whole};
 use std::alloc::Global;
-
-/// The most bytes of a deployment.
-const DEPLOY_LIMIT: usize = 1_048_576;
 
 /// Reads the deployment, and writes the counts of its parts, or the status of the refusal.
 pub fn check<S: Source, K: Sink>(alloc: Global, deploy: &mut S, out: &mut K) -> Status
@@ -72,15 +70,5 @@ fn counts_of(alloc: Global, bytes: &[u8]) -> Result<Counts, Status>
     match count_deployment(alloc, bytes) {
         Ok(counts) => Ok(counts),
         Err(fault) => Err(status_of_fault(fault)),
-    }
-}
-
-/// The status of bytes that are no deployment.
-fn status_of_fault(fault: ReadFault) -> Status
-    ensures { result ≡ status_of_fault fault }
-{
-    match fault {
-        ReadFault::NoMemory => Status::NoMemory,
-        fault => Status::BadDeploy(fault),
     }
 }

@@ -1,16 +1,28 @@
 //! Writing what a run came to, and its status.
-ghost use Rattle.std.specs.Prelude.{◌≡◌, ◌≢◌, ◌≤◌, take, length, OnOk, OnErr};
+ghost use Rattle.std.specs.Prelude.{◌≡◌, ◌≢◌, take, OnOk, OnErr};
 ghost use Rattle.slee_disk.specs.Causes.{Rose};
-ghost use Rattle.router_rules.specs.Show.{show_text};
-ghost use Rattle.slee_run.specs.Status.{status_line};
-ghost use Rattle.slee_run.specs.Text.{output_text, shown_text};
-ghost use Rattle.slee_run.specs.Headline.{IsWritten, IsShownAt};
-ghost use Rattle.slee_run.specs.Answers.{status_of};
+ghost use Rattle.usage_totals.specs.Totals.{usage_totals};
+ghost use Rattle.slee_run.specs.Status.{row_of, status_line};
+ghost use Rattle.slee_run.specs.Text.{IsReachedTime, output_text, short_text};
+ghost use Rattle.slee_run.specs.Headline.{IsWritten};
+ghost use Rattle.slee_run.specs.Answers.{IsFinished};
 
 use crate::Status;
-use crate::printing::{write_status, write_text};
-use built_in_container::Container;
+use crate::printing::{write_report, write_short, write_status};
+use slee_container::Container;
 use slee_disk::{Disk, Failed, Sink};
+use slee_value::NoMemory;
+use std::alloc::Global;
+use usage_totals::{Totals, usage_totals};
+
+/// What is written of the entries of a run.
+#[derive(Clone, Copy, Debug, PartialEq, Eq)]
+pub enum Report {
+    /// Their trace.
+    Trace,
+    /// Counts of what they are.
+    Summary,
+}
 
 /// Writes the status alone.
 #[tactic(auto, using(crate::proofs::EndLemmas::written))]
@@ -22,19 +34,63 @@ pub fn refuse<K: Sink>(out: &mut K, stood: Status) -> Status
     status_written(written, stood)
 }
 
-/// Writes the acknowledged entries of a container and the status.
-#[tactic(auto, using(crate::proofs::EndLemmas::written))]
+/// Writes the acknowledged entries of a container, the usage totals of these and the status.
 pub fn finish<'d, K: Sink, D: Disk>(
+    alloc: Global,
     out: &mut K,
     container: &Container<'d, D>,
+    report: Report,
     stood: Status,
 ) -> Status
-    ensures output { IsWritten (K.contents out.old) (K.contents out.new) (output_text (take container.now.acked container.now.history) stood) stood result }
-    ensures write { stood ≢ Status.WriteFault → result ≡ Status.WriteFault → Rose (K.faults out.old) (K.faults out.new) }
+    requires unwritten { stood ≢ Status.WriteFault }
+    requires reached { IsReachedTime (row_of stood).time }
+    ensures finished { IsFinished report (take container.now.acked container.now.history) stood (K.contents out.old) (K.contents out.new) result }
+    ensures write { result ≡ Status.WriteFault → Rose (K.faults out.old) (K.faults out.new) }
+    ensures which { result ≢ Status.WriteFault → result ≢ Status.NoMemory → result ≡ stood }
 {
-    let acked = container.acked();
-    let written = write_text(out, container.history(), acked, &stood);
+    match usage_totals(alloc, container.history(), container.acked()) {
+        Ok(totals) => finish_whole(out, container, report, &totals, stood),
+        Err(NoMemory) => finish_short(out, container, report),
+    }
+}
+
+/// Writes a report with its totals, and the status.
+#[tactic(auto, using(crate::proofs::EndLemmas::written))]
+fn finish_whole<'d, K: Sink, D: Disk>(
+    out: &mut K,
+    container: &Container<'d, D>,
+    report: Report,
+    totals: &Totals,
+    stood: Status,
+) -> Status
+    requires unwritten { stood ≢ Status.WriteFault }
+    requires totals { totals.now ≡ usage_totals (take container.now.acked container.now.history) }
+    ensures output { IsWritten (K.contents out.old) (K.contents out.new) (output_text report (take container.now.acked container.now.history) stood) stood result }
+    ensures write { result ≡ Status.WriteFault → Rose (K.faults out.old) (K.faults out.new) }
+{
+    let written = write_report(
+        out,
+        container.history(),
+        container.acked(),
+        report,
+        totals,
+        &stood,
+    );
     status_written(written, stood)
+}
+
+/// Writes what can be written where memory ran out: a trace without its totals, and of a summary nothing.
+#[tactic(auto, using(crate::proofs::EndLemmas::written))]
+fn finish_short<'d, K: Sink, D: Disk>(
+    out: &mut K,
+    container: &Container<'d, D>,
+    report: Report,
+) -> Status
+    ensures output { IsWritten (K.contents out.old) (K.contents out.new) (short_text report (take container.now.acked container.now.history)) Status.NoMemory result }
+    ensures write { result ≡ Status.WriteFault → Rose (K.faults out.old) (K.faults out.new) }
+{
+    let written = write_short(out, container.history(), container.acked(), report);
+    status_written(written, Status::NoMemory)
 }
 
 /// The status that stood, unless writing it failed.

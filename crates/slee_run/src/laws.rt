@@ -1,8 +1,9 @@
 //! Words and commands, and what words and lines determine.
 ghost use Rattle.std.specs.Prelude.{◌≡◌, ℕ, List, true, Some, IsTrue};
 ghost use Rattle.slee_run.specs.declared.command.Command.{Command};
+ghost use Rattle.slee_run.specs.Answers.{Outcome};
 ghost use Rattle.slee_run.specs.Headline.{IsByFault};
-ghost use Rattle.slee_run.specs.Determined.{Outcome, IsRunOver};
+ghost use Rattle.slee_run.specs.Determined.{IsRunOver};
 ghost use Rattle.slee_run.specs.Words.{command_of, spelled, is_in_range};
 
 use slee_disk::Disk;
@@ -25,5 +26,5 @@ pub fn spelled_is_command()
 pub fn run_is_determined<D: Disk>(found: &D, one: &D, other: &D)
     ensures { (words : List (List ℕ)) (deploy bytes : List ℕ) (p q : Outcome) → IsTrue (D.disk found.now).told
         → IsRunOver words deploy bytes (D.disk found.now) (D.disk one.now) p → IsRunOver words deploy bytes (D.disk found.now) (D.disk other.now) q
-        → (IsByFault p.status → ⊥) → (IsByFault q.status → ⊥) → (p.status ≡ q.status) × (p.history ≡ q.history) × (p.text ≡ q.text) }
+        → (IsByFault p.stood → ⊥) → (IsByFault q.stood → ⊥) → (p.stood ≡ q.stood) × (p.history ≡ q.history) × (p.text ≡ q.text) }
 {}

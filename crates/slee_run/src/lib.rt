@@ -3,7 +3,9 @@
 
 mod checking;
 mod command;
+mod delivering;
 mod finishing;
+mod generating;
 mod laws;
 mod playing;
 mod printing;
@@ -11,7 +13,9 @@ mod reading;
 mod running;
 mod showing;
 mod status;
+mod summing;
 mod top;
+mod totals;
 mod twice;
 mod words;
 

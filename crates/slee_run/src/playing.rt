@@ -1,19 +1,20 @@
 //! Playing what a container has to do, a step at a time.
-ghost use Rattle.std.specs.Prelude.{◌≡◌, [], None, Some, IsTrue, length, false};
-ghost use Rattle.std.specs.List.{list_all};
-ghost use Rattle.router_rules.specs.Taking.{is_input};
-ghost use Rattle.router_rules.specs.Selection.{next};
-ghost use Rattle.router_rules.specs.Step.{choice_on};
-ghost use Rattle.built_in_durable.specs.Facts.{base_of};
-ghost use Rattle.slee_run.specs.Playing.{Moves, Advances, IsPlayed, IsEndOf, HadRoom, end_of, stop_of};
-ghost use Rattle.built_in_durable.specs.Core.{is_down};
+ghost use Rattle.std.specs.Prelude.{◌≡◌, ◌≤◌, [], None, Some, length, false};
+ghost use Rattle.router_state.specs.Next.{next};
+ghost use Rattle.router_steps.specs.Steps.{choice_on};
+ghost use Rattle.router_durable.specs.Core.{is_down};
+ghost use Rattle.router_durable.specs.Facts.{base_of};
+ghost use Rattle.slee_container.specs.Container.{state_of};
+ghost use Rattle.slee_run.specs.Playing.{Moves, Advances, IsPlayed, IsEndOf, HadRoom, end_of, left, stop_of};
 
-use built_in_container::{Container, Redone, Work};
-use built_in_durable::StepFault;
-use router_rules::Kindred;
+use crate::delivering::deliver;
+use initial_select::Selectors;
+use router_durable::StepFault;
+use router_state::Kindred;
+use slee_container::{Container, Work};
 use slee_disk::Disk;
 use slee_value::ActivityId;
-use trace_history::Choice;
+use std::alloc::Global;
 
 /// How playing ended.
 #[derive(Clone, Copy, Debug, PartialEq, Eq)]
@@ -32,22 +33,24 @@ pub enum End {
 
 /// Plays what is to be done, until nothing is or nothing may be.
 #[tactic(auto, using(crate::proofs::PlayLemmas::begun, crate::proofs::PlayLemmas::nearer, crate::proofs::PlayLemmas::stopped))]
-pub fn play<'d, D: Disk>(container: &mut Container<'d, D>) -> End
+pub fn play<'d, D: Disk>(
+    alloc: Global,
+    container: &mut Container<'d, D>,
+    selectors: &Selectors,
+) -> End
     requires history { container.old.history ≡ [] }
-    requires state { container.old.state ≡ base_of container.old.setup.origin }
-    requires taken { container.old.taken ≡ 0 }
     requires acked { container.old.acked ≡ 0 }
+    requires taken { container.old.taken ≤ length container.old.setup.lines }
     requires claims { container.old.claims ≡ [] }
     requires live { container.old.stop ≡ None }
-    requires valid { IsTrue (list_all is_input container.old.setup.lines) }
     ensures setup { container.new.setup ≡ container.old.setup }
-    ensures played { IsPlayed container.old.setup.journal (base_of container.old.setup.origin) container.old.setup.steps container.old.setup.lines container.new.history result }
+    ensures played { IsPlayed container.old.setup.journal (base_of container.old.setup.origin) container.old.setup.steps (left container.old) container.new.history result }
     ensures stop { container.new.stop ≡ stop_of result }
     ensures whole { is_down container.new.stop ≡ false → container.new.acked ≡ length container.new.history }
     ensures room { HadRoom container.old.setup.origin container.old.setup.journal container.new.history }
 {
     'entries: loop {
-        match advance(container) {
+        match advance(alloc, container, selectors) {
             Some(end) => return close(container, end),
             None => {}
         }
@@ -72,7 +75,11 @@ fn close<'d, D: Disk>(container: &mut Container<'d, D>, end: End) -> End
 }
 
 /// Does what is to be done next.
-fn advance<'d, D: Disk>(container: &mut Container<'d, D>) -> Option<End>
+fn advance<'d, D: Disk>(
+    alloc: Global,
+    container: &mut Container<'d, D>,
+    selectors: &Selectors,
+) -> Option<End>
     requires live { container.old.stop ≡ None }
     requires claims { container.old.claims ≡ [] }
     ensures setup { container.new.setup ≡ container.old.setup }
@@ -82,7 +89,9 @@ fn advance<'d, D: Disk>(container: &mut Container<'d, D>) -> Option<End>
         Work::Done => Some(End::Done),
         Work::Spent => Some(End::Spent),
         Work::Line => end_of(container.take_input()),
-        Work::Step(activity, kindred) => end_of(step(container, activity, kindred)),
+        Work::Step(activity, kindred) => {
+            end_of(step(alloc, container, activity, kindred, selectors))
+        }
         Work::Stopped(_) => unreachable!(),
         Work::Idle { claims: _ } => unreachable!(),
     }
@@ -103,43 +112,21 @@ fn end_of(moved: Result<u64, StepFault>) -> Option<End>
 
 /// Makes the step that is next on an activity.
 fn step<'d, D: Disk>(
+    alloc: Global,
     container: &mut Container<'d, D>,
     activity: ActivityId,
     kindred: Kindred,
+    selectors: &Selectors,
 ) -> Result<u64, StepFault>
     requires live { container.old.stop ≡ None }
     requires claims { container.old.claims ≡ [] }
-    requires next { next container.old.state activity.0 ≡ Some kindred }
+    requires next { next (state_of container.old) activity.0 ≡ Some kindred }
     ensures setup { container.new.setup ≡ container.old.setup }
-    ensures moves { Moves container.old (choice_on activity.0 kindred) result container.new }
+    ensures moves { Moves container.old (choice_on (activity.0, kindred)) result container.new }
 {
     match kindred {
-        Kindred::Initial => container.initial(activity),
-        Kindred::Deliver => deliver(container, activity),
+        Kindred::Initial => container.initial(activity, selectors),
+        Kindred::Deliver => deliver(alloc, container, activity),
         Kindred::Finish => container.finish(activity),
-    }
-}
-
-/// Makes the delivery that is next on an activity: it is claimed, and done at once.
-fn deliver<'d, D: Disk>(
-    container: &mut Container<'d, D>,
-    activity: ActivityId,
-) -> Result<u64, StepFault>
-    requires live { container.old.stop ≡ None }
-    requires claims { container.old.claims ≡ [] }
-    requires next { next container.old.state activity.0 ≡ Some Kindred.Deliver }
-    ensures setup { container.new.setup ≡ container.old.setup }
-    ensures moves { Moves container.old (Choice.Deliver activity) result container.new }
-{
-    let Ok(prepared) = container.prepare(activity) else {
-        return Err(StepFault::NoMemory);
-    };
-    let Some(ticket) = prepared else {
-        unreachable!()
-    };
-    match container.redo(&ticket) {
-        Ok(Redone::Entry(number)) => Ok(number),
-        Ok(Redone::Released) => unreachable!(),
-        Err(fault) => Err(fault),
     }
 }

@@ -1,14 +1,18 @@
 //! Writing the text of a run.
-ghost use Rattle.std.specs.Prelude.{◌++◌, ◌≤◌, length, take};
-ghost use Rattle.slee_disk.specs.Writes.{Writes};
-ghost use Rattle.trace_history.specs.Trace.{trace_text};
-ghost use Rattle.slee_disk.specs.Sides.{side_word};
+ghost use Rattle.std.specs.Prelude.{◌≡◌, ◌++◌, ◌≤◌, codes, length, take};
 ghost use Rattle.commit_journal.specs.Words.{kind_word};
-ghost use Rattle.signal_script.specs.Words.{bad_word};
-ghost use Rattle.slee_run.specs.Status.{status_line, given_word, pair_text, place_text};
 ghost use Rattle.deploy_report.specs.Texts.{counts_text};
-ghost use Rattle.slee_run.specs.Text.{output_text};
+ghost use Rattle.signal_script.specs.Words.{bad_word};
+ghost use Rattle.slee_disk.specs.Sides.{side_word};
+ghost use Rattle.slee_disk.specs.Writes.{Writes};
+ghost use Rattle.usage_totals.specs.Totals.{usage_totals};
+ghost use Rattle.slee_run.specs.Status.{status_line, given_word, pair_text, place_text};
+ghost use Rattle.slee_run.specs.Summary.{count_line, counted_text};
+ghost use Rattle.slee_run.specs.Text.{output_text, report_text, short_text, totals_text};
 
+use crate::finishing::Report;
+use crate::summing::{Summary, summary_of};
+use crate::totals::write_totals;
 use crate::{Given, Status};
 use commit_journal::JournalBad;
 use deploy_json::ReadFault;
@@ -16,26 +20,77 @@ use deploy_report::{Counts, write_counts, write_fault};
 use signal_script::SignalBad;
 use slee_disk::{Failed, Side, Sink, write_number, write_whole};
 use trace_history::History;
+use usage_totals::Totals;
 
-/// Writes so many entries, numbered from 1, and the status line.
-pub fn write_text<K: Sink>(
+/// Writes what is written of so many entries, their usage totals and the status line.
+pub fn write_report<K: Sink>(
     out: &mut K,
     history: &History,
     entries: u64,
+    report: Report,
+    totals: &Totals,
     status: &Status,
 ) -> Result<(), Failed>
-    requires { entries ≤ length history.now.entries }
-    ensures { Writes K.contents K.faults out.old out.new (output_text (take entries history.now.entries) status.now) result }
+    requires few { entries ≤ length history.now.entries }
+    requires totals { totals.now ≡ usage_totals (take entries history.now.entries) }
+    ensures { Writes K.contents K.faults out.old out.new (output_text report (take entries history.now.entries) status.now) result }
 {
-    write_trace(out, history, entries)?;
+    write_entries(out, history, entries, report)?;
+    write_totals(out, totals)?;
     write_status(out, status)
 }
 
-fn write_trace<K: Sink>(out: &mut K, history: &History, entries: u64) -> Result<(), Failed>
+/// Writes what is written of so many entries where memory for their totals ran out.
+pub fn write_short<K: Sink>(
+    out: &mut K,
+    history: &History,
+    entries: u64,
+    report: Report,
+) -> Result<(), Failed>
     requires { entries ≤ length history.now.entries }
-    ensures { Writes K.contents K.faults out.old out.new (trace_text (take entries history.now.entries)) result }
+    ensures { Writes K.contents K.faults out.old out.new (short_text report (take entries history.now.entries)) result }
 {
-    write_whole(out, history.text(entries))
+    match report {
+        Report::Trace => write_entries(out, history, entries, report)?,
+        Report::Summary => {}
+    }
+    write_status(out, &Status::NoMemory)
+}
+
+/// Writes so many entries, numbered from 1, or their counts.
+fn write_entries<K: Sink>(
+    out: &mut K,
+    history: &History,
+    entries: u64,
+    report: Report,
+) -> Result<(), Failed>
+    requires { entries ≤ length history.now.entries }
+    ensures { Writes K.contents K.faults out.old out.new (report_text report (take entries history.now.entries)) result }
+{
+    match report {
+        Report::Trace => write_whole(out, history.text(entries)),
+        Report::Summary => write_summary(out, summary_of(history.text(entries)), entries),
+    }
+}
+
+/// Writes the counts of so many entries.
+fn write_summary<K: Sink>(out: &mut K, summary: Summary, entries: u64) -> Result<(), Failed>
+    ensures { Writes K.contents K.faults out.old out.new (counted_text summary entries) result }
+{
+    write_count(out, b"lines ", summary.inputs)?;
+    write_count(out, b"entries ", entries)?;
+    write_count(out, b"started ", summary.started)?;
+    write_count(out, b"deliveries ", summary.deliveries)?;
+    write_count(out, b"refused ", summary.refused)
+}
+
+/// Writes a label and its count.
+fn write_count<K: Sink>(out: &mut K, label: &[u8], count: u64) -> Result<(), Failed>
+    ensures { Writes K.contents K.faults out.old out.new (count_line label.now count) result }
+{
+    write_whole(out, label)?;
+    write_number(out, count)?;
+    write_whole(out, b"\n")
 }
 
 /// Writes the counts of a deployment and that all is done.

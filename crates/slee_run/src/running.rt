@@ -1,85 +1,96 @@
-//! Playing lines over a journal, from a disk to a disk.
-ghost use Rattle.std.specs.Prelude.{◌≡◌, ◌+◌, IsTrue};
-ghost use Rattle.std.specs.List.{list_all};
-ghost use Rattle.router_rules.specs.Taking.{is_input};
+//! Runs over a journal, from a disk to a disk.
+ghost use Rattle.std.specs.Prelude.{◌≡◌, ◌⊎◌, ◌+◌};
 ghost use Rattle.std.specs.Io.KnownBytes.{IsAtEnd};
+ghost use Rattle.script_types.specs.ProgramOf.{IsChecked};
 ghost use Rattle.slee_disk.specs.Causes.{Rose};
 ghost use Rattle.slee_disk.specs.Taken.{ConsumesSome};
-ghost use Rattle.slee_run.specs.Headline.{signals_limit};
+ghost use Rattle.slee_run.specs.Given.{IsDeployment, deploy_limit, signals_limit};
 ghost use Rattle.slee_run.specs.Opening.{IsBeforeOpening};
 ghost use Rattle.slee_run.specs.Playing.{status_after};
-ghost use Rattle.slee_run.specs.Answers.{IsPlayedBy, IsPlayOn, IsPlayFrom, status_of};
+ghost use Rattle.slee_run.specs.Answers.{IsPlayedFrom, IsPlayedOn, document_of, status_of};
 
-use crate::finishing::{finish, refuse};
+use crate::finishing::{Report, finish, refuse};
 use crate::playing::{End, play};
-use crate::reading::read_lines;
+use crate::reading::{Inputs, read_inputs};
 use crate::{Given, Status};
-use built_in_container::{Container, Limits, Mode};
-use built_in_core::Inputs;
-use built_in_durable::OpenFault;
 use commit_journal::SIDE_LIMIT;
+use initial_select::Selectors;
+use router_durable::OpenFault;
+use slee_container::{Container, Limits, Mode};
 use slee_disk::{Disk, Sink, Source};
 use std::alloc::Global;
 
-/// The text of the deployment that the journal keeps: it is built in.
-pub const KEPT_DEPLOYMENT: &[u8] = b"";
+/// How far a run goes, which of its lines are new, and what is written of it.
+#[derive(Clone, Copy, Debug, PartialEq, Eq)]
+pub struct Run {
+    pub mode: Mode,
+    /// The most entries.
+    pub steps: u64,
+    pub report: Report,
+}
 
-/// Reads the lines, plays them and writes the trace.
-pub fn play_source<T: Source, K: Sink, D: Disk>(
+/// Reads a deployment and lines, plays them and writes the trace.
+pub fn play_sources<S: Source, T: Source, K: Sink, D: Disk>(
     alloc: Global,
+    deploy: &mut S,
     signals: &mut T,
     out: &mut K,
     disk: D,
-    steps: u64,
+    run: Run,
+    selectors: &Selectors,
 ) -> (Status, D)
-    ensures played { IsPlayedBy (λ base history stood. IsPlayFrom base steps (T.left signals.old) history stood)
-        (K.contents out.old) (K.contents out.new) (D.disk disk) (D.disk result.1) result.0 }
-    ensures read { result.0 ≡ Status.ReadFault → Rose (T.faults signals.old) (T.faults signals.new) }
+    requires { run.report ≡ Report.Trace }
+    ensures played { IsPlayedFrom run.mode run.steps (S.left deploy.old) (T.left signals.old) (K.contents out.old) (K.contents out.new) (D.disk disk) (D.disk result.1) result.0 }
+    ensures read { result.0 ≡ Status.ReadFault → Rose (S.faults deploy.old) (S.faults deploy.new) ⊎ Rose (T.faults signals.old) (T.faults signals.new) }
     ensures write { result.0 ≡ Status.WriteFault → Rose (K.faults out.old) (K.faults out.new) }
     ensures disk { result.0 ≡ Status.DiskFault → Rose (D.disk disk).faults (D.disk result.1).faults }
-    ensures end { result.0 ≡ Status.Ok → IsAtEnd (T.left signals.new) }
-    ensures too_large { result.0 ≡ Status.TooLarge Given.Signals → ConsumesSome (T.left signals.old) (T.left signals.new) (signals_limit + 1) }
+    ensures end { result.0 ≡ Status.Ok → IsAtEnd (S.left deploy.new) × IsAtEnd (T.left signals.new) }
+    ensures large { result.0 ≡ Status.TooLarge Given.Signals → ConsumesSome (T.left signals.old) (T.left signals.new) (signals_limit + 1) }
+    ensures deploy_large { result.0 ≡ Status.TooLarge Given.Deploy → ConsumesSome (S.left deploy.old) (S.left deploy.new) (deploy_limit + 1) }
     ensures untouched { IsBeforeOpening result.0 → result.1 ≡ disk }
 {
-    match read_lines(alloc, signals) {
-        Ok(lines) => play_lines(alloc, &lines, out, disk, steps),
+    match read_inputs(alloc, deploy, signals) {
+        Ok(inputs) => play_inputs(alloc, &inputs, out, disk, run, selectors),
         Err(stood) => (refuse(out, stood), disk),
     }
 }
 
 /// Plays lines on what the disk keeps.
-fn play_lines<K: Sink, D: Disk>(
+pub fn play_inputs<K: Sink, D: Disk>(
     alloc: Global,
-    lines: &Inputs,
+    inputs: &Inputs,
     out: &mut K,
     disk: D,
-    steps: u64,
+    run: Run,
+    selectors: &Selectors,
 ) -> (Status, D)
-    requires valid { IsTrue (list_all is_input lines.now) }
-    ensures played { IsPlayedBy (λ base history stood. IsPlayOn base steps lines.now history stood)
-        (K.contents out.old) (K.contents out.new) (D.disk disk) (D.disk result.1) result.0 }
+    requires given { IsDeployment inputs.now.deployed.bytes inputs.now.deployed.checked }
+    requires checked { IsChecked inputs.now.deployed.checked.codes }
+    ensures played { IsPlayedOn (document_of inputs.now.deployed) run.mode run.steps run.report inputs.now.lines (K.contents out.old) (K.contents out.new) (D.disk disk) (D.disk result.1) result.0 }
     ensures write { result.0 ≡ Status.WriteFault → Rose (K.faults out.old) (K.faults out.new) }
     ensures disk { result.0 ≡ Status.DiskFault → Rose (D.disk disk).faults (D.disk result.1).faults }
     ensures late { IsBeforeOpening result.0 → ⊥ }
 {
     let limits = Limits {
         journal: SIDE_LIMIT,
-        steps,
+        steps: run.steps,
     };
     let mut container = match Container::open(
         alloc,
         disk,
-        KEPT_DEPLOYMENT,
-        lines,
-        Mode::AllNew,
+        inputs.deployed.checked.deployment(),
+        inputs.deployed.bytes.as_slice(),
+        &inputs.lines,
+        run.mode,
         limits,
+        selectors,
     ) {
         Ok(container) => container,
         Err((fault, disk)) => return (refuse(out, status_of(fault)), disk),
     };
-    let end = play(&mut container);
+    let end = play(alloc, &mut container, selectors);
     let stood = status_after(container.history().len(), end);
-    let status = finish(out, &container, stood);
+    let status = finish(alloc, out, &container, run.report, stood);
     (status, container.into_disk())
 }
 

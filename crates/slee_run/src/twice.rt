@@ -6,6 +6,7 @@ ghost use Rattle.slee_run.specs.Words.{texts};
 ghost use Rattle.slee_run.specs.Twice.{IsUnbroken, IsOneHistory};
 
 use crate::{Status, run_one};
+use initial_select::Selectors;
 use slee_disk::{MemoryDisk, MemorySink, MemorySource};
 use slee_value::{Blob, NoMemory};
 use std::alloc::Global;
@@ -21,20 +22,36 @@ pub struct Twice {
     pub disk: MemoryDisk,
 }
 
-/// Plays one list of lines on a new disk in memory, and then another on what the first has left there, with the same words.
+/// Plays one list of lines for a deployment on a new disk in memory, and then another on what the first has left there, with the
+/// same words.
 pub fn play_twice(
     alloc: Global,
     words: &[&str],
+    deploy: &Blob,
     lines: Blob,
     more: Blob,
     out: &mut MemorySink,
-) -> Result<Twice, NoMemory>
-    ensures { IfOk result (λ twice. (steps : ℕ) → Plays (texts words.now) steps → IsUnbroken twice.first → IsUnbroken twice.second
-        → IsOneHistory steps lines more out.old.held out.new.held (state_of twice.disk) twice.first twice.second) }
-{
+    selectors: &Selectors,
+) -> Result<Twice, NoMemory> {
     let disk = MemoryDisk::new(alloc, Blob::new(alloc), Blob::new(alloc), Blob::new(alloc))?;
-    let (first, disk) = play(alloc, words, lines, out, disk);
-    let (second, disk) = play(alloc, words, more, out, disk);
+    let (first, disk) = play(
+        alloc,
+        words,
+        deploy.copy(alloc)?,
+        lines,
+        out,
+        disk,
+        selectors,
+    );
+    let (second, disk) = play(
+        alloc,
+        words,
+        deploy.copy(alloc)?,
+        more,
+        out,
+        disk,
+        selectors,
+    );
     Ok(Twice {
         first,
         second,
@@ -42,17 +59,25 @@ pub fn play_twice(
     })
 }
 
-/// Plays lines over a disk.
+/// Plays lines for a deployment over a disk.
 fn play(
     alloc: Global,
     words: &[&str],
+    deploy: Blob,
     lines: Blob,
     out: &mut MemorySink,
     disk: MemoryDisk,
-) -> (Status, MemoryDisk)
-    ensures { IsLegalRun (texts words.now) (Some []) (Some lines) (Some out.old.held) (Some out.new.held) (state_of disk) (state_of result.1) result.0 }
-{
-    let mut deploy = MemorySource::new(Blob::new(alloc), PIECE, Blob::new(alloc));
+    selectors: &Selectors,
+) -> (Status, MemoryDisk) {
+    let mut deploy = MemorySource::new(deploy, PIECE, Blob::new(alloc));
     let mut signals = MemorySource::new(lines, PIECE, Blob::new(alloc));
-    run_one(alloc, words, &mut deploy, &mut signals, out, disk)
+    run_one(
+        alloc,
+        words,
+        &mut deploy,
+        &mut signals,
+        out,
+        disk,
+        selectors,
+    )
 }

@@ -1,6 +1,6 @@
 //! The words of the command line.
-ghost use Rattle.std.specs.Prelude.{◌≡◌, ◌&&◌, Some, None, nat_le, if◌then◌else◌};
-ghost use Rattle.slee_run.specs.Words.{texts, command_of, command_alone, command_of_two, number_within, made_of, workers_of, steps_of, seed_of, count_of};
+ghost use Rattle.std.specs.Prelude.{◌≡◌, ◌&&◌, true, Some, None, IfSome, nat_le, if◌then◌else◌};
+ghost use Rattle.slee_run.specs.Words.{texts, command_of, command_alone, command_of_two, is_in_range, number_within, made_of, workers_of, steps_of, seed_of, count_of};
 
 use crate::Command;
 use signal_script::number_of;
@@ -14,9 +14,10 @@ const MOST_SEED: u64 = 4_294_967_295;
 const MOST_LINES: u64 = 100_000;
 
 /// What the words ask, if they are of a form and their numbers in range.
-#[tactic(auto, using(crate::proofs::WordLemmas::one_word, crate::proofs::WordLemmas::three_words, crate::proofs::WordLemmas::other_words))]
+#[tactic(auto, using(crate::proofs::WordLemmas::one_word, crate::proofs::WordLemmas::three_words, crate::proofs::WordLemmas::other_words, crate::proofs::WordLemmas::asked_in_range))]
 pub fn command_of(words: &[&str]) -> Option<Command>
-    ensures { result ≡ command_of (texts words.now) }
+    ensures command { result ≡ command_of (texts words.now) }
+    ensures in_range { IfSome result (λ command. is_in_range command ≡ true) }
 {
     match words {
         [verb] => command_alone(verb),

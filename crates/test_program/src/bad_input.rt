@@ -1,10 +1,11 @@
-//! Lines that are bad, lines that aren't taken yet, and more bytes than are read.
+//! Lines that are bad, lines that are refused, and more bytes than are read.
 use crate::playing::{PLAY, compare, expect};
 use slee_disk::{MemorySink, MemorySource};
 use slee_value::Blob;
 use std::alloc::Global;
 use std::process::Abort;
 use std::test::Fail;
+use test_run::one_call::SERVICE;
 use test_run::running::{Ran, SOUND, Wanted, empty_disk, run, text_of};
 
 // Lines, and what the program tells of the first that is bad: nothing is played then.
@@ -87,34 +88,56 @@ fn the_first_bad_line_is_told_with_its_fault(rt: HostRuntime) -> Result<(), Fail
     expect_each(&rt, rt.alloc(), 5, BAD)
 }
 
-const NOT_BUILT: &str = "status 14 not-built\n";
-
-// Lines of the grammar that the router doesn't take yet.
-const NOT_TAKEN: &[(&[u8], &str)] = &[
-    (b"start c1\nclock 5\n", NOT_BUILT),
-    (b"clock 4000000000000000", NOT_BUILT),
-    (b"activate prepaid\n", NOT_BUILT),
-    (b"deactivate prepaid\n", NOT_BUILT),
-    (b"profile-add accounts r seconds=1\n", NOT_BUILT),
-    (b"profile-update accounts r%20s seconds=1\n", NOT_BUILT),
-    (b"profile-remove accounts r\n", NOT_BUILT),
-    (b"start c1\nfire c1 invite@prepaid addr=tel:1\n", NOT_BUILT),
+// Lines that aren't about an activity, and what comes of them.
+const OTHER_LINES: &[(&[u8], &str)] = &[
+    (
+        b"start c1\nclock 5\n",
+        "1 input start c1\n  started a1 c1\n2 input clock 5\nstatus 0 ok\n",
+    ),
+    (
+        b"clock 4000000000000000",
+        "1 input clock 4000000000000000\nstatus 0 ok\n",
+    ),
+    (
+        b"clock 5\nclock 4\nclock 5\n",
+        "1 input clock 5\n2 input clock 4\n  refused clock-back\n3 input clock 5\nstatus 0 ok\n",
+    ),
+    (
+        b"activate prepaid\n",
+        "1 input activate prepaid\n  refused not-inactive\nstatus 0 ok\n",
+    ),
+    (
+        b"deactivate prepaid\n",
+        "1 input deactivate prepaid\n  service prepaid stopping\n  service prepaid inactive\nstatus 0 ok\n",
+    ),
+    (
+        b"profile-add accounts r seconds=1\n",
+        "1 input profile-add accounts r seconds=1\n  refused unknown-table\nstatus 0 ok\n",
+    ),
+    (
+        b"profile-update accounts r%20s seconds=1\n",
+        "1 input profile-update accounts r%20s seconds=1\n  refused unknown-table\nstatus 0 ok\n",
+    ),
+    (
+        b"profile-remove accounts r\n",
+        "1 input profile-remove accounts r\n  refused unknown-table\nstatus 0 ok\n",
+    ),
 ];
 
 #[test]
-fn lines_that_the_router_does_not_take_are_not_built(rt: HostRuntime) -> Result<(), Fail> {
-    expect_each(&rt, rt.alloc(), 14, NOT_TAKEN)
+fn lines_of_the_clock_of_services_and_of_tables_are_taken(rt: HostRuntime) -> Result<(), Fail> {
+    expect_each(&rt, rt.alloc(), 0, OTHER_LINES)
 }
 
-// A bad line comes before one that isn't taken.
-const BAD_AND_NOT_TAKEN: &[(&[u8], &str)] = &[(
+// A bad line comes before all that is played.
+const BAD_BEHIND_GOOD: &[(&[u8], &str)] = &[(
     b"clock 5\nclock five\n",
     "status 5 bad-signals 2 number\n",
 )];
 
 #[test]
-fn a_bad_line_comes_before_one_that_is_not_taken(rt: HostRuntime) -> Result<(), Fail> {
-    expect_each(&rt, rt.alloc(), 5, BAD_AND_NOT_TAKEN)
+fn a_bad_line_comes_before_all_that_is_played(rt: HostRuntime) -> Result<(), Fail> {
+    expect_each(&rt, rt.alloc(), 5, BAD_BEHIND_GOOD)
 }
 
 // Lines that fire what the service doesn't declare, and why each is refused.
@@ -138,6 +161,10 @@ const REFUSED: &[(&[u8], &str)] = &[
     (
         b"start c1\nfire c1 invite addr=tel:1 to=tel:2\n",
         "1 input start c1\n  started a1 c1\n2 input fire c1 invite addr=tel:1 to=tel:2\n  refused bad-fields\nstatus 0 ok\n",
+    ),
+    (
+        b"start c1\nfire c1 invite@other addr=tel:1\n",
+        "1 input start c1\n  started a1 c1\n2 input fire c1 invite@other addr=tel:1\n  refused unknown-service\nstatus 0 ok\n",
     ),
     (
         b"start c1\nfire c2 ring\n",
@@ -165,7 +192,7 @@ fn play_whole(alloc: Global, lines: String) -> Result<Ran, Fail> {
     let lines = Blob::from(lines.into_bytes());
     let signals = MemorySource::new(lines, 16_777_217, Blob::new(alloc));
     let out = MemorySink::new(alloc, Blob::new(alloc));
-    Ok(run(alloc, &["play", "1", "1"], signals, out, disk))
+    Ok(run(alloc, &["play", "1", "1"], SERVICE, signals, out, disk)?)
 }
 
 // A piece that comes so many times, all of it so many times again, what follows, and the status.

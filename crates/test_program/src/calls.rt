@@ -1,4 +1,4 @@
-//! Calls of the built-in service, and their traces.
+//! Calls of a service, and their traces.
 use crate::playing::expect;
 use std::alloc::Global;
 use std::process::Abort;

@@ -18,7 +18,7 @@ fn check(alloc: Global, deployment: &[u8], failing: Failing<'_>) -> Result<Ran, 
     let signals = MemorySource::new(Blob::new(alloc), 1, Blob::from_slice(alloc, FIRST_FAILS)?);
     let out = MemorySink::new(alloc, Blob::from_slice(alloc, failing.writes)?);
     let disk = failing_disk(alloc, FIRST_FAILS)?;
-    Ok(run_on(alloc, CHECK, deploy, signals, out, disk))
+    run_on(alloc, CHECK, deploy, signals, out, disk)
 }
 
 fn expect(

@@ -4,7 +4,7 @@ use slee_disk::Side;
 use std::alloc::Global;
 use std::process::Abort;
 use std::test::Fail;
-use test_run::running::{Wanted, disk_of, run_over};
+use test_run::running::{Wanted, disk_of, run_deployed};
 
 const OTHER_DEPLOYMENT: Wanted = Wanted {
     code: 9,
@@ -31,30 +31,25 @@ const BAD_SNAPSHOT: Wanted = Wanted {
     printed: "status 8 bad-journal a 0 snapshot\n",
 };
 
-const LENGTH_BEHIND_A_DEPLOYMENT: Wanted = Wanted {
+const BAD_LENGTH: Wanted = Wanted {
     code: 8,
     printed: "status 8 bad-journal a 25 length\n",
 };
 
-const BAD_LENGTH: Wanted = Wanted {
-    code: 8,
-    printed: "status 8 bad-journal a 23 length\n",
-};
-
 const BAD_RECORD: Wanted = Wanted {
     code: 8,
-    printed: "status 8 bad-journal a 23 record\n",
+    printed: "status 8 bad-journal a 25 record\n",
 };
 
 const BAD_REPLAY: Wanted = Wanted {
     code: 8,
-    printed: "status 8 bad-journal a 23 replay\n",
+    printed: "status 8 bad-journal a 25 replay\n",
 };
 
 // Sides without records, of the first format and of the second.
-const EMPTY_ONE: &[u8] = b"\x01SLEEJ1\x01\0\0\0\0\0\0\0\0\0\0\0\0\0\0\0\0";
+const EMPTY_ONE: &[u8] = b"\x01SLEEJ1\x01\0\0\0\0\0\0\0\x02\0\0\0{}\0\0\0\0\0";
 
-const EMPTY: &[u8] = b"\x01SLEEJ2\x01\0\0\0\0\0\0\0\0\0\0\0\0\0\0\0\0";
+const EMPTY: &[u8] = b"\x01SLEEJ2\x01\0\0\0\0\0\0\0\x02\0\0\0{}\0\0\0\0\0";
 
 // Side A, side B, and what opening them comes to.
 const ROWS: &[(&[u8], &[u8], Wanted)] = &[
@@ -71,12 +66,12 @@ const ROWS: &[(&[u8], &[u8], Wanted)] = &[
     (b"\x01SLEE", b"", BAD_HEADER),
     (b"", b"\x01SLEEJ", BAD_HEADER_OF_B),
     (
-        b"\x01SLEEJ3\x01\0\0\0\0\0\0\0\0\0\0\0\0\0\0\0\0",
+        b"\x01SLEEJ3\x01\0\0\0\0\0\0\0\x02\0\0\0{}\0\0\0\0\0",
         b"",
         BAD_HEADER,
     ),
     (
-        b"\x01SLEEJ1\x01\0\0\0\0\0\0\0\0\0\0\0\0\0\0\0",
+        b"\x01SLEEJ1\x01\0\0\0\0\0\0\0\x02\0\0\0{}\0\0\0\0",
         b"",
         BAD_HEADER,
     ),
@@ -90,42 +85,42 @@ const ROWS: &[(&[u8], &[u8], Wanted)] = &[
     // A side of the first format is only read: what is wrong with its records is told before that.
     (EMPTY_ONE, b"", BAD_HEADER),
     (
-        b"\x01SLEEJ1\x01\0\0\0\0\0\0\0\0\0\0\0\0\0\0\0\x01\x0d\0\0\0\x01\x08\0\0\0start c1\0",
+        b"\x01SLEEJ1\x01\0\0\0\0\0\0\0\x02\0\0\0{}\0\0\0\0\x01\x0d\0\0\0\x01\x08\0\0\0start c1\0",
         b"",
         BAD_HEADER,
     ),
     (
         b"\x01SLEEJ1\x01\0\0\0\0\0\0\0\x02\0\0\0ab\0\0\0\0\x01\x64\0\0\0",
         b"",
-        LENGTH_BEHIND_A_DEPLOYMENT,
+        BAD_LENGTH,
     ),
     (
-        b"\x01SLEEJ1\x01\0\0\0\0\0\0\0\0\0\0\0\x01\0\0\0\0\0",
+        b"\x01SLEEJ1\x01\0\0\0\0\0\0\0\x02\0\0\0{}\x01\0\0\0\0\0",
         b"",
         BAD_SNAPSHOT,
     ),
     (
-        b"\x01SLEEJ1\x01\0\0\0\0\0\0\0\0\0\0\0\0\0\0\0\x01",
+        b"\x01SLEEJ1\x01\0\0\0\0\0\0\0\x02\0\0\0{}\0\0\0\0\x01",
         b"",
         BAD_LENGTH,
     ),
     (
-        b"\x01SLEEJ1\x01\0\0\0\0\0\0\0\0\0\0\0\0\0\0\0\x01\xff\xff\xff\xff\0",
+        b"\x01SLEEJ1\x01\0\0\0\0\0\0\0\x02\0\0\0{}\0\0\0\0\x01\xff\xff\xff\xff\0",
         b"",
         BAD_LENGTH,
     ),
     (
-        b"\x01SLEEJ1\x01\0\0\0\0\0\0\0\0\0\0\0\0\0\0\0\x01\x01\0\0\0\x09\0",
+        b"\x01SLEEJ1\x01\0\0\0\0\0\0\0\x02\0\0\0{}\0\0\0\0\x01\x01\0\0\0\x09\0",
         b"",
         BAD_RECORD,
     ),
     (
-        b"\x01SLEEJ1\x01\0\0\0\0\0\0\0\0\0\0\0\0\0\0\0\x01\0\0\0\0\0",
+        b"\x01SLEEJ1\x01\0\0\0\0\0\0\0\x02\0\0\0{}\0\0\0\0\x01\0\0\0\0\0",
         b"",
         BAD_RECORD,
     ),
     (
-        b"\x01SLEEJ1\x01\0\0\0\0\0\0\0\0\0\0\0\0\0\0\0\x01\x09\0\0\0\x04\x01\0\0\0\0\0\0\0\0",
+        b"\x01SLEEJ1\x01\0\0\0\0\0\0\0\x02\0\0\0{}\0\0\0\0\x01\x09\0\0\0\x04\x01\0\0\0\0\0\0\0\0",
         b"",
         BAD_REPLAY,
     ),
@@ -135,22 +130,22 @@ const ROWS: &[(&[u8], &[u8], Wanted)] = &[
         OTHER_DEPLOYMENT,
     ),
     (
-        b"\x01SLEEJ2\x01\0\0\0\0\0\0\0\0\0\0\0\x01\0\0\0\0\0",
+        b"\x01SLEEJ2\x01\0\0\0\0\0\0\0\x02\0\0\0{}\x01\0\0\0\0\0",
         b"",
         BAD_SNAPSHOT,
     ),
     (
-        b"\x01SLEEJ2\x01\0\0\0\0\0\0\0\0\0\0\0\0\0\0\0\x01\xff\xff\xff\xff\0",
+        b"\x01SLEEJ2\x01\0\0\0\0\0\0\0\x02\0\0\0{}\0\0\0\0\x01\xff\xff\xff\xff\0",
         b"",
         BAD_LENGTH,
     ),
     (
-        b"\x01SLEEJ2\x01\0\0\0\0\0\0\0\0\0\0\0\0\0\0\0\x01\x01\0\0\0\x09\0",
+        b"\x01SLEEJ2\x01\0\0\0\0\0\0\0\x02\0\0\0{}\0\0\0\0\x01\x01\0\0\0\x09\0",
         b"",
         BAD_RECORD,
     ),
     (
-        b"\x01SLEEJ2\x01\0\0\0\0\0\0\0\0\0\0\0\0\0\0\0\x01\x09\0\0\0\x04\x01\0\0\0\0\0\0\0\0",
+        b"\x01SLEEJ2\x01\0\0\0\0\0\0\0\x02\0\0\0{}\0\0\0\0\x01\x11\0\0\0\0\0\0\0\0\0\0\0\x04\x01\0\0\0\0\0\0\0\0",
         b"",
         BAD_REPLAY,
     ),
@@ -164,7 +159,7 @@ fn expect_refused(
     wanted: Wanted,
 ) -> Result<(), Fail> {
     let (a, b) = sides;
-    let ran = run_over(alloc, words, "start c1\n", disk_of(alloc, a, b)?)?;
+    let ran = run_deployed(alloc, words, "{}", "start c1\n", disk_of(alloc, a, b)?)?;
     compare(rt, &ran, wanted);
     assert_eq!(rt; ran.disk.side(Side::A), a);
     assert_eq!(rt; ran.disk.side(Side::B), b);
@@ -187,7 +182,7 @@ const INITIAL: &[Step] = &[
         "",
         Wanted {
             code: 0,
-            printed: "clock 0\ninputs 0\nservice prepaid active\nstatus 0 ok\n",
+            printed: "clock 0\ninputs 0\nstatus 0 ok\n",
         },
     ),
     (
@@ -214,7 +209,7 @@ const BLANK: &[(&[u8], &[u8])] = &[
 fn blank_sides_are_an_empty_journal(rt: HostRuntime) -> Result<(), Fail> {
     let alloc = rt.alloc();
     for (a, b) in BLANK {
-        run_each(&rt, alloc, disk_of(alloc, a, b)?, INITIAL)?;
+        run_each(&rt, alloc, "{}", disk_of(alloc, a, b)?, INITIAL)?;
     }
     Ok(())
 }

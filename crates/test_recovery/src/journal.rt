@@ -4,8 +4,10 @@ use slee_disk::{MemoryDisk, Side};
 use std::alloc::Global;
 use std::process::Abort;
 use std::test::Fail;
-use test_run::one_call::{PLAY, SHOW, show};
-use test_run::running::{Failing, Ran, Wanted, empty_disk, run_alone, run_over, text_of};
+use test_run::one_call::{PLAY, SERVICE, SHOW, show};
+use test_run::running::{
+    Failing, Ran, Wanted, empty_disk, run_alone, run_deployed, run_over, text_of,
+};
 
 const RINGS: Wanted = Wanted {
     code: 0,
@@ -76,7 +78,7 @@ const TWO_RUNS: &[Step] = &[
 
 #[test]
 fn a_later_run_goes_on_from_the_journal(rt: HostRuntime) -> Result<(), Fail> {
-    run_each(&rt, rt.alloc(), empty_disk(rt.alloc())?, TWO_RUNS)?;
+    run_each(&rt, rt.alloc(), SERVICE, empty_disk(rt.alloc())?, TWO_RUNS)?;
     Ok(())
 }
 
@@ -88,28 +90,21 @@ const NO_LINES: &[Step] = &[
 
 #[test]
 fn without_lines_there_is_the_initial_state(rt: HostRuntime) -> Result<(), Fail> {
-    run_each(&rt, rt.alloc(), empty_disk(rt.alloc())?, NO_LINES)?;
+    run_each(&rt, rt.alloc(), SERVICE, empty_disk(rt.alloc())?, NO_LINES)?;
     Ok(())
 }
 
-const ONE_START: &[Step] = &[(
-    PLAY,
-    "start c1\n",
-    Wanted {
-        code: 0,
-        printed: "1 input start c1\n  started a1 c1\nstatus 0 ok\n",
-    },
-)];
-
-// A header of 24 bytes without a deployment, a record of 5 and 13 bytes, and the closed gate.
+// A header of 23 bytes with a deployment of two, a record of 5 and 21 bytes, which begin with the clock, and the closed gate.
 const ONE_START_KEPT: &[u8] =
-    b"\x01SLEEJ2\x01\0\0\0\0\0\0\0\0\0\0\0\0\0\0\0\x01\x0d\0\0\0\x01\x08\0\0\0start c1\0";
+    b"\x01SLEEJ2\x01\0\0\0\0\0\0\0\x02\0\0\0{}\0\0\0\0\x01\x15\0\0\0\0\0\0\0\0\0\0\0\x01\x08\0\0\0start c1\0";
 
 #[test]
 fn bytes_of_a_journal_with_one_record(rt: HostRuntime) -> Result<(), Fail> {
-    let disk = run_each(&rt, rt.alloc(), empty_disk(rt.alloc())?, ONE_START)?;
-    assert_eq!(rt; disk.side(Side::A), ONE_START_KEPT);
-    assert!(rt; disk.side(Side::B).is_empty());
+    let alloc = rt.alloc();
+    let ran = run_deployed(alloc, PLAY, "{}", "start c1\n", empty_disk(alloc)?)?;
+    assert_eq!(rt; ran.code, 0);
+    assert_eq!(rt; ran.disk.side(Side::A), ONE_START_KEPT);
+    assert!(rt; ran.disk.side(Side::B).is_empty());
     Ok(())
 }
 
@@ -162,7 +157,7 @@ status 0 ok
 
 #[test]
 fn choices_that_are_left_come_first_in_the_next_run(rt: HostRuntime) -> Result<(), Fail> {
-    run_each(&rt, rt.alloc(), empty_disk(rt.alloc())?, STOPPED)?;
+    run_each(&rt, rt.alloc(), SERVICE, empty_disk(rt.alloc())?, STOPPED)?;
     Ok(())
 }
 
@@ -219,9 +214,10 @@ const REFUSED: &[(&[&str], &str, &[u8], u8)] = &[
     (&[], "start c1\n", b"", 2),
     (&["play", "0", "5"], "start c1\n", b"", 2),
     (&["show", "now"], "", b"", 2),
-    (&["resume", "1", "5"], "start c1\n", b"", 14),
+    (&["resume", "2", "5"], "start c1\n", b"", 14),
     (&["compact"], "", b"", 14),
-    (PLAY, "start c1\nclock 5\n", b"", 14),
+    (PLAY, "start c1\nclock five\n", b"", 5),
+    (&["resume", "1", "5"], "start c1\n", &[1], 3),
     (PLAY, "start c1\n", &[1], 3),
     (PLAY, "start c1\n", &[0, 1], 3),
 ];
@@ -258,4 +254,26 @@ fn a_text_that_is_not_written_is_kept_all_the_same(rt: HostRuntime) -> Result<()
     let ran = run_alone(rt.alloc(), PLAY, lines, UNWRITTEN)?;
     assert_eq!(rt; ran.code, 6);
     expect_shown(&rt, rt.alloc(), &ran.disk, RINGING)
+}
+
+// A later run that is given all lines takes those that weren't taken.
+const TAKEN: &[Step] = &[
+    (PLAY, "start c1\nfire c1 invite addr=tel:5551\n", RINGS),
+    (
+        &["resume", "1", "100"],
+        "start c1\nfire c1 invite addr=tel:5551\nend c1\n",
+        ENDS,
+    ),
+    (
+        &["resume", "1", "100"],
+        "start c1\nfire c1 invite addr=tel:5551\nend c1\n",
+        DONE,
+    ),
+    (SHOW, "", NOTHING_LEFT),
+];
+
+#[test]
+fn a_later_run_takes_the_lines_that_are_left(rt: HostRuntime) -> Result<(), Fail> {
+    run_each(&rt, rt.alloc(), SERVICE, empty_disk(rt.alloc())?, TAKEN)?;
+    Ok(())
 }

@@ -13,10 +13,10 @@ fn entries_of(text: &str) -> usize {
         .count()
 }
 
-// Whether the text is what `show` prints behind so many entries.
-fn is_shown(text: &str, entries: usize) -> bool {
-    match SHOWN.get(entries) {
-        Some(shown) => text == *shown,
+// Whether the text is what `show` prints behind so many entries, or behind more.
+fn is_shown_behind(text: &str, entries: usize) -> bool {
+    match SHOWN.get(entries..) {
+        Some(shown) => shown.contains(&text),
         None => false,
     }
 }
@@ -30,7 +30,7 @@ fn disk_failing_at(alloc: Global, call: u64) -> Result<MemoryDisk, Fail> {
     Ok(failing_disk(alloc, &fails)?)
 }
 
-// The acknowledged entries are kept, or one more, which may have reached the disk before it was acknowledged.
+// The acknowledged entries are kept, or more, which may have reached the disk before they were acknowledged.
 fn expect_kept(rt: &impl Abort, alloc: Global, call: u64) -> Result<(), Fail> {
     let ran = run_over(alloc, PLAY, CALL, disk_failing_at(alloc, call)?)?;
     assert_eq!(rt; ran.code, 7, "at call {call}");
@@ -41,10 +41,7 @@ fn expect_kept(rt: &impl Abort, alloc: Global, call: u64) -> Result<(), Fail> {
     let entries = entries_of(text_of(&ran));
     let shown = show(alloc, &ran.disk)?;
     let text = text_of(&shown);
-    assert!(rt;
-        is_shown(text, entries) || is_shown(text, entries.saturating_add(1)),
-        "at call {call}: {text}"
-    );
+    assert!(rt; is_shown_behind(text, entries), "at call {call}: {text}");
     Ok(())
 }
 

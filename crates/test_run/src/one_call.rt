@@ -4,6 +4,15 @@ use slee_disk::{MemoryDisk, Side};
 use slee_value::NoMemory;
 use std::alloc::Global;
 
+/// A service of calls: it rings, and says when a call is over.
+pub const SERVICE: &str =
+    r#"{"events":[{"key":"invite","name":"Invite","vendor":"demo","version":"1.0","fields":{"addr":"text"}}],
+"blocks":[{"key":"call","name":"Call","vendor":"demo","version":"1.0","events":[
+{"event":"invite","initial":["activity"],"on":"emit \"call \" ++ event.addr;"},
+{"event":"activity-end","on":"emit \"over\";"}]}],
+"services":[{"key":"prepaid","name":"Prepaid","vendor":"demo","version":"1.0","root":"call","active":true}]}
+"#;
+
 /// Words that play all of the call.
 pub const PLAY: &[&str] = &["play", "1", "100"];
 
@@ -75,7 +84,7 @@ pending v2 activity-end a1
 status 0 ok
 ";
 
-/// What `show` prints behind each number of the call's entries. A delivery of the built-in service changes nothing that is shown.
+/// What `show` prints behind each number of the call's entries. A delivery of the service changes nothing that is shown.
 pub const SHOWN: [&str; 9] = [
     "clock 0\ninputs 0\nservice prepaid active\nstatus 0 ok\n",
     STARTED,

@@ -1,4 +1,6 @@
 //! One run of the program over objects in memory. Its functions are short, since each is proved with all that it drops.
+use crate::one_call::SERVICE;
+use initial_select::{SelectRule, Selector, Selectors, custom_name};
 use slee_disk::{MemoryDisk, MemorySink, MemorySource};
 use slee_run::run_one;
 use slee_value::{Blob, NoMemory};
@@ -41,19 +43,26 @@ pub fn source_of(alloc: Global, lines: &[u8], fails: &[u8]) -> Result<MemorySour
     Ok(MemorySource::new(lines, 7, Blob::from_slice(alloc, fails)?))
 }
 
-/// Runs words. There is no deployment.
-pub fn run(
-    alloc: Global,
-    words: &[&str],
-    signals: MemorySource,
-    out: MemorySink,
-    disk: MemoryDisk,
-) -> Ran {
-    let deploy = MemorySource::new(Blob::new(alloc), 1, Blob::new(alloc));
-    run_on(alloc, words, deploy, signals, out, disk)
+/// A deployment that comes in one piece.
+fn deployed(alloc: Global, deployment: &str) -> Result<MemorySource, NoMemory> {
+    let bytes = Blob::from_slice(alloc, deployment.as_bytes())?;
+    Ok(MemorySource::new(bytes, 1_048_577, Blob::new(alloc)))
 }
 
 /// Runs words on a deployment.
+pub fn run(
+    alloc: Global,
+    words: &[&str],
+    deployment: &str,
+    signals: MemorySource,
+    out: MemorySink,
+    disk: MemoryDisk,
+) -> Result<Ran, NoMemory> {
+    let deploy = deployed(alloc, deployment)?;
+    run_on(alloc, words, deploy, signals, out, disk)
+}
+
+/// Runs words on a deployment that comes from a source.
 pub fn run_on(
     alloc: Global,
     words: &[&str],
@@ -61,11 +70,50 @@ pub fn run_on(
     signals: MemorySource,
     out: MemorySink,
     disk: MemoryDisk,
+) -> Result<Ran, NoMemory> {
+    let whole = Box::new(alloc, move |text: &[u8]| {
+        custom_name(alloc, SelectRule::Whole, text)
+    })?;
+    let digits3 = Box::new(alloc, move |text: &[u8]| {
+        custom_name(alloc, SelectRule::Digits3, text)
+    })?;
+    let scheme = Box::new(alloc, move |text: &[u8]| {
+        custom_name(alloc, SelectRule::Scheme, text)
+    })?;
+    let screened = Box::new(alloc, move |text: &[u8]| {
+        custom_name(alloc, SelectRule::Screened, text)
+    })?;
+    let selectors = Selectors::new(
+        Selector::new(SelectRule::Whole, whole),
+        Selector::new(SelectRule::Digits3, digits3),
+        Selector::new(SelectRule::Scheme, scheme),
+        Selector::new(SelectRule::Screened, screened),
+    );
+    Ok(run_selecting(alloc, words, deploy, signals, out, disk, &selectors))
+}
+
+/// Runs words on a deployment that comes from a source, with these selectors.
+fn run_selecting(
+    alloc: Global,
+    words: &[&str],
+    deploy: MemorySource,
+    signals: MemorySource,
+    out: MemorySink,
+    disk: MemoryDisk,
+    selectors: &Selectors,
 ) -> Ran {
     let mut deploy = deploy;
     let mut signals = signals;
     let mut out = out;
-    let (status, disk) = run_one(alloc, words, &mut deploy, &mut signals, &mut out, disk);
+    let (status, disk) = run_one(
+        alloc,
+        words,
+        &mut deploy,
+        &mut signals,
+        &mut out,
+        disk,
+        selectors,
+    );
     Ran {
         code: status.code(),
         out,
@@ -86,7 +134,7 @@ pub const SOUND: Failing<'static> = Failing {
     writes: &[],
 };
 
-/// Runs words on lines, with these reads and writes failing.
+/// Runs words on lines of the service, with these reads and writes failing.
 pub fn run_failing(
     alloc: Global,
     words: &[&str],
@@ -96,10 +144,10 @@ pub fn run_failing(
 ) -> Result<Ran, NoMemory> {
     let signals = source_of(alloc, lines, failing.reads)?;
     let out = MemorySink::new(alloc, Blob::from_slice(alloc, failing.writes)?);
-    Ok(run(alloc, words, signals, out, disk))
+    run(alloc, words, SERVICE, signals, out, disk)
 }
 
-/// Runs words over an empty disk, with these reads and writes failing.
+/// Runs words on lines of the service over an empty disk, with these reads and writes failing.
 pub fn run_alone(
     alloc: Global,
     words: &[&str],
@@ -110,14 +158,27 @@ pub fn run_alone(
     run_failing(alloc, words, lines, failing, disk)
 }
 
-/// Runs words on lines over a disk, where nothing fails but what the disk fails.
+/// Runs words on lines of the service over a disk, where nothing fails but what the disk fails.
 pub fn run_over(
     alloc: Global,
     words: &[&str],
     lines: &str,
     disk: MemoryDisk,
 ) -> Result<Ran, NoMemory> {
-    run_failing(alloc, words, lines.as_bytes(), SOUND, disk)
+    run_deployed(alloc, words, SERVICE, lines, disk)
+}
+
+/// The same on lines of another deployment.
+pub fn run_deployed(
+    alloc: Global,
+    words: &[&str],
+    deployment: &str,
+    lines: &str,
+    disk: MemoryDisk,
+) -> Result<Ran, NoMemory> {
+    let signals = source_of(alloc, lines.as_bytes(), &[])?;
+    let out = MemorySink::new(alloc, Blob::new(alloc));
+    run(alloc, words, deployment, signals, out, disk)
 }
 
 /// What has to come of a run.

@@ -1,6 +1,6 @@
 use Rattle.std.proofs.Common.{◌≢◌, sym, subst}
 use Rattle.slee_run.specs.Checking.{IsBarred, IsCheckedAt}
-use Rattle.slee_run.specs.Answers.{IsEarly}
+use Rattle.slee_run.specs.Opening.{IsEarly}
 use Rattle.slee_run.specs.declared.status.Given.TheVariants as givens
 use Rattle.slee_run.specs.declared.status.Status.{Status}
 use Rattle.slee_run.specs.declared.status.Status.TheVariants as statuses

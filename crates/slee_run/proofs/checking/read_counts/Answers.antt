@@ -1,9 +1,9 @@
 use Rattle.std.proofs.Common.{◌∙◌, sym, ap, subst, Err, IfSome}
 use Rattle.slee_run.specs.Checking.{IsBarred, IsCheckedAt}
-use Rattle.slee_run.specs.Answers.{IsEarly}
+use Rattle.slee_run.specs.Opening.{IsEarly}
 use Rattle.slee_run.specs.declared.status.Given.TheVariants as givens
 use Rattle.slee_run.specs.declared.status.Status.{Status}
-use Rattle.slee_run.proofs.EndLemmas.{reading_early, reading_failed, reading_large}
+use Rattle.slee_run.proofs.ReadLemmas.{reading_early, reading_failed, reading_large}
 use Rattle.slee_run.proofs.CheckLemmas.{reading_barred, reading_checked}
 use Rattle.slee_run.proofs.checking.read_counts.Goals as goal
 

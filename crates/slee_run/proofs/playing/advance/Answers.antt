@@ -1,5 +1,4 @@
-use Rattle.std.proofs.Common.{◌≡◌, sym, subst, Option}
-use Rattle.built_in_container.specs.Container.{View}
+use Rattle.std.proofs.Common.{sym, subst, Option}
 use Rattle.slee_run.specs.Playing.{Advances}
 use Rattle.slee_run.specs.declared.playing.End.{End}
 use Rattle.slee_run.proofs.AdvanceLemmas.{done_is, spent_is, line_advances, step_advances}
@@ -14,7 +13,7 @@ returns-in-Spent-clause-advances g c = spent_is c.args.container.now c.requires.
 pub returns-in-Line-clause-advances : goal.returns-in-Line-clause-advances
 returns-in-Line-clause-advances g c =
     subst (λ (e : Option End). Advances c.args.container.now e c.take_input.new.self) (sym c.end_of.ensures)
-    (line_advances c.args.container.now c.requires.live c.requires.claims c.take_input.result c.take_input.new.self c.in-Line.ensures.work
+    (line_advances c.args.container.now c.requires.live c.requires.claims c.take_input.result c.take_input.new.self _ _ c.in-Line.ensures.work
     c.in-Line.ensures.offers.1 c.take_input.ensures.claims c.take_input.ensures.step)
 
 pub returns-in-Step-clause-advances : goal.returns-in-Step-clause-advances

@@ -1,4 +1,4 @@
-use Rattle.std.proofs.Common.{ℕ, ◌-◌, length}
+use Rattle.std.proofs.Common.{◌-◌, length}
 use Rattle.slee_run.proofs.PlayLemmas.{IsUnderWay}
 use Rattle.slee_run.proofs.playing.play.Given as goal
 
