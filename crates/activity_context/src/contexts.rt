@@ -16,13 +16,24 @@ use std::alloc::Global;
 use std::marker::Model;
 
 /// Activities with their attributes, attachments and names; each activity has a number that is drawn once.
-#[derive(Drop)]
 pub struct Contexts {
     activities: Activities,
     attributes: Leaves<Attribute>,
     links: Leaves<Link>,
     names: Names,
     next: u64,
+}
+
+impl Drop for Contexts {
+    fn drop(self) {
+        let Self {
+            activities: _,
+            attributes: _,
+            links: _,
+            names: _,
+            next: _,
+        } = self;
+    }
 }
 
 impl Model for Contexts {

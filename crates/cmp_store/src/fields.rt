@@ -11,9 +11,14 @@ use std::alloc::Global;
 use std::marker::Model;
 
 /// The fields of all entities.
-#[derive(Drop)]
 pub struct Fields {
     rows: Leaves<Field>,
+}
+
+impl Drop for Fields {
+    fn drop(self) {
+        let Self { rows: _ } = self;
+    }
 }
 
 impl Model for Fields {

@@ -23,7 +23,6 @@ use std::cmp::Ordering;
 use std::marker::Model;
 
 /// All entities, and the number of the next one. The other two lists have room for all entities: one is of the tree that was asked for last, and the other one of those entities that are still to come into it.
-#[derive(Drop)]
 pub struct Tree {
     rows: Leaves<Entity>,
     branches: Leaves<Branch>,
@@ -31,6 +30,19 @@ pub struct Tree {
     members: Vec<EntityId>,
     waiting: Vec<EntityId>,
     next: u64,
+}
+
+impl Drop for Tree {
+    fn drop(self) {
+        let Self {
+            rows: _,
+            branches: _,
+            depths: _,
+            members: _,
+            waiting: _,
+            next: _,
+        } = self;
+    }
 }
 
 impl Model for Tree {

@@ -10,9 +10,14 @@ use std::alloc::Global;
 use std::marker::Model;
 
 /// The masks of all attachments.
-#[derive(Drop)]
 pub struct Masks {
     rows: Leaves<Mask>,
+}
+
+impl Drop for Masks {
+    fn drop(self) {
+        let Self { rows: _ } = self;
+    }
 }
 
 impl Model for Masks {

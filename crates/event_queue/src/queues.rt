@@ -11,12 +11,22 @@ use std::alloc::Global;
 use std::marker::Model;
 
 /// The events that wait on all activities, with marks and suspensions.
-#[derive(Drop)]
 pub struct Queues {
     events: Leaves<Queued>,
     services_done: Leaves<ServiceMark>,
     delivered: Leaves<EntityMark>,
     suspensions: Leaves<Suspension>,
+}
+
+impl Drop for Queues {
+    fn drop(self) {
+        let Self {
+            events: _,
+            services_done: _,
+            delivered: _,
+            suspensions: _,
+        } = self;
+    }
 }
 
 impl Model for Queues {

@@ -21,13 +21,24 @@ use std::marker::Model;
 
 /// The rows of all profile tables under the numbers of their names, and these numbers under those of their unique values. There
 /// are places for so many rows among the values.
-#[derive(Drop)]
 pub struct Profiles {
     tables: Vec<TableSpec>,
     rows: Leaves<NumberedRow>,
     by_value: Leaves<Tally>,
     most: u64,
     places: u64,
+}
+
+impl Drop for Profiles {
+    fn drop(self) {
+        let Self {
+            tables: _,
+            rows: _,
+            by_value: _,
+            most: _,
+            places: _,
+        } = self;
+    }
 }
 
 impl Model for Profiles {

@@ -24,10 +24,18 @@ use std::marker::Model;
 use trace_history::Choice;
 
 /// The state of the router, and its roots by service and by convergence name. Nothing in it is left to close, and its services have numbers of 32 bits.
-#[derive(Drop)]
 pub struct State {
     pub(crate) stores: Stores,
     pub(crate) roots: Roots,
+}
+
+impl Drop for State {
+    fn drop(self) {
+        let Self {
+            stores: _,
+            roots: _,
+        } = self;
+    }
 }
 
 impl Model for State {

@@ -30,12 +30,22 @@ use std::alloc::Global;
 use std::marker::Model;
 
 /// All attachments, by activity, then by rank, which rises as the paths of the entities do, and each entity's activities. The spare list is empty but while the attachments to one activity have ranks anew, and the other one but while paths change.
-#[derive(Drop)]
 pub struct Order {
     rows: Leaves<Placed>,
     entries: Leaves<Entry>,
     spare: Vec<Link>,
     taken: Vec<Link>,
+}
+
+impl Drop for Order {
+    fn drop(self) {
+        let Self {
+            rows: _,
+            entries: _,
+            spare: _,
+            taken: _,
+        } = self;
+    }
 }
 
 impl Model for Order {

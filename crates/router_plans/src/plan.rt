@@ -6,12 +6,22 @@ use std::marker::Model;
 use trace_history::{Choice, Lines};
 
 /// The plan of a step: its choice, what it changes, what it tells, and what the journal keeps of it.
-#[derive(Drop)]
 pub struct Plan {
     choice: Choice,
     changes: Vec<Change>,
     lines: Lines,
     payload: Vec<u8>,
+}
+
+impl Drop for Plan {
+    fn drop(self) {
+        let Self {
+            choice: _,
+            changes: _,
+            lines: _,
+            payload: _,
+        } = self;
+    }
 }
 
 impl Model for Plan {
@@ -65,6 +75,12 @@ impl Plan {
         ensures changes { result.1.items ≡ self.changes }
         ensures lines { result.2 ≡ self.lines }
     {
-        (self.choice, self.changes, self.lines)
+        let Self {
+            choice,
+            changes,
+            lines,
+            payload: _,
+        } = self;
+        (choice, changes, lines)
     }
 }

@@ -21,10 +21,18 @@ use std::alloc::Global;
 use std::marker::Model;
 
 /// The roots of the state, found without a walk over all entities.
-#[derive(Drop)]
 pub struct Roots {
     by_service: Leaves<Entry>,
     by_name: Leaves<Entry>,
+}
+
+impl Drop for Roots {
+    fn drop(self) {
+        let Self {
+            by_service: _,
+            by_name: _,
+        } = self;
+    }
 }
 
 impl Model for Roots {

@@ -41,7 +41,6 @@ use std::snapshot::Snapshot;
 use timer_facility::Timers;
 
 /// The state in its stores. What was deployed is held for contracts alone, and takes no byte.
-#[derive(Drop)]
 pub struct Stores {
     deployment: Snapshot<Deployment>,
     fields: Fields,
@@ -58,6 +57,28 @@ pub struct Stores {
     clock: u64,
     inputs: u64,
     next_event: u64,
+}
+
+impl Drop for Stores {
+    fn drop(self) {
+        let Self {
+            deployment: _,
+            fields: _,
+            tree: _,
+            contexts: _,
+            masks: _,
+            queues: _,
+            timers: _,
+            profiles: _,
+            order: _,
+            ready: _,
+            root_names: _,
+            services: _,
+            clock: _,
+            inputs: _,
+            next_event: _,
+        } = self;
+    }
 }
 
 impl Model for Stores {

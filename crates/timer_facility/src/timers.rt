@@ -15,10 +15,15 @@ use std::alloc::Global;
 use std::marker::Model;
 
 /// Timers, each with a number that is drawn once.
-#[derive(Drop)]
 pub struct Timers {
     rows: TimerRows,
     next: u64,
+}
+
+impl Drop for Timers {
+    fn drop(self) {
+        let Self { rows: _, next: _ } = self;
+    }
 }
 
 impl Model for Timers {
