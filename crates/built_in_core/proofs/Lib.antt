@@ -1,9 +1,0 @@
-pub mod FirstLemmas
-pub mod StateLemmas
-pub mod BuiltInLemmas
-pub mod TakingLemmas
-pub mod FrontLemmas
-pub mod DraftingLemmas
-pub mod ClosingLemmas
-pub mod KeepingLemmas
-pub mod MeasureLemmas

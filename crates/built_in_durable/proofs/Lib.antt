@@ -1,3 +1,0 @@
-pub mod Recovers
-pub mod Steps
-pub mod Opens
