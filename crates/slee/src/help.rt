@@ -9,32 +9,43 @@ usage: slee WORDS
   check      reads the deployment, deploy.json, and prints how many events,
              profiles, tables, blocks and services it has, and a status line
   play 1 S   plays the signal lines of standard input with one worker, in at most
-             S entries (1 to 1000000), and prints the trace and a status line
+             S entries (1 to 1000000), and prints the trace, the usage totals and
+             a status line
+  resume 1 S as play, but behind as many lines as the journal has taken
   show       prints the state that the journal has, and a status line
+  gen SEED COUNT
+             prints COUNT (0 to 100000) generated lines; SEED is 0 to 4294967295
+  trial SEED COUNT
+             plays generated lines, and prints a summary and a status line
   --help     prints this text
   --version  prints the version
 
-These forms are known and not built yet: compact, play W S and resume W S with W
-workers (1 to 64), gen SEED COUNT and trial SEED COUNT with a seed from 0 to
-4294967295 and a count from 0 to 100000.
+These forms are known and not built yet: compact, and play W S and resume W S with
+W workers (2 to 64).
 
 Signal lines, each ended by a newline, at most 4096 bytes long, 16777216 in all:
-  start NAME                    an external activity of this name starts
-  fire NAME invite addr=VALUE   the event invite is fired on it
-  end NAME                      it ends
+  start NAME                       an external activity of this name starts
+  fire NAME EVENT FIELD=VALUE ..   the event is fired on it
+  fire NAME EVENT @SERVICE ..      the same, for one service alone
+  end NAME                         it ends
+  clock MOMENT                     this is the time, in milliseconds
+  activate SERVICE                 a service selects events
+  deactivate SERVICE               it does no longer
+  profile-add TABLE ROW ATTRIBUTE=VALUE ..
+  profile-update TABLE ROW ATTRIBUTE=VALUE ..
+  profile-remove TABLE ROW
 A name is a lower-case letter and up to 63 lower-case letters, digits and
 underscores. In a value a space, a percent sign and a control byte are written
 as a percent sign and two upper-case hexadecimal digits, and no other byte is.
 
-A deployment is a JSON text of at most 1048576 bytes. It is checked, and not
-played yet: what is played is built in, the service prepaid, whose root block
-call says the address of each invite, and that the call is over.
+A deployment is a JSON text of at most 1048576 bytes: event types, profiles,
+tables, blocks with their scripts, and services. All commands read it first.
 
 The journal is two files of the folder where it runs, journal.a and journal.b.
 They are made where they are missing. Each entry is kept there, and synced,
 before it counts; a later run goes on from the state that they have. No other
-file is written, and deploy.json alone is read, by check, which leaves the journal
-alone. So do statuses 2, 3, 4, 5, 13 and 14; 8 and 9 leave it as it is.
+file is written, and deploy.json alone is read besides. check and gen leave the
+journal alone. So do statuses 2, 3, 4, 5, 13 and 14; 8 and 9 leave it as it is.
 
 Statuses, printed last but by --help and --version, and the exit status:
   0 ok             all lines were taken, and no choice is left; or the deployment
@@ -69,7 +80,7 @@ Statuses, printed last but by --help and --version, and the exit status:
   13 too-large WHAT
                    deploy.json has more than 1048576 bytes (deploy), or standard
                    input gave more than 16777216 (signals)
-  14 not-built     the words ask what isn't built yet, or a line does
+  14 not-built     the words ask what isn't built yet
 
 example:
   printf 'start c1\\nfire c1 invite addr=tel:5551\\nend c1\\n' | slee play 1 100

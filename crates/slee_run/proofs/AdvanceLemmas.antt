@@ -8,12 +8,13 @@ use Rattle.slee_value.specs.declared.ids.ActivityId.{ActivityId}
 use Rattle.trace_history.specs.Histories.{input_of}
 use Rattle.trace_history.specs.declared.choice.Choice.{Choice}
 use Rattle.trace_history.specs.declared.choice.Choice.TheVariants as choices
-use Rattle.router_state.specs.Next.{least}
+use Rattle.router_state.specs.Next.{least, next}
 use Rattle.router_state.specs.State.{State, is_used_up}
 use Rattle.router_state.specs.declared.kindred.Kindred.{Kindred}
 use Rattle.router_state.specs.declared.kindred.Kindred.TheVariants as kindreds
 use Rattle.router_steps.specs.Histories.{solo_choice}
-use Rattle.router_steps.specs.Steps.{choice_on}
+use Rattle.router_steps.specs.Steps.{choice_on, is_next}
+use Rattle.router_durable.specs.declared.fault.Stop.{Stop}
 use Rattle.router_durable.specs.declared.fault.StepFault.{StepFault}
 use Rattle.router_durable.specs.declared.fault.StepFault.TheVariants as faults
 use Rattle.slee_container.specs.declared.fault.Work.{Work}
@@ -109,6 +110,13 @@ pub moved : {D : Type 0} (v : View D) (c : Choice) (r : Result ℕ StepFault) (w
 moved v c (Ok number) w before after none m = (record { history = m.step.step.0; taken = m.taken; room = m.step.step.3 }, m.step.step.2, none)
 moved v c (Err f) w before after none m = fault_moved v c f w before after m
 
+-- the choice that is next on an activity may be made
+pub initial_next : (s : State) (a : ActivityId) → next s a.0 ≡ Some kindreds.Initial → IsTrue (is_next s (choices.Initial a))
+initial_next s a is = rw is refl
+
+pub finish_next : (s : State) (a : ActivityId) → next s a.0 ≡ Some kindreds.Finish → IsTrue (is_next s (choices.Finish a))
+finish_next s a is = rw is refl
+
 module _ {D : Type 0} (v : View D) (live : v.stop ≡ None) (free : v.claims ≡ []) where
   abbrev here : State
   here = state_of v
@@ -174,6 +182,25 @@ module _ {D : Type 0} (v : View D) (live : v.stop ≡ None) (free : v.claims ≡
         )
         | inr step ↦ let never : works.Done ≡ works.Step (record { 0 = step.x.0 }) step.x.1 = step.is in absurd (cc)
       ]
+
+  never_line : (w : Work) → (w ≡ works.Done → ⊥) → (w ≡ works.Line → ⊥) → w ≡ line_or v → ⊥
+  never_line w done line is = elim (cases_Bool (nat_le (length v.setup.lines) v.taken)) [
+    | inl all ↦ done (is ∙ rw (all, free) refl)
+    | inr some ↦ line (is ∙ rw some refl)
+  ]
+
+  never : (w : Work) → (w ≡ works.Spent → ⊥) → (w ≡ works.Done → ⊥) → (w ≡ works.Line → ⊥) → ((a : ℕ) (k : Kindred) → w ≡ works.Step (record { 0 = a }) k → ⊥) → w ≡ next_work v → ⊥
+  never w spent done line step is = elim (left_is w (is ∙ left_over (not_over w is spent))) [
+    | inl lines ↦ never_line w done line lines.1
+    | inr other ↦ step other.x.0 other.x.1 other.is
+  ]
+
+  -- it isn't stopped, and waits for no claim
+  pub not_stopped : (x : Stop) → works.Stopped x ≡ next_work v → ⊥
+  not_stopped x is = never (works.Stopped x) (λ e. cc) (λ e. cc) (λ e. cc) (λ a k e. cc) is
+
+  pub not_idle : (n : ℕ) → works.Idle n ≡ next_work v → ⊥
+  not_idle n is = never (works.Idle n) (λ e. cc) (λ e. cc) (λ e. cc) (λ a k e. cc) is
 
   -- a line that is left is due where no choice is
   line_waits : least here [] ≡ None → has_line v ≡ true → is_used_up here ≡ false → is_some (solo_choice here (left v)) ≡ true

@@ -6,6 +6,7 @@ use Rattle.deploy_model.specs.Resolving.{deployed_of}
 use Rattle.signal_gen.specs.Generator.{generated}
 use Rattle.signal_script.specs.Signals.{signals_of}
 use Rattle.signal_script.specs.declared.signal.Signal.{Signal}
+use Rattle.slee_disk.specs.Causes.{Rose}
 use Rattle.slee_disk.specs.Disk.{DiskState}
 use Rattle.slee_disk.specs.Writes.{Writes}
 use Rattle.router_state.specs.Initial.{initial}
@@ -82,7 +83,7 @@ refused_unended bytes (faults.OtherDeployment kept_len place) short small = tt
 refused_unended bytes (faults.Full size adding) short small = absurd (omega (arith, short, small))
 refused_unended bytes faults.NoMemory short small = tt
 
-refused_late : (fault : OpenFault) → IsBeforeOpening (status_of fault) → ⊥
+pub refused_late : (fault : OpenFault) → IsBeforeOpening (status_of fault) → ⊥
 refused_late faults.DiskFault early = early
 refused_late (faults.BadJournal side at kind) early = early
 refused_late (faults.OtherDeployment kept_len place) early = early
@@ -110,7 +111,7 @@ refused_words (faults.OtherDeployment kept_len place) is = cc
 refused_words (faults.Full size adding) is = cc
 refused_words faults.NoMemory is = cc
 
-refused_unwritten : (fault : OpenFault) → status_of fault ≢ statuses.WriteFault
+pub refused_unwritten : (fault : OpenFault) → status_of fault ≢ statuses.WriteFault
 refused_unwritten faults.DiskFault is = cc
 refused_unwritten (faults.BadJournal side at kind) is = cc
 refused_unwritten (faults.OtherDeployment kept_len place) is = cc
@@ -661,3 +662,48 @@ lines_generated seed count deploy before after status i from lines out = record 
 -- words that were understood aren't bad
 pub early_words : (status : Status) → IsCheckedAt status → status ≢ statuses.BadWords
 early_words status comes is = subst IsCheckedAt is comes
+
+-- ---- what follows of a run's answer
+
+-- a run that tells of the disk's fault had one
+pub played_failed : (x : Document) (mode : Mode) (steps : ℕ) (report : Report) (lines : List Signal) (before after : Option (List ℕ)) (old new : DiskState) (status : Status)
+    → IsPlayedOn x mode steps report lines before after old new status → status ≡ statuses.DiskFault → Rose old.faults new.faults
+played_failed x mode steps report lines before after old new status p is = p.played.journal.failed (sym (p.played.same found) ∙ stood)
+  where
+    stood : p.run.stood ≡ statuses.DiskFault
+    stood = (p.played.output.whole (λ e. cc)).0 ∙ is
+
+    found : p.run.stood ≢ statuses.NoMemory
+    found e = let never : statuses.DiskFault ≡ statuses.NoMemory = sym stood ∙ e in cc
+
+pub shown_failed : (x : Document) (before after : Option (List ℕ)) (old new : DiskState) (status : Status) → IsShownOf x before after old new status → status ≡ statuses.DiskFault → Rose old.faults new.faults
+shown_failed x before after old new status s is = s.journal.failed ((s.output.whole (λ e. cc)).0 ∙ is)
+
+-- a status that isn't told before the journal is opened isn't told so once it was written
+late_told : (stood status : Status) → (status ≢ statuses.WriteFault → status ≢ statuses.NoMemory → status ≡ stood) → (IsBeforeOpening stood → ⊥) → IsBeforeOpening status → ⊥
+late_told stood statuses.Ok same late early = early
+late_told stood statuses.BadWords same late early = late (subst IsBeforeOpening (same (λ e. cc) (λ e. cc)) early)
+late_told stood statuses.ReadFault same late early = late (subst IsBeforeOpening (same (λ e. cc) (λ e. cc)) early)
+late_told stood statuses.WriteFault same late early = early
+late_told stood statuses.DiskFault same late early = early
+late_told stood (statuses.BadJournal side at kind) same late early = early
+late_told stood (statuses.OtherDeployment kept_len place) same late early = early
+late_told stood (statuses.Full size adding) same late early = early
+late_told stood (statuses.StepsSpent entries) same late early = early
+late_told stood statuses.NoMemory same late early = early
+late_told stood (statuses.BadDeploy fault) same late early = late (subst IsBeforeOpening (same (λ e. cc) (λ e. cc)) early)
+late_told stood (statuses.BadSignals line kind) same late early = late (subst IsBeforeOpening (same (λ e. cc) (λ e. cc)) early)
+late_told stood (statuses.TooLarge what) same late early = late (subst IsBeforeOpening (same (λ e. cc) (λ e. cc)) early)
+late_told stood statuses.NotBuilt same late early = late (subst IsBeforeOpening (same (λ e. cc) (λ e. cc)) early)
+
+pub late_end : (entries : ℕ) (e : End) (stood status : Status) → stood ≡ status_after entries e → (status ≢ statuses.WriteFault → status ≢ statuses.NoMemory → status ≡ stood) → IsBeforeOpening status → ⊥
+late_end entries e stood status is same early = late_told stood status same (λ before. end_opened entries e (subst IsBeforeOpening is before)) early
+
+pub late_written : (before after : Option (List ℕ)) (text : List ℕ) (stood status : Status) → IsWritten before after text stood status → (IsBeforeOpening stood → ⊥) → IsBeforeOpening status → ⊥
+late_written before after text stood status w late early = late_told stood status (λ up found. sym (w.whole up).0) late early
+
+pub late_fault : (before after : Option (List ℕ)) (text : List ℕ) (fault : OpenFault) (stood status : Status) → stood ≡ status_of fault → IsWritten before after text stood status → IsBeforeOpening status → ⊥
+late_fault before after text fault stood status is w early = late_written before after text stood status w (λ started. refused_late fault (subst IsBeforeOpening is started)) early
+
+pub late_shown : (x : Document) (before after : Option (List ℕ)) (old new : DiskState) (status : Status) → IsShownOf x before after old new status → IsBeforeOpening status → ⊥
+late_shown x before after old new status s early = late_written before after (shown_text s.base s.stood) s.stood status s.output s.late early

@@ -20,7 +20,7 @@ use Rattle.router_state.specs.declared.kindred.Kindred.TheVariants as kindreds
 use Rattle.router_core.specs.Delivering.{IsTicket}
 use Rattle.trace_history.specs.declared.choice.Choice.{Choice}
 use Rattle.trace_history.specs.declared.choice.Choice.TheVariants as choices
-use Rattle.tx_attempt.specs.Attempts.{HasAsked, IsNew, asked_for}
+use Rattle.tx_attempt.specs.Attempts.{HasAsked, IsDone, IsNew, IsSameTask, asked_for}
 use Rattle.tx_attempt.specs.declared.attempt.Attempt.{Attempt}
 use Rattle.tx_attempt.specs.declared.ticket.Ticket.{Ticket}
 use Rattle.tx_attempt.proofs.SameLemmas.{seen_itself}
@@ -29,6 +29,7 @@ use Rattle.router_durable.specs.declared.fault.StepFault.TheVariants as faults
 use Rattle.slee_container.specs.Claims.{IsAttemptOf, IsClaim, without_claim}
 use Rattle.slee_container.specs.Container.{View, state_of}
 use Rattle.slee_container.specs.Steps.{Commits, IsTicketFor, Prepares, is_free, is_spent}
+use Rattle.slee_container.specs.declared.fault.CommitFault.{CommitFault}
 use Rattle.slee_container.specs.declared.fault.CommitFault.TheVariants as refusals
 use Rattle.router_durable.specs.Facts.{HasRoom, size_added}
 use Rattle.router_steps.specs.Steps.{step_entry}
@@ -39,7 +40,7 @@ use Rattle.router_durable.specs.Facts.{initial_of}
 use Rattle.deploy_model.specs.declared.parts.Parts.{Parts}
 use Rattle.script_types.specs.declared.codes.Codes.{Codes}
 use Rattle.slee_run.proofs.AdvanceLemmas.{fault_moved, moved}
-use Rattle.slee_run.specs.Playing.{IsStepOn, IsStill, Moves}
+use Rattle.slee_run.specs.Playing.{IsOfStep, IsStepOn, IsStill, IsTriedWhole, Moves, step_fault_of}
 
 -- what an attempt knows, where it is all seen so
 pub record IsTried (program : Program) (s : State) (t : Ticket) (a : Attempt) : Type 0 where
@@ -94,6 +95,22 @@ pub unconflicting : (seen_at : Key → Seen) (known : List (Key × Seen)) → Ho
 unconflicting seen_at [] holds = refl
 unconflicting seen_at (pair ∷ known) holds = none_by seen_at pair known holds.0 (unconflicting seen_at known holds.1)
 
+-- it came to its end
+pub whole_tried : (program other : Program) (s : State) (t : Ticket) (a b : Attempt) → program ≡ other → IsTried program s t a → IsSameTask a b → IsDone program b → IsTriedWhole other s t b
+whole_tried program other s t a b is tried same done = record {
+  of = record {
+    block = ap (λ d. d.block) same.delivery ∙ tried.of.block;
+    entity = ap (λ d. d.entity) same.delivery ∙ tried.of.entity;
+    activity = ap (λ d. d.arguments.activity) same.delivery ∙ tried.of.activity;
+    event = ap (λ d. d.event) same.delivery ∙ tried.of.event;
+    fields = ap (λ d. d.arguments.fields) same.delivery ∙ tried.of.fields;
+    learned = tried.of.learned;
+    known = same.known ∙ tried.of.known;
+  };
+  done = subst (λ (p : Program). IsDone p b) is done;
+  seen = ap (conflict (look s)) same.known ∙ unconflicting (look s) a.known tried.seen;
+}
+
 -- ---- a claim more or less changes nothing else
 
 step_before : {D : Type 0} (v u w : View D) (c : Choice) (claims : List Ticket) → u ≡ record v { claims = claims } → IsStepOn u c w → IsStepOn v c w
@@ -132,35 +149,44 @@ module _ {D : Type 0} (v w : View D) (t : Ticket) (a : Attempt) (before after : 
   committed n only c =
       moved v (choices.Deliver t.activity) (Ok n) w before after (c.2.claims ∙ ap (λ (cs : List Ticket). without_claim cs t.activity.0) only ∙ let_go t) c.2.made
 
-  pub committed_down : Commits before after v t a (Err refusals.DiskFault) w → Moves v (choices.Deliver t.activity) (Err faults.DiskFault) w
+  committed_down : Commits before after v t a (Err refusals.DiskFault) w → Moves v (choices.Deliver t.activity) (Err faults.DiskFault) w
   committed_down c = fault_moved v (choices.Deliver t.activity) faults.DiskFault w before after c.2.made
 
-  pub committed_full : (size adding : ℕ) → Commits before after v t a (Err (refusals.Full size adding)) w → Moves v (choices.Deliver t.activity) (Err (faults.Full size adding)) w
+  committed_full : (size adding : ℕ) → Commits before after v t a (Err (refusals.Full size adding)) w → Moves v (choices.Deliver t.activity) (Err (faults.Full size adding)) w
   committed_full size adding c = fault_moved v (choices.Deliver t.activity) (faults.Full size adding) w before after c.1.made
 
-  pub committed_spent : Commits before after v t a (Err refusals.Spent) w → Moves v (choices.Deliver t.activity) (Err faults.Spent) w
+  committed_spent : Commits before after v t a (Err refusals.Spent) w → Moves v (choices.Deliver t.activity) (Err faults.Spent) w
   committed_spent c = (record { history = ap (λ u. u.history) c.0; taken = ap (λ u. u.taken) c.0 }, ap (λ u. u.stop) c.0, c.1)
 
-  pub committed_memory : Commits before after v t a (Err refusals.NoMemory) w → Moves v (choices.Deliver t.activity) (Err faults.NoMemory) w
+  committed_memory : Commits before after v t a (Err refusals.NoMemory) w → Moves v (choices.Deliver t.activity) (Err faults.NoMemory) w
   committed_memory c = (record { history = ap (λ u. u.history) c.0; taken = ap (λ u. u.taken) c.0 }, ap (λ u. u.stop) c.0)
 
-  pub no_conflict : (key : Key) (saw found : Seen) → conflict (look (state_of v)) a.known ≡ None → Commits before after v t a (Err (refusals.Conflict key saw found)) w → ⊥
-  no_conflict key saw found none c = let never : ◌≡◌ {A = Option (Key × Seen × Seen)} None (Some (key, saw, found)) = sym none ∙ c.1 in cc
+  -- a commit was refused for its step, where nothing conflicts
+  pub of_step : (f : CommitFault) → conflict (look (state_of v)) a.known ≡ None → Commits before after v t a (Err f) w → IsOfStep f
+  of_step (refusals.Conflict key saw found) none c = let never : ◌≡◌ {A = Option (Key × Seen × Seen)} None (Some (key, saw, found)) = sym none ∙ c.1 in cc
+  of_step refusals.DiskFault none c = tt
+  of_step (refusals.Full size adding) none c = tt
+  of_step refusals.Spent none c = tt
+  of_step refusals.NoMemory none c = tt
 
-  pub setup_committed : (n : ℕ) → Commits before after v t a (Ok n) w → w.setup ≡ v.setup
-  setup_committed n c = c.2.made.setup
+  pub refused_moves : (f : CommitFault) → IsOfStep f → Commits before after v t a (Err f) w → Moves v (choices.Deliver t.activity) (Err (step_fault_of f)) w
+  refused_moves (refusals.Conflict key saw found) of c = absurd of
+  refused_moves refusals.DiskFault of c = committed_down c
+  refused_moves (refusals.Full size adding) of c = committed_full size adding c
+  refused_moves refusals.Spent of c = committed_spent c
+  refused_moves refusals.NoMemory of c = committed_memory c
 
-  pub setup_down : Commits before after v t a (Err refusals.DiskFault) w → w.setup ≡ v.setup
-  setup_down c = c.2.made.setup
+  pub commit_setup : (r : Result ℕ CommitFault) → Commits before after v t a r w → w.setup ≡ v.setup
+  commit_setup (Ok n) c = c.2.made.setup
+  commit_setup (Err (refusals.Conflict key saw found)) c = ap (λ u. u.setup) c.0
+  commit_setup (Err refusals.DiskFault) c = c.2.made.setup
+  commit_setup (Err (refusals.Full size adding)) c = c.1.made.setup
+  commit_setup (Err refusals.Spent) c = ap (λ u. u.setup) c.0
+  commit_setup (Err refusals.NoMemory) c = ap (λ u. u.setup) c.0
 
-  pub setup_full : (size adding : ℕ) → Commits before after v t a (Err (refusals.Full size adding)) w → w.setup ≡ v.setup
-  setup_full size adding c = c.1.made.setup
-
-  pub setup_spent : Commits before after v t a (Err refusals.Spent) w → w.setup ≡ v.setup
-  setup_spent c = ap (λ u. u.setup) c.0
-
-  pub setup_memory : Commits before after v t a (Err refusals.NoMemory) w → w.setup ≡ v.setup
-  setup_memory c = ap (λ u. u.setup) c.0
+-- nothing was done for want of memory
+pub memory_moves : {D : Type 0} (v : View D) (c : Choice) → Moves v c (Err faults.NoMemory) v
+memory_moves v c = (record { history = refl; taken = refl }, refl)
 
 -- ---- what preparing comes to, where nothing is claimed and a delivery is next
 

@@ -5,6 +5,7 @@ use Rattle.std.specs.List.{list_any}
 use Rattle.std.specs.Option.{option_map_or}
 use mathlib.Core.List.{IsPrefix}
 use Rattle.signal_script.specs.declared.signal.Signal.{Signal}
+use Rattle.slee_disk.specs.Causes.{Rose}
 use Rattle.slee_disk.specs.Writes.{Writes}
 use Rattle.trace_history.specs.Histories.{inputs_of, input_of}
 use Rattle.trace_history.specs.declared.choice.Choice.{Choice}
@@ -251,3 +252,13 @@ written contents faults old new text (Err e) stood status w fine bad = record {
   whole = λ up. absurd (up bad);
   front = λ is. w.err;
 }
+
+-- a status that says so had its cause
+pub write_failed : {K T E : Type 0} (contents : K → Option (List ℕ)) (faults : K → ℕ) (old new : K) (text : List ℕ) (r : Result T E) (stood status : Status)
+    → Writes contents faults old new text r → OnOk r (status ≡ stood) → stood ≢ statuses.WriteFault → status ≡ statuses.WriteFault → Rose (faults old) (faults new)
+write_failed contents faults old new text (Ok x) stood status w fine other is = absurd (other (sym fine ∙ is))
+write_failed contents faults old new text (Err e) stood status w fine other is = w.failed
+
+-- the status that stood is told, where writing didn't fail
+pub told_as : (before after : Option (List ℕ)) (text : List ℕ) (stood status : Status) → IsWritten before after text stood status → status ≢ statuses.WriteFault → stood ≡ status
+told_as before after text stood status w up = (w.whole up).0

@@ -57,7 +57,7 @@ at_start x old base image stands = record {
   records = stands.records ∙ sym (append-nil (records x.bytes old.seen));
 }
 
-settled_still : (x : Document) (base : State) (old new : DiskState) → found x old ≡ Ok base → IsTrue (is_clean old) → IsUntouched old new → IsSettled x base [] old new
+pub settled_still : (x : Document) (base : State) (old new : DiskState) → found x old ≡ Ok base → IsTrue (is_clean old) → IsUntouched old new → IsSettled x base [] old new
 settled_still x base old new is clean untouched = record {
   rest = clean_of new (tells old.told new.told untouched.told (clean_told old clean)) (λ side. untouched.settled side (clean_settled old clean side));
   records = ap (records x.bytes) untouched.seen ∙ sym (append-nil (records x.bytes old.seen));

@@ -1,4 +1,7 @@
 pub mod WordLemmas
+pub mod SumLemmas
+pub mod SpelledLemmas
+pub mod TotalLemmas
 pub mod PlayLemmas
 pub mod AdvanceLemmas
 pub mod DeliverLemmas
@@ -12,3 +15,4 @@ pub mod AnswerLemmas
 pub mod RunLemmas
 pub mod DeterminedLemmas
 pub mod TopLemmas
+pub mod TwiceLemmas

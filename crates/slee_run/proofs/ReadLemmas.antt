@@ -1,6 +1,8 @@
 -- What reading comes to: a deployment and lines, or the first refusal.
-use Rattle.std.proofs.Common.{◌≡◌, ◌≢◌, inl, inr, ℕ, ◌<◌, ◌≤◌, nat_le, false, List, length, refl, sym, ◌∙◌, ap, subst, Option, Some, None, Result, Ok, Err, IfOk, IfErr, IfSome, arith}
+use Rattle.std.proofs.Common.{◌≡◌, ◌≢◌, inl, inr, ℕ, ◌<◌, ◌≤◌, nat_le, false, List, length, refl, sym, ◌∙◌, ap, subst, Option, Some, None, Result, Ok, Err, IfOk, IfErr, IfSome, OnOk, arith}
 use Rattle.std.proofs.lemmas.Bool.{cases_Bool, le-leb, leb-true}
+use Rattle.deploy_model.specs.Resolving.{deployed_of}
+use Rattle.signal_gen.specs.Generator.{generated}
 use Rattle.signal_script.specs.Answers.{IsFaultOfText}
 use Rattle.signal_script.specs.Signals.{signals_of}
 use Rattle.signal_script.specs.declared.fault.SignalFault.{SignalFault}
@@ -317,3 +319,25 @@ refusal_not_ok bytes is = elim (cases_Bool (nat_le (length bytes) deploy_limit))
   | inl within ↦ not_ok (reading_of bytes) (sym (within_deploy bytes (leb-true (length bytes) deploy_limit within)) ∙ is)
   | inr over ↦ let large : refusal_of_deploy bytes ≡ Some (statuses.TooLarge givens.Deploy) = rw over in let never : ◌≡◌ {A = Option Status} (Some (statuses.TooLarge givens.Deploy)) (Some statuses.Ok) = sym large ∙ is in cc
 ]
+
+-- ---- lines that were generated, or memory ran out
+
+pub memory_refusal : (told : Option (List ℕ)) (status : Status) → status ≡ statuses.NoMemory → IfSome told (λ bytes. IsRefusalBy (refusal_of_deploy bytes) status)
+memory_refusal None status is = tt
+memory_refusal (Some bytes) status is = inr (inl is)
+
+pub memory_barred : (told : Option (List ℕ)) (status : Status) → status ≡ statuses.NoMemory → IfSome told (λ bytes. IsBarred bytes status)
+memory_barred None status is = tt
+memory_barred (Some bytes) status is = subst (IsBarred bytes) (sym is) tt
+
+pub memory_early : (status : Status) → status ≡ statuses.NoMemory → IsEarly status × IsCheckedAt status
+memory_early status is = subst (λ s. IsEarly s × IsCheckedAt s) (sym is) (tt, tt)
+
+pub on_ok : {T E A : Type 0} (r : Result T E) → A → OnOk r A
+on_ok (Ok x) a = a
+on_ok (Err e) a = tt
+
+pub generated_lines : (r : Result Inputs Status) (seed count : ℕ) (d : Deployed) → IfOk r (λ i. i.deployed ≡ d) → IfOk r (λ i. i.lines ≡ generated seed count (deployed_of d.checked.parts))
+    → IfOk r (λ i. i.lines ≡ generated seed count (deployed_of i.deployed.checked.parts))
+generated_lines (Ok i) seed count d same lines = lines ∙ ap (λ (x : Deployed). generated seed count (deployed_of x.checked.parts)) (sym same)
+generated_lines (Err status) seed count d same lines = tt

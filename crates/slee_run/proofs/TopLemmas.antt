@@ -1,9 +1,10 @@
 -- What the top call answers besides the run.
-use Rattle.std.proofs.Common.{◌≡◌, ◌≢◌, ◌⊎◌, inl, inr, ℕ, List, refl, sym, ◌∙◌, ap, subst, Option, Some}
+use Rattle.std.proofs.Common.{◌≡◌, ◌≢◌, ◌⊎◌, ◌<◌, ◌^◌, ◌&&◌, Bool, true, false, nat_le, arith, inl, inr, ℕ, List, refl, sym, ◌∙◌, ap, subst, Option, Some}
+use Rattle.std.proofs.lemmas.Bool.{leb-true}
 use Rattle.slee_disk.specs.Disk.{DiskState}
 use Rattle.slee_container.specs.declared.container.Mode.{Mode}
 use Rattle.slee_container.specs.declared.container.Mode.TheVariants as modes
-use Rattle.slee_run.specs.Words.{command_of}
+use Rattle.slee_run.specs.Words.{command_of, is_seed_in_range, most_lines, most_seed}
 use Rattle.slee_run.specs.Headline.{command_for, Plays, Opens, Reads, IsShownAt, IsWritten}
 use Rattle.slee_run.specs.Answers.{IsCheckedBy, IsFormOf, IsGeneratedBy, IsShownBy}
 use Rattle.slee_run.specs.Checking.{IsCheckedAt}
@@ -20,6 +21,18 @@ use Rattle.slee_run.proofs.RunLemmas.{no_play, plays_now}
 pub of_four : (A B C E : Type 0) → A ⊎ B → A ⊎ (B ⊎ (C ⊎ E))
 of_four A B C E (inl a) = inl a
 of_four A B C E (inr b) = inr (inl b)
+
+-- ---- numbers in range
+
+both : (x y : Bool) → (x && y) ≡ true → (x ≡ true) × (y ≡ true)
+both true y is = (refl, is)
+both false y is = absurd (cc)
+
+pub small_seed : (seed count : ℕ) → is_seed_in_range seed count ≡ true → seed < 2 ^ 32
+small_seed seed count is = omega (arith, leb-true seed most_seed (both (nat_le seed most_seed) (nat_le count most_lines) is).0)
+
+pub few_lines : (seed count : ℕ) → is_seed_in_range seed count ≡ true → count < 2 ^ 32
+few_lines seed count is = omega (arith, leb-true count most_lines (both (nat_le seed most_seed) (nat_le count most_lines) is).1)
 
 -- ---- a status that stood, or writing failed
 

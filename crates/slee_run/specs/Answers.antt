@@ -14,6 +14,7 @@ use Rattle.deploy_json.specs.Checking.{reading_of, read_as}
 use Rattle.deploy_json.specs.declared.fault.ReadFault.{ReadFault as DeployFault}
 use Rattle.deploy_json.specs.declared.fault.ReadFault.TheVariants as deploy_faults
 use Rattle.slee_container.specs.declared.container.Mode.{Mode}
+use Rattle.slee_descriptor.specs.declared.deployment.Deployment.{Deployment}
 use Rattle.slee_run.specs.Given.{Document, IsDeployment, IsDocument, start_of, refusal_of, refusal_of_deploy}
 use Rattle.script_types.specs.ProgramOf.{IsChecked}
 use Rattle.slee_run.specs.declared.reading.Deployed.{Deployed}
@@ -183,9 +184,13 @@ pub record AreInputsFrom (deploy signals : Option (List ℕ)) (i : Inputs) : Typ
   pub lines : IfSome signals (λ bytes. signals_of bytes ≡ Ok i.lines)
   pub accepted : IfSome deploy (λ d. IfSome signals (λ bytes. refusal_of d bytes ≡ None))
 
--- the document of a deployment that was read
+-- the document of a deployment
+abbrev pub document_on : List ℕ → Deployment → Document
+document_on bytes d = record { bytes = bytes; start = start_of d }
+
+-- that of a deployment that was read
 abbrev pub document_of : Deployed → Document
-document_of d = record { bytes = d.bytes; start = start_of d.checked }
+document_of d = document_on d.bytes d.checked
 
 -- the status of bytes that are no deployment
 abbrev pub status_of_fault : DeployFault → Status

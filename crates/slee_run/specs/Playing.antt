@@ -9,14 +9,23 @@ use Rattle.trace_history.specs.Histories.{input_of, inputs_of}
 use Rattle.router_steps.specs.Histories.{replay, solo, solo_choice}
 use Rattle.router_steps.specs.Payloads.{payload}
 use Rattle.router_steps.specs.Steps.{step_entry}
+use Rattle.script_types.specs.Program.{Program}
+use Rattle.handler_run.specs.Views.{conflict}
+use Rattle.router_state.specs.Look.{look}
+use Rattle.tx_attempt.specs.Attempts.{IsDone}
+use Rattle.tx_attempt.specs.declared.attempt.Attempt.{Attempt}
+use Rattle.tx_attempt.specs.declared.ticket.Ticket.{Ticket}
 use Rattle.router_durable.specs.Choices.{written_format}
 use Rattle.router_durable.specs.declared.fault.StepFault.{StepFault}
 use Rattle.router_durable.specs.declared.fault.StepFault.TheVariants as faults
 use Rattle.router_durable.specs.declared.fault.Stop.{Stop}
 use Rattle.router_durable.specs.declared.fault.Stop.TheVariants as stops
 use Rattle.router_durable.specs.Facts.{Origin, size_after, size_added, HasRoom}
+use Rattle.slee_container.specs.Claims.{IsAttemptOf}
 use Rattle.slee_container.specs.Container.{View, state_of}
 use Rattle.slee_container.specs.Steps.{is_spent}
+use Rattle.slee_container.specs.declared.fault.CommitFault.{CommitFault}
+use Rattle.slee_container.specs.declared.fault.CommitFault.TheVariants as refusals
 use Rattle.slee_run.specs.declared.playing.End.{End}
 use Rattle.slee_run.specs.declared.playing.End.TheVariants as ends
 use Rattle.slee_run.specs.declared.status.Status.{Status}
@@ -49,6 +58,28 @@ Moves old c (Err faults.DiskFault) new = IsStepOn old c new × (new.stop ≡ Som
 Moves old c (Err (faults.Full size adding)) new = IsStill old new × (new.stop ≡ Some (stops.Full size adding)) × (adding ≡ size_added old.setup.origin old.history c) × (old.setup.journal < size + adding)
 Moves old c (Err faults.NoMemory) new = IsStill old new × (new.stop ≡ old.stop)
 Moves old c (Err faults.Spent) new = IsStill old new × (new.stop ≡ old.stop) × IsTrue (is_spent old)
+
+-- an attempt at the delivery of a ticket that was tried to its end over what is seen of a state
+pub record IsTriedWhole (program : Program) (s : State) (t : Ticket) (a : Attempt) : Type 0 where
+  pub of : IsAttemptOf t a
+  pub done : IsDone program a
+  pub seen : conflict (look s) a.known ≡ None
+
+-- a commit was refused for the step that it would make, and not for what is seen
+abbrev pub IsOfStep : CommitFault → Type 0
+IsOfStep (refusals.Conflict key saw found) = ⊥
+IsOfStep refusals.DiskFault = Unit {0}
+IsOfStep (refusals.Full size adding) = Unit {0}
+IsOfStep refusals.Spent = Unit {0}
+IsOfStep refusals.NoMemory = Unit {0}
+
+-- the fault of that step
+abbrev pub step_fault_of : CommitFault → StepFault
+step_fault_of (refusals.Conflict key saw found) = faults.NoMemory
+step_fault_of refusals.DiskFault = faults.DiskFault
+step_fault_of (refusals.Full size adding) = faults.Full size adding
+step_fault_of refusals.Spent = faults.Spent
+step_fault_of refusals.NoMemory = faults.NoMemory
 
 -- what playing ends with after a step
 abbrev pub end_of : Result ℕ StepFault → Option End

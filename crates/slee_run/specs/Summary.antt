@@ -1,14 +1,15 @@
 -- The counts that a trial prints, as the lines of a trace say them.
-use Rattle.std.specs.Prelude.{ℕ, ◌+◌, ◌==◌, if◌then◌else◌, Bool, List, [], ◌++◌, drop, length, position, codes, decimal}
-use Rattle.std.specs.List.{fold, slice_split, starts_with}
-use Rattle.std.specs.Option.{option_map_or}
+use Rattle.std.specs.Prelude.{ℕ, ◌+◌, ◌<◌, ◌==◌, if◌then◌else◌, Bool, List, [], ◌∷◌, ◌++◌, length, codes, decimal}
+use Rattle.std.specs.List.{fold, starts_with}
+use Rattle.signal_script.specs.Lines.{lines_of}
 use Rattle.trace_history.specs.Trace.{trace_text}
 use Rattle.trace_history.specs.declared.entry.Entry.{Entry}
 use Rattle.slee_run.specs.declared.summing.Summary.{Summary}
 
 -- what stands behind the first space of a line: behind the number in a heading, else behind the first of two
 abbrev pub behind_space : List ℕ → List ℕ
-behind_space line = option_map_or (λ at. drop (at + 1) line) (position (λ b. b == 32) line) []
+behind_space [] = []
+behind_space (b ∷ bs) = if b == 32 then bs else behind_space bs
 
 -- one more where it is so
 abbrev pub one_if : Bool → ℕ
@@ -27,13 +28,16 @@ with_line s line = record {
 abbrev pub no_lines : Summary
 no_lines = record { inputs = 0; started = 0; deliveries = 0; refused = 0 }
 
--- the lines of a text
-abbrev pub lines_of_text : List ℕ → List (List ℕ)
-lines_of_text text = slice_split (λ b. b == 10) text
-
 -- the counts of a text's lines
 abbrev pub summary_of : List ℕ → Summary
-summary_of text = fold with_line no_lines (lines_of_text text)
+summary_of text = fold with_line no_lines (lines_of text)
+
+-- each count is below this
+pub record AreBelow (n : ℕ) (s : Summary) : Type 0 where
+  pub inputs : s.inputs < n
+  pub started : s.started < n
+  pub deliveries : s.deliveries < n
+  pub refused : s.refused < n
 
 -- a count, with its label
 abbrev pub count_line : List ℕ → ℕ → List ℕ

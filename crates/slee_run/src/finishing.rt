@@ -1,5 +1,5 @@
 //! Writing what a run came to, and its status.
-ghost use Rattle.std.specs.Prelude.{◌≡◌, ◌≢◌, take, OnOk, OnErr};
+ghost use Rattle.std.specs.Prelude.{◌≡◌, ◌≢◌, ◌≤◌, length, take, OnOk, OnErr};
 ghost use Rattle.slee_disk.specs.Causes.{Rose};
 ghost use Rattle.usage_totals.specs.Totals.{usage_totals};
 ghost use Rattle.slee_run.specs.Status.{row_of, status_line};
@@ -13,6 +13,7 @@ use slee_container::Container;
 use slee_disk::{Disk, Failed, Sink};
 use slee_value::NoMemory;
 use std::alloc::Global;
+use trace_history::History;
 use usage_totals::{Totals, usage_totals};
 
 /// What is written of the entries of a run.
@@ -25,7 +26,6 @@ pub enum Report {
 }
 
 /// Writes the status alone.
-#[tactic(auto, using(crate::proofs::EndLemmas::written))]
 pub fn refuse<K: Sink>(out: &mut K, stood: Status) -> Status
     ensures output { IsWritten (K.contents out.old) (K.contents out.new) (status_line stood) stood result }
     ensures write { stood ≢ Status.WriteFault → result ≡ Status.WriteFault → Rose (K.faults out.old) (K.faults out.new) }
@@ -48,48 +48,64 @@ pub fn finish<'d, K: Sink, D: Disk>(
     ensures write { result ≡ Status.WriteFault → Rose (K.faults out.old) (K.faults out.new) }
     ensures which { result ≢ Status.WriteFault → result ≢ Status.NoMemory → result ≡ stood }
 {
-    match usage_totals(alloc, container.history(), container.acked()) {
-        Ok(totals) => finish_whole(out, container, report, &totals, stood),
-        Err(NoMemory) => finish_short(out, container, report),
-    }
-}
-
-/// Writes a report with its totals, and the status.
-#[tactic(auto, using(crate::proofs::EndLemmas::written))]
-fn finish_whole<'d, K: Sink, D: Disk>(
-    out: &mut K,
-    container: &Container<'d, D>,
-    report: Report,
-    totals: &Totals,
-    stood: Status,
-) -> Status
-    requires unwritten { stood ≢ Status.WriteFault }
-    requires totals { totals.now ≡ usage_totals (take container.now.acked container.now.history) }
-    ensures output { IsWritten (K.contents out.old) (K.contents out.new) (output_text report (take container.now.acked container.now.history) stood) stood result }
-    ensures write { result ≡ Status.WriteFault → Rose (K.faults out.old) (K.faults out.new) }
-{
-    let written = write_report(
+    finish_history(
+        alloc,
         out,
         container.history(),
         container.acked(),
         report,
-        totals,
-        &stood,
-    );
+        stood,
+    )
+}
+
+/// Writes so many entries of a history, their usage totals and the status.
+fn finish_history<K: Sink>(
+    alloc: Global,
+    out: &mut K,
+    history: &History,
+    entries: u64,
+    report: Report,
+    stood: Status,
+) -> Status
+    requires few { entries ≤ length history.now.entries }
+    requires unwritten { stood ≢ Status.WriteFault }
+    requires reached { IsReachedTime (row_of stood).time }
+    ensures finished { IsFinished report (take entries history.now.entries) stood (K.contents out.old) (K.contents out.new) result }
+    ensures write { result ≡ Status.WriteFault → Rose (K.faults out.old) (K.faults out.new) }
+    ensures which { result ≢ Status.WriteFault → result ≢ Status.NoMemory → result ≡ stood }
+{
+    match usage_totals(alloc, history, entries) {
+        Ok(totals) => finish_whole(out, history, entries, report, &totals, stood),
+        Err(NoMemory) => finish_short(out, history, entries, report),
+    }
+}
+
+/// Writes a report with its totals, and the status.
+fn finish_whole<K: Sink>(
+    out: &mut K,
+    history: &History,
+    entries: u64,
+    report: Report,
+    totals: &Totals,
+    stood: Status,
+) -> Status
+    requires few { entries ≤ length history.now.entries }
+    requires unwritten { stood ≢ Status.WriteFault }
+    requires totals { totals.now ≡ usage_totals (take entries history.now.entries) }
+    ensures output { IsWritten (K.contents out.old) (K.contents out.new) (output_text report (take entries history.now.entries) stood) stood result }
+    ensures write { result ≡ Status.WriteFault → Rose (K.faults out.old) (K.faults out.new) }
+{
+    let written = write_report(out, history, entries, report, totals, &stood);
     status_written(written, stood)
 }
 
 /// Writes what can be written where memory ran out: a trace without its totals, and of a summary nothing.
-#[tactic(auto, using(crate::proofs::EndLemmas::written))]
-fn finish_short<'d, K: Sink, D: Disk>(
-    out: &mut K,
-    container: &Container<'d, D>,
-    report: Report,
-) -> Status
-    ensures output { IsWritten (K.contents out.old) (K.contents out.new) (short_text report (take container.now.acked container.now.history)) Status.NoMemory result }
+fn finish_short<K: Sink>(out: &mut K, history: &History, entries: u64, report: Report) -> Status
+    requires { entries ≤ length history.now.entries }
+    ensures output { IsWritten (K.contents out.old) (K.contents out.new) (short_text report (take entries history.now.entries)) Status.NoMemory result }
     ensures write { result ≡ Status.WriteFault → Rose (K.faults out.old) (K.faults out.new) }
 {
-    let written = write_short(out, container.history(), container.acked(), report);
+    let written = write_short(out, history, entries, report);
     status_written(written, Status::NoMemory)
 }
 

@@ -1,5 +1,5 @@
 //! Generated lines: written, or played.
-ghost use Rattle.std.specs.Prelude.{◌≡◌, ◌+◌, IfOk, IfErr, IfSome, OnOk};
+ghost use Rattle.std.specs.Prelude.{◌≡◌, ◌+◌, ◌++◌, IfOk, IfErr, IfSome, OnOk};
 ghost use Rattle.std.specs.Io.KnownBytes.{IsAtEnd};
 ghost use Rattle.deploy_model.specs.Resolving.{deployed_of};
 ghost use Rattle.signal_gen.specs.Generator.{generated};
@@ -17,7 +17,7 @@ use crate::running::{Run, play_inputs};
 use crate::{Given, Status};
 use initial_select::Selectors;
 use signal_gen::generate;
-use signal_script::{Signals, print_signal};
+use signal_script::{Signal, Signals, print_signal};
 use slee_container::Mode;
 use slee_disk::{Disk, Sink, Source, write_whole};
 use slee_value::NoMemory;
@@ -48,8 +48,10 @@ fn read_generated<S: Source>(
     ensures failed { IfErr result (λ status. status ≡ Status.ReadFault → Rose (S.faults deploy.old) (S.faults deploy.new)) }
     ensures large { IfErr result (λ status. status ≡ Status.TooLarge Given.Deploy → ConsumesSome (S.left deploy.old) (S.left deploy.new) (deploy_limit + 1)) }
 {
-    let deployed = read_deployed(alloc, deploy)?;
-    generated_for(alloc, deployed, seeded)
+    match read_deployed(alloc, deploy) {
+        Ok(deployed) => generated_for(alloc, deployed, seeded),
+        Err(stood) => Err(stood),
+    }
 }
 
 /// Lines that are generated for a deployment, beside it.
@@ -89,7 +91,6 @@ pub fn write_generated<S: Source, K: Sink>(
 }
 
 /// Writes lines. All memory is taken before anything is written.
-#[tactic(auto, using(crate::proofs::EndLemmas::written))]
 fn write_lines<K: Sink>(alloc: Global, out: &mut K, lines: &Signals) -> Status
     ensures lines { IsLinesOut lines.now (K.contents out.old) (K.contents out.new) result }
     ensures write { result ≡ Status.WriteFault → Rose (K.faults out.old) (K.faults out.new) }
@@ -106,11 +107,19 @@ fn text_of(alloc: Global, lines: &Signals) -> Result<Vec<u8>, NoMemory>
     ensures { IfOk result (λ text. text.items ≡ lines_text lines.now) }
 {
     let mut text = Vec::new(alloc);
-    for line in lines.as_slice() {
-        print_signal(line, &mut text)?;
+    add_lines(lines.as_slice(), &mut text)?;
+    Ok(text)
+}
+
+/// Adds lines to a text, each with its newline.
+fn add_lines(lines: &[Signal], text: &mut Vec<u8>) -> Result<(), NoMemory>
+    ensures { OnOk result (text.new.items ≡ text.old.items ++ lines_text lines.now) }
+{
+    for line in lines {
+        print_signal(line, text)?;
         text.push(b'\n')?;
     }
-    Ok(text)
+    Ok(())
 }
 
 /// Plays generated lines, and writes a summary of what came of them.

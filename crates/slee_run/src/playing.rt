@@ -32,7 +32,7 @@ pub enum End {
 }
 
 /// Plays what is to be done, until nothing is or nothing may be.
-#[tactic(auto, using(crate::proofs::PlayLemmas::begun, crate::proofs::PlayLemmas::nearer, crate::proofs::PlayLemmas::stopped))]
+#[tactic(auto, using(crate::proofs::PlayLemmas::stopped))]
 pub fn play<'d, D: Disk>(
     alloc: Global,
     container: &mut Container<'d, D>,

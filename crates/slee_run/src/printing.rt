@@ -5,6 +5,7 @@ ghost use Rattle.deploy_report.specs.Texts.{counts_text};
 ghost use Rattle.signal_script.specs.Words.{bad_word};
 ghost use Rattle.slee_disk.specs.Sides.{side_word};
 ghost use Rattle.slee_disk.specs.Writes.{Writes};
+ghost use Rattle.trace_history.specs.Trace.{trace_text};
 ghost use Rattle.usage_totals.specs.Totals.{usage_totals};
 ghost use Rattle.slee_run.specs.Status.{status_line, given_word, pair_text, place_text};
 ghost use Rattle.slee_run.specs.Summary.{count_line, counted_text};
@@ -51,9 +52,17 @@ pub fn write_short<K: Sink>(
     ensures { Writes K.contents K.faults out.old out.new (short_text report (take entries history.now.entries)) result }
 {
     match report {
-        Report::Trace => write_entries(out, history, entries, report)?,
-        Report::Summary => {}
+        Report::Trace => write_trace_alone(out, history, entries),
+        Report::Summary => write_status(out, &Status::NoMemory),
     }
+}
+
+/// Writes so many entries without their totals, and that memory ran out.
+fn write_trace_alone<K: Sink>(out: &mut K, history: &History, entries: u64) -> Result<(), Failed>
+    requires { entries ≤ length history.now.entries }
+    ensures { Writes K.contents K.faults out.old out.new (trace_text (take entries history.now.entries) ++ status_line Status.NoMemory) result }
+{
+    write_whole(out, history.text(entries))?;
     write_status(out, &Status::NoMemory)
 }
 

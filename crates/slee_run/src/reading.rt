@@ -25,17 +25,33 @@ pub const DEPLOY_LIMIT: usize = 1_048_576;
 const SIGNALS_LIMIT: usize = 16_777_216;
 
 /// A deployment that was read, beside the bytes of its document.
-#[derive(Drop)]
 pub struct Deployed {
     pub bytes: Blob,
     pub checked: Checked,
 }
 
+impl Drop for Deployed {
+    fn drop(self) {
+        let Self {
+            bytes: _,
+            checked: _,
+        } = self;
+    }
+}
+
 /// What is played: a deployment and signal lines.
-#[derive(Drop)]
 pub struct Inputs {
     pub deployed: Deployed,
     pub lines: Signals,
+}
+
+impl Drop for Inputs {
+    fn drop(self) {
+        let Self {
+            deployed: _,
+            lines: _,
+        } = self;
+    }
 }
 
 /// Reads a source to its end, or answers the status of the refusal.

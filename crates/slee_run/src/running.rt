@@ -7,7 +7,7 @@ ghost use Rattle.slee_disk.specs.Taken.{ConsumesSome};
 ghost use Rattle.slee_run.specs.Given.{IsDeployment, deploy_limit, signals_limit};
 ghost use Rattle.slee_run.specs.Opening.{IsBeforeOpening};
 ghost use Rattle.slee_run.specs.Playing.{status_after};
-ghost use Rattle.slee_run.specs.Answers.{IsPlayedFrom, IsPlayedOn, document_of, status_of};
+ghost use Rattle.slee_run.specs.Answers.{IsPlayedFrom, IsPlayedOn, document_of, document_on, status_of};
 
 use crate::finishing::{Report, finish, refuse};
 use crate::playing::{End, play};
@@ -16,7 +16,9 @@ use crate::{Given, Status};
 use commit_journal::SIDE_LIMIT;
 use initial_select::Selectors;
 use router_durable::OpenFault;
+use signal_script::Signals;
 use slee_container::{Container, Limits, Mode};
+use slee_descriptor::Deployment;
 use slee_disk::{Disk, Sink, Source};
 use std::alloc::Global;
 
@@ -71,19 +73,41 @@ pub fn play_inputs<K: Sink, D: Disk>(
     ensures disk { result.0 ≡ Status.DiskFault → Rose (D.disk disk).faults (D.disk result.1).faults }
     ensures late { IsBeforeOpening result.0 → ⊥ }
 {
+    play_document(
+        alloc,
+        inputs.deployed.checked.deployment(),
+        inputs.deployed.bytes.as_slice(),
+        &inputs.lines,
+        out,
+        disk,
+        run,
+        selectors,
+    )
+}
+
+/// Plays lines for a deployment, whose document has these bytes, on what the disk keeps.
+fn play_document<'d, K: Sink, D: Disk>(
+    alloc: Global,
+    deployment: &'d Deployment,
+    bytes: &'d [u8],
+    lines: &'d Signals,
+    out: &mut K,
+    disk: D,
+    run: Run,
+    selectors: &Selectors,
+) -> (Status, D)
+    requires given { IsDeployment bytes.now deployment.now }
+    requires checked { IsChecked deployment.now.codes }
+    ensures played { IsPlayedOn (document_on bytes.now deployment.now) run.mode run.steps run.report lines.now (K.contents out.old) (K.contents out.new) (D.disk disk) (D.disk result.1) result.0 }
+    ensures write { result.0 ≡ Status.WriteFault → Rose (K.faults out.old) (K.faults out.new) }
+    ensures late { IsBeforeOpening result.0 → ⊥ }
+{
     let limits = Limits {
         journal: SIDE_LIMIT,
         steps: run.steps,
     };
     let mut container = match Container::open(
-        alloc,
-        disk,
-        inputs.deployed.checked.deployment(),
-        inputs.deployed.bytes.as_slice(),
-        &inputs.lines,
-        run.mode,
-        limits,
-        selectors,
+        alloc, disk, deployment, bytes, lines, run.mode, limits, selectors,
     ) {
         Ok(container) => container,
         Err((fault, disk)) => return (refuse(out, status_of(fault)), disk),

@@ -7,7 +7,7 @@ ghost use Rattle.slee_disk.specs.Taken.{ConsumesSome};
 ghost use Rattle.slee_container.specs.Container.{state_of as state_in};
 ghost use Rattle.slee_run.specs.Given.{IsDeployment, deploy_limit};
 ghost use Rattle.slee_run.specs.Opening.{IsBeforeOpening};
-ghost use Rattle.slee_run.specs.Answers.{IsShownAs, IsShownBy, IsShownOf, document_of};
+ghost use Rattle.slee_run.specs.Answers.{IsShownAs, IsShownBy, IsShownOf, document_of, document_on};
 
 use crate::finishing::refuse;
 use crate::reading::{Deployed, read_deployed};
@@ -17,6 +17,7 @@ use commit_journal::SIDE_LIMIT;
 use initial_select::Selectors;
 use signal_script::Signals;
 use slee_container::{Container, Limits, Mode, OutFault};
+use slee_descriptor::Deployment;
 use slee_disk::{Disk, Sink, Source};
 use std::alloc::Global;
 
@@ -58,6 +59,32 @@ fn show_kept<K: Sink, D: Disk>(
     ensures late { IsBeforeOpening result.0 → ⊥ }
 {
     let lines = Signals::new(alloc);
+    show_document(
+        alloc,
+        deployed.checked.deployment(),
+        deployed.bytes.as_slice(),
+        &lines,
+        out,
+        disk,
+        selectors,
+    )
+}
+
+/// Opens the journal for a deployment, whose document has these bytes, and writes what is shown of its state.
+fn show_document<'d, K: Sink, D: Disk>(
+    alloc: Global,
+    deployment: &'d Deployment,
+    bytes: &'d [u8],
+    lines: &'d Signals,
+    out: &mut K,
+    disk: D,
+    selectors: &Selectors,
+) -> (Status, D)
+    requires given { IsDeployment bytes.now deployment.now }
+    requires checked { IsChecked deployment.now.codes }
+    ensures shown { IsShownOf (document_on bytes.now deployment.now) (K.contents out.old) (K.contents out.new) (D.disk disk) (D.disk result.1) result.0 }
+    ensures write { result.0 ≡ Status.WriteFault → Rose (K.faults out.old) (K.faults out.new) }
+{
     let limits = Limits {
         journal: SIDE_LIMIT,
         steps: 0,
@@ -65,9 +92,9 @@ fn show_kept<K: Sink, D: Disk>(
     let container = match Container::open(
         alloc,
         disk,
-        deployed.checked.deployment(),
-        deployed.bytes.as_slice(),
-        &lines,
+        deployment,
+        bytes,
+        lines,
         Mode::AllNew,
         limits,
         selectors,

@@ -1,6 +1,9 @@
 //! The counts of a trial: what the lines of a trace say.
-ghost use Rattle.std.specs.Prelude.{◌≡◌};
-ghost use Rattle.slee_run.specs.Summary.{behind_space, summary_of, with_line};
+ghost use Rattle.std.specs.Prelude.{◌≡◌, ◌≤◌, ◌^◌};
+ghost use Rattle.slee_run.specs.Summary.{AreBelow, behind_space, one_if, summary_of, with_line};
+
+use memchr::memchr;
+use usage_totals::first_line;
 
 /// What stands behind the number of a heading that takes a line.
 const INPUT: &[u8] = b"input ";
@@ -27,26 +30,36 @@ pub struct Summary {
 fn behind_space(line: &[u8]) -> &[u8]
     ensures { result.now ≡ behind_space line.now }
 {
-    match line.iter().position(|byte| *byte == b' ') {
-        Some(at) => &line[at + 1..],
-        None => &[],
+    match memchr(b' ', line) {
+        Some(end) => &line[end + 1..],
+        None => &line[line.len()..],
     }
+}
+
+/// One where it is so, and else none.
+fn one_if(is: bool) -> u64
+    ensures value { result ≡ one_if is }
+    ensures small { result ≤ 1 }
+{
+    if is { 1 } else { 0 }
 }
 
 /// The counts, and what a line adds to them.
 fn with_line(summary: Summary, line: &[u8]) -> Summary
+    requires { AreBelow (2 ^ 63) summary }
     ensures { result ≡ with_line summary line.now }
 {
     let said = behind_space(line);
     Summary {
-        inputs: summary.inputs + said.starts_with(INPUT) as u64,
-        started: summary.started + said.starts_with(STARTED) as u64,
-        deliveries: summary.deliveries + said.starts_with(DELIVER) as u64,
-        refused: summary.refused + said.starts_with(REFUSED) as u64,
+        inputs: summary.inputs + one_if(said.starts_with(INPUT)),
+        started: summary.started + one_if(said.starts_with(STARTED)),
+        deliveries: summary.deliveries + one_if(said.starts_with(DELIVER)),
+        refused: summary.refused + one_if(said.starts_with(REFUSED)),
     }
 }
 
 /// The counts of the lines of a trace.
+#[tactic(auto, using(crate::proofs::SumLemmas::none_below))]
 pub fn summary_of(text: &[u8]) -> Summary
     ensures { result ≡ summary_of text.now }
 {
@@ -56,8 +69,12 @@ pub fn summary_of(text: &[u8]) -> Summary
         deliveries: 0,
         refused: 0,
     };
-    for line in text.split(|byte| *byte == b'\n') {
-        summary = with_line(summary, line);
+    let mut rest = text;
+    'lines: while !rest.is_empty() {
+        let (line, after) = first_line(rest);
+        let more = with_line(summary, line);
+        summary = more;
+        rest = after;
     }
     summary
 }

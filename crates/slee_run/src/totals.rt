@@ -7,6 +7,7 @@ ghost use Rattle.usage_totals.specs.Totals.{total_line};
 
 use itoa::Buffer;
 use slee_disk::{Failed, Sink, write_number, write_whole};
+use slee_value::Blob;
 use usage_totals::{Total, Totals};
 
 /// Writes usage totals, a line each.
@@ -20,26 +21,37 @@ pub fn write_totals<K: Sink>(out: &mut K, totals: &Totals) -> Result<(), Failed>
 fn write_rows<K: Sink>(out: &mut K, totals: &[Total]) -> Result<(), Failed>
     ensures { Writes K.contents K.faults out.old out.new (line_texts (map total_line totals.now)) result }
 {
-    match totals {
-        [] => write_whole(out, b""),
-        [total, more @ ..] => {
-            write_total(out, total)?;
-            write_rows(out, more)
-        }
+    for total in totals {
+        write_total(out, total)?;
     }
+    Ok(())
 }
 
 /// Writes the line of a total.
 fn write_total<K: Sink>(out: &mut K, total: &Total) -> Result<(), Failed>
     ensures { Writes K.contents K.faults out.old out.new (line_text (total_line total.now)) result }
 {
+    write_total_line(out, total)?;
+    write_whole(out, b"\n")
+}
+
+/// Writes the line of a total, without its newline.
+fn write_total_line<K: Sink>(out: &mut K, total: &Total) -> Result<(), Failed>
+    ensures { Writes K.contents K.faults out.old out.new (total_line total.now) result }
+{
     write_whole(out, b"usage ")?;
-    write_whole(out, total.name.as_slice())?;
+    write_name(out, &total.name)?;
     write_whole(out, b" ")?;
     write_number(out, total.count)?;
     write_whole(out, b" ")?;
-    write_signed(out, total.sum)?;
-    write_whole(out, b"\n")
+    write_signed(out, total.sum)
+}
+
+/// Writes the name of a count.
+fn write_name<K: Sink>(out: &mut K, name: &Blob) -> Result<(), Failed>
+    ensures { Writes K.contents K.faults out.old out.new name.now result }
+{
+    write_whole(out, name.as_slice())
 }
 
 /// Writes a number with its sign, where it is below 0.

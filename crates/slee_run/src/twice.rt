@@ -1,6 +1,9 @@
 //! Two runs over one disk, one after the other: what the promises of the top call say of both.
-ghost use Rattle.std.specs.Prelude.{ℕ, [], Some, IfOk};
+ghost use Rattle.std.specs.Prelude.{ℕ, Some, IfOk};
+ghost use Rattle.slee_container.specs.declared.container.Mode.{Mode as Lines};
+ghost use Rattle.slee_descriptor.specs.declared.deployment.Deployment.{Deployment as Served};
 ghost use Rattle.slee_disk.specs.MemoryDisk.{state_of};
+ghost use Rattle.slee_run.specs.Given.{IsDeployment};
 ghost use Rattle.slee_run.specs.Headline.{IsLegalRun, Plays};
 ghost use Rattle.slee_run.specs.Words.{texts};
 ghost use Rattle.slee_run.specs.Twice.{IsUnbroken, IsOneHistory};
@@ -32,26 +35,15 @@ pub fn play_twice(
     more: Blob,
     out: &mut MemorySink,
     selectors: &Selectors,
-) -> Result<Twice, NoMemory> {
+) -> Result<Twice, NoMemory>
+    ensures { IfOk result (λ twice. (mode : Lines) (steps : ℕ) (d : Served) → Plays (texts words.now) mode steps → IsDeployment deploy.now d → IsUnbroken twice.first → IsUnbroken twice.second
+        → IsOneHistory mode steps deploy.now lines more out.old.held out.new.held d (state_of twice.disk) twice.first twice.second) }
+{
+    let document = deploy.copy(alloc)?;
+    let again = deploy.copy(alloc)?;
     let disk = MemoryDisk::new(alloc, Blob::new(alloc), Blob::new(alloc), Blob::new(alloc))?;
-    let (first, disk) = play(
-        alloc,
-        words,
-        deploy.copy(alloc)?,
-        lines,
-        out,
-        disk,
-        selectors,
-    );
-    let (second, disk) = play(
-        alloc,
-        words,
-        deploy.copy(alloc)?,
-        more,
-        out,
-        disk,
-        selectors,
-    );
+    let (first, disk) = play(alloc, words, document, lines, out, disk, selectors);
+    let (second, disk) = play(alloc, words, again, more, out, disk, selectors);
     Ok(Twice {
         first,
         second,
@@ -68,7 +60,9 @@ fn play(
     out: &mut MemorySink,
     disk: MemoryDisk,
     selectors: &Selectors,
-) -> (Status, MemoryDisk) {
+) -> (Status, MemoryDisk)
+    ensures { IsLegalRun (texts words.now) (Some deploy) (Some lines) (Some out.old.held) (Some out.new.held) (state_of disk) (state_of result.1) result.0 }
+{
     let mut deploy = MemorySource::new(deploy, PIECE, Blob::new(alloc));
     let mut signals = MemorySource::new(lines, PIECE, Blob::new(alloc));
     run_one(

@@ -1,19 +1,12 @@
-use Rattle.std.proofs.Common.{inl, inr, refl}
-use Rattle.slee_run.specs.declared.status.Status.TheVariants as statuses
+use Rattle.std.proofs.Common.{◌≤◌, ◌∙◌, ap, length, List, ℕ, subst, sym, take}
+use Rattle.trace_history.specs.declared.entry.Entry.{Entry}
+use Rattle.slee_run.specs.Answers.{IsFinished}
 use Rattle.slee_run.proofs.finishing.finish.Goals as goal
 
-pub returns-in-Ok-clause-finished : goal.returns-in-Ok-clause-finished
-returns-in-Ok-clause-finished g c = record {
-  stood = c.args.stood;
-  text = _;
-  reported = record { reached = c.requires.reached; prints = inl (refl, refl) };
-  output = c.finish_whole.ensures.output;
-}
+pub finish_history-requires-clause-few : goal.finish_history-requires-clause-few
+finish_history-requires-clause-few g c = subst (λ (h : List Entry). c.acked.result ≤ length h) (sym c.history.ensures.entries) c.acked.ensures.within
 
-pub returns-in-Err-clause-finished : goal.returns-in-Err-clause-finished
-returns-in-Err-clause-finished g c = record {
-  stood = statuses.NoMemory;
-  text = _;
-  reported = record { reached = c.requires.reached; prints = inr (refl, refl) };
-  output = c.finish_short.ensures.output;
-}
+pub returns-clause-finished : goal.returns-clause-finished
+returns-clause-finished g c =
+    subst (λ (acked : List Entry). IsFinished c.args.report acked c.args.stood (g.K.Sink.contents c.args.out.now) (g.K.Sink.contents c.finish_history.new.out) c.finish_history.result)
+    (ap (λ (n : ℕ). take n c.history.result.now.entries) c.acked.ensures.acked ∙ ap (take c.args.container.now.acked) c.history.ensures.entries) c.finish_history.ensures.finished

@@ -1,16 +1,34 @@
-use Rattle.std.proofs.Common.{◌∙◌, ap, refl, length}
-use Rattle.slee_run.proofs.AnswerLemmas.{refused_played, opened_played}
+use Rattle.std.proofs.Common.{List, subst, sym, ℕ}
+use Rattle.script_types.specs.ProgramOf.{IsChecked}
+use Rattle.slee_descriptor.specs.declared.deployment.Deployment.{Deployment}
+use Rattle.slee_run.specs.Answers.{IsPlayedOn, document_on}
+use Rattle.slee_run.specs.Given.{IsDeployment}
+use Rattle.slee_run.proofs.AnswerLemmas.{played_failed}
 use Rattle.slee_run.proofs.running.play_inputs.Goals as goal
 
-pub returns-in-Err-clause-played : goal.returns-in-Err-clause-played
-returns-in-Err-clause-played g c =
-    refused_played _ _ _ (g.D.Disk.disk c.args.disk) (g.D.Disk.disk c.in-Err.disk) c.in-Err.fault _ _ c.status_of.ensures c.requires.given.within c.in-Err.ensures c.refuse.ensures.output
-    c.args.run.mode c.args.run.steps c.args.run.report c.args.inputs.now.lines
+pub play_document-requires-clause-given : goal.play_document-requires-clause-given
+play_document-requires-clause-given g c =
+    subst (λ (d : Deployment). IsDeployment c.as_slice.result.now d) (sym c.deployment.ensures.same)
+    (subst (λ (b : List ℕ). IsDeployment b c.args.inputs.now.deployed.checked) (sym c.as_slice.ensures) c.requires.given)
+
+pub play_document-requires-clause-checked : goal.play_document-requires-clause-checked
+play_document-requires-clause-checked g c = c.deployment.ensures.typed
 
 pub returns-clause-played : goal.returns-clause-played
 returns-clause-played g c =
-    let ok = c.in-Ok.ensures in
-    let p = c.play-end.ensures in
-    opened_played g.D.Disk.disk _ (g.D.Disk.disk c.args.disk) _ c.in-Ok.container c.args.run.mode _ c.args.inputs.now.lines ok.starts refl
-    c.play-end.new.container c.into_disk.result c.play-end.result c.len.result c.args.run.steps c.args.run.report _ _ _ _ c.into_disk.ensures.kept c.into_disk.ensures.disk p.setup refl p.played p.stop p.whole p.room
-    (c.len.ensures ∙ ap length c.history.ensures.entries) c.status_after-stood.ensures c.finish-status.ensures.finished
+    let r = c.args.run in
+    subst
+    (λ (b : List ℕ). IsPlayedOn (document_on b c.args.inputs.now.deployed.checked) r.mode r.steps r.report c.args.inputs.now.lines (g.K.Sink.contents c.args.out.now) (g.K.Sink.contents c.play_document.new.out) (g.D.Disk.disk c.args.disk) (g.D.Disk.disk c.play_document.result.1) c.play_document.result.0)
+    c.as_slice.ensures
+    (subst
+    (λ (d : Deployment). IsPlayedOn (document_on c.as_slice.result.now d) r.mode r.steps r.report c.args.inputs.now.lines (g.K.Sink.contents c.args.out.now) (g.K.Sink.contents c.play_document.new.out) (g.D.Disk.disk c.args.disk) (g.D.Disk.disk c.play_document.result.1) c.play_document.result.0)
+    c.deployment.ensures.same c.play_document.ensures.played)
+
+pub returns-clause-write : goal.returns-clause-write
+returns-clause-write g c = c.play_document.ensures.write
+
+pub returns-clause-disk : goal.returns-clause-disk
+returns-clause-disk g c = λ is. played_failed _ _ _ _ _ _ _ _ _ _ c.play_document.ensures.played is
+
+pub returns-clause-late : goal.returns-clause-late
+returns-clause-late g c = c.play_document.ensures.late

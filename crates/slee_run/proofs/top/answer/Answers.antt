@@ -158,3 +158,9 @@ returns-in-Play-clause-deploy_unread g c = λ none. absurd (none (play_reads _ c
 
 pub returns-in-Play-clause-idle : goal.returns-in-Play-clause-idle
 returns-in-Play-clause-idle g c = λ none. absurd (none (play_opens _ c.in-Some.command (sym c.in-Some.ensures.command) c.in-Play.run c.in-Play.ensures))
+
+pub form_of-requires : goal.form_of-requires
+form_of-requires g c = c.in-Some.ensures.in_range
+
+pub play_sources-requires : goal.play_sources-requires
+play_sources-requires g c = c.in-Play.ensures.1

@@ -1,0 +1,20 @@
+use Rattle.std.proofs.Common.{◌≡◌, sym, ◌∙◌, subst, refl, false, true}
+use Rattle.router_steps.specs.Steps.{is_enabled}
+use Rattle.trace_history.specs.declared.choice.Choice.TheVariants as choices
+use Rattle.slee_container.specs.Container.{state_of}
+use Rattle.slee_container.proofs.Lines.{anywhere, enabled_of, steady_step}
+use Rattle.slee_container.proofs.container.Container.initial.Goals as goal
+
+pub select-requires-clause-enabled : goal.select-requires-clause-enabled
+select-requires-clause-enabled g c =
+    let choice = choices.Initial c.args.activity in
+    let old = c.args.self.now in
+    subst (λ v. is_enabled (state_of v) choice ≡ true) (sym c.self.view_is)
+    (enabled_of old.setup.steps old.history (state_of old) choice (sym c.is_spent.ensures.spent ∙ c.if-is_spent.false) c.requires.next)
+
+pub invariant_of-self : goal.invariant_of-self
+invariant_of-self g c = (
+  steady_step c.self.inside.lines.now c.self.inside.skipped c.self.inside.core c.select.new.self (choices.Initial c.args.activity) c.self.inside.taken c.self.inside.claims.items c.select.result refl
+      (anywhere (choices.Initial c.args.activity) (λ a. tt) c.self.inside.claims.items) c.select.ensures.step c.select.ensures.origin c.self.invariant.0,
+  c.self.invariant.1,
+)
