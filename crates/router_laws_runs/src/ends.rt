@@ -14,7 +14,6 @@ ghost use Rattle.trace_history.specs.declared.entry.Entry.{Entry};
 
 /// Behind the finish of an activity's end no heading names the activity and no line queues an event on it, and of all that waited or
 /// was queued there the end was the last (JSR 240, 7.6).
-#[tactic(auto, using(crate::proofs::Ends::end_is_last))]
 pub fn nothing_follows_an_end()
     ensures { (s : State) (k : List Entry) (e : Entry) (rest : List Entry) (a : ActivityId) (v : Event) → IsWell s → IsAsRead s.deployment s.program → Legal s (k ++ e ∷ rest) → e.choice ≡ choices.Finish a → head_event (replay s k).events a.0 ≡ Some v → is_end v ≡ true → IsLast s k rest e a.0 v.id.0 }
 {}
