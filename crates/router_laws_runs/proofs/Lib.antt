@@ -3,7 +3,7 @@ pub mod Numbers
 pub mod Rooms
 pub mod About
 pub mod Runs
-pub mod Headings
-pub mod Ends
+pub mod HeadingLemmas
+pub mod EndLemmas
 pub mod Applied
 pub mod Laws

@@ -1,4 +1,4 @@
-use Rattle.router_laws_runs.proofs.Ends.{end_is_last}
+use Rattle.router_laws_runs.proofs.EndLemmas.{end_is_last}
 use Rattle.router_laws_runs.proofs.ends.nothing_follows_an_end.Goals as goal
 
 pub returns : goal.returns

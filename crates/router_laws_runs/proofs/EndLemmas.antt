@@ -12,7 +12,7 @@ use Rattle.router_laws_histories.proofs.FiringOrder.{lines_are}
 use Rattle.router_laws_histories.proofs.Reading.{finish_is_read}
 use Rattle.router_laws_histories.specs.Suspended.{names_activity}
 use Rattle.router_laws_runs.proofs.About.{choice_about}
-use Rattle.router_laws_runs.proofs.Headings.{Named, head_fits, step_first, step_named}
+use Rattle.router_laws_runs.proofs.HeadingLemmas.{Named, head_fits, step_first, step_named}
 use Rattle.router_laws_runs.proofs.Runs.{legal_as_read, legal_can, legal_is_run, legal_well, same_read}
 use Rattle.router_laws_runs.specs.AsRead.{IsAsRead}
 use Rattle.router_laws_runs.specs.Headings.{IsLast, IsUnnamed, NamesFirst, NamesNext, delivers_on, heading_words}
