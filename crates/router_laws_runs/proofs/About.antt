@@ -4,7 +4,6 @@ use Rattle.std.proofs.lemmas.Bool.{and_parts, cases_Bool, false≢true}
 use Rattle.std.specs.Option.{option_map_or}
 use Rattle.std.specs.Prelude.{is_some, not, option_and_then, option_map}
 use Rattle.router_laws.proofs.ListRules.{in_filter}
-use Rattle.router_laws.specs.Forest.{IsIn}
 use Rattle.router_laws_histories.proofs.Receiving.{first_in}
 use Rattle.router_laws_histories.proofs.Waiting.{next_free}
 use Rattle.router_laws_runs.specs.AsRead.{IsAsRead}
@@ -13,7 +12,6 @@ use Rattle.router_state.specs.Next.{due_service, eligible, first, is_eligible, n
 use Rattle.router_state.specs.Queues.{head_event}
 use Rattle.router_state.specs.State.{State, is_used_up}
 use Rattle.router_state.specs.declared.kindred.Kindred.{Kindred}
-use Rattle.router_state.specs.declared.kindred.Kindred.TheVariants as kindreds
 use Rattle.router_state.specs.declared.rows.Entity.{Entity}
 use Rattle.router_state.specs.declared.rows.Event.{Event}
 use Rattle.router_steps.specs.Scripts.{answers_in, complete, delivered_in}

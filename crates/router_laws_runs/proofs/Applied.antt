@@ -12,7 +12,7 @@ use Rattle.router_state.specs.State.{State}
 use Rattle.router_state.specs.Well.{IsSound, IsWell}
 use Rattle.router_steps.specs.Effects.{after_effects, resolved_in}
 use Rattle.router_steps.specs.Histories.{Legal}
-use Rattle.router_steps.specs.Steps.{Receipt, after, is_enabled, marked_entity}
+use Rattle.router_steps.specs.Steps.{after, is_enabled, marked_entity}
 use Rattle.slee_effect.specs.declared.effect.Effect.{Effect}
 use Rattle.trace_history.specs.declared.choice.Choice.{Choice}
 use Rattle.trace_history.specs.declared.choice.Choice.TheVariants as choices

@@ -32,7 +32,7 @@ use Rattle.router_state.specs.declared.rows.Entity.{Entity}
 use Rattle.router_state.specs.declared.rows.Event.{Event}
 use Rattle.router_steps.specs.Closing.{lines_of_closing}
 use Rattle.router_steps.specs.Lines.{deliver_heading, outcome_words}
-use Rattle.router_steps.specs.Steps.{Delivering, Due, Finish, Finishing, NewRoot, NoRoot, OldRoot, Receipt, Root, Selecting, Subject, Taking, after_subject, delivery_at, due_at, finish_at, lines_of_root, lines_of_step, lines_of_subject, subject_of}
+use Rattle.router_steps.specs.Steps.{Delivering, Due, Finish, Finishing, NewRoot, NoRoot, OldRoot, Root, Selecting, Subject, Taking, after_subject, delivery_at, due_at, finish_at, lines_of_root, lines_of_step, lines_of_subject, subject_of}
 use Rattle.rows_sorted.specs.Orders.{rises_in}
 use Rattle.script_meaning.specs.declared.outcome.Outcome.{Outcome}
 use Rattle.signal_script.specs.Signals.{spelled}

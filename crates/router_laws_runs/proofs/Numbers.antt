@@ -84,7 +84,7 @@ within_first k s t u same is = record {
 }
   where
     le : (n m p : ℕ) → m ≡ n → p ≤ m + k → p ≤ n + k
-    le n m p is le = omega (arith, is, le)
+    le n m p is less = omega (arith, is, less)
 
 pub within_if : (k : ℕ) (b : Bool) (s t u : State) → IsWithin k s t → IsWithin k s u → IsWithin k s (if b then t else u)
 within_if k b s t u one two = cond_both b t u (IsWithin k s) (λ _. one) (λ _. two)

@@ -1,5 +1,5 @@
 -- Where a choice is enabled, the numbers that come next behind its step have 64 bits, and so has the count of lines.
-use Rattle.std.proofs.Common.{Bool, List, None, Option, Some, [], ap, arith, false, length, map, refl, subst, sym, true, ℕ, ◌+◌, ◌<◌, ◌==◌, ◌^◌, ◌∙◌, ◌∷◌, ◌≡◌, ◌≤◌}
+use Rattle.std.proofs.Common.{Bool, List, None, Option, Some, [], ap, arith, false, length, refl, subst, true, ℕ, ◌+◌, ◌<◌, ◌==◌, ◌^◌, ◌∷◌, ◌≡◌, ◌≤◌}
 use Rattle.std.proofs.lemmas.Bool.{and_parts, lt-ltb, ltb-false, ltb-true, not-true}
 use Rattle.std.proofs.lemmas.List.{length-map}
 use Rattle.std.specs.Option.{option_map_or}
@@ -30,7 +30,6 @@ use Rattle.router_state.specs.WellContexts.{are_services_from, is_activity_row}
 use Rattle.router_state.specs.declared.rows.Activity.{Activity}
 use Rattle.router_state.specs.declared.rows.Event.{Event}
 use Rattle.router_state.specs.declared.rows.Service.{Service}
-use Rattle.router_steps.specs.Actions.{action_of}
 use Rattle.router_steps.specs.Closing.{activity_numbers, close_null, close_nulls, close_root, close_roots, close_service, close_services, closing, without_loose, without_stopped}
 use Rattle.router_steps.specs.Going.{tree_removed}
 use Rattle.router_steps.specs.Moves.{with_service}

@@ -1,11 +1,11 @@
 -- A legal history over a well-formed state of a deployment that was read is a run: all that the laws ask besides follows.
-use Rattle.std.proofs.Common.{List, [], ap, arith, refl, subst, sym, true, ℕ, ◌+◌, ◌^◌, ◌∷◌, ◌≡◌, ◌≤◌}
+use Rattle.std.proofs.Common.{List, [], subst, sym, ◌∷◌}
 use Rattle.std.proofs.lemmas.Bool.{and_parts}
 use Rattle.std.specs.Prelude.{nat_lt}
 use Rattle.deploy_model.specs.Deployed.{Deployed}
 use Rattle.router_laws.proofs.KeptLemmas.{same_after}
 use Rattle.router_laws_runs.proofs.About.{choice_about}
-use Rattle.router_laws_runs.proofs.Rooms.{choice_can, enabled_low}
+use Rattle.router_laws_runs.proofs.Rooms.{choice_can}
 use Rattle.router_laws_runs.proofs.Signals.{choice_read}
 use Rattle.router_laws_runs.specs.AsRead.{IsAsRead}
 use Rattle.router_laws_sound.specs.Rooms.{HasRoom}
@@ -13,7 +13,6 @@ use Rattle.router_laws_steps.proofs.WholeSteps.{well_after}
 use Rattle.router_laws_steps.specs.About.{AreAbout, IsRun}
 use Rattle.router_laws_steps.specs.Reads.{AreRead}
 use Rattle.router_laws_steps.specs.Steps.{CanStep}
-use Rattle.router_state.specs.Fits.{is_u64}
 use Rattle.router_state.specs.State.{State}
 use Rattle.router_state.specs.Well.{IsSound, IsWell}
 use Rattle.router_steps.specs.Histories.{Legal, replay}
