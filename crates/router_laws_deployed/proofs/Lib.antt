@@ -3,3 +3,5 @@ pub mod Declared
 pub mod WholeDeployments
 pub mod Readings
 pub mod Ranks
+pub mod AttributeKeys
+pub mod Programmed

@@ -10,7 +10,7 @@ use Rattle.trace_history.specs.declared.choice.Choice.{Choice}
 use Rattle.trace_history.specs.declared.choice.Choice.TheVariants as choices
 use Rattle.trace_history.specs.declared.entry.Entry.{Entry}
 
--- the effects of a delivery apply, where there are fewer than 2^62 entities and attachments, and the numbers that come next behind it have 64 bits
+-- the effects of a delivery apply, where the next numbers of entities and activities are at most 2^62, and the numbers that come next behind it have 64 bits
 abbrev pub ApplyAt : State → Choice → Type 0
 ApplyAt s (choices.Deliver a) =
     (x : Receipt) → delivery_at s a.0 ≡ Some x → IsSmall s → HasRoom (after_effects (resolved_in s x.delivered.effects) (marked_entity x s)) → Apply x.entity.number.0 (resolved_in s x.delivered.effects) (marked_entity x s)

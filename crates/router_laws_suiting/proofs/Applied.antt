@@ -58,7 +58,7 @@ all_apply s x sound deployed p spelled small head found is room =
     (delivery_guarded s x.activity x.event x.entity x.delivered is) room
 
 -- what a receipt tells of its delivery
-receipt_delivered : (s : State) (a : ℕ) (x : Receipt) → delivery_at s a ≡ Some x → delivered_in s x.activity x.event x.entity ≡ Some x.delivered
+pub receipt_delivered : (s : State) (a : ℕ) (x : Receipt) → delivery_at s a ≡ Some x → delivered_in s x.activity x.event x.entity ≡ Some x.delivered
 receipt_delivered s a x is = by_pair (receives_at s a) is
   where
     some_same : {X : Type 0} {y z : X} → Some y ≡ Some z → y ≡ z

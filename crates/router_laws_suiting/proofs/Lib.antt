@@ -9,6 +9,7 @@ pub mod TypedBlocks
 pub mod TypedScripts
 pub mod BlockScripts
 pub mod TypedPrograms
+pub mod Counting
 pub mod ToldByStates
 pub mod StandingEffects
 pub mod Deliveries

@@ -16,9 +16,14 @@ use Rattle.script_meaning.specs.declared.seen.Seen.TheVariants as seen
 use Rattle.script_laws.specs.References.{Reference, ToActivity, ToEntity, in_value}
 use Rattle.script_laws.specs.Told.{in_answer, in_values}
 use Rattle.deploy_model.specs.Deployed.{table_attributes, table_named}
+use Rattle.router_laws.proofs.ListRules.{in_filter}
+use Rattle.router_laws.proofs.RisingLemmas.{filter_rises, order_from_rises}
 use Rattle.router_laws.specs.Forest.{IsIn}
 use Rattle.router_laws_sound.proofs.SoundBase.{found_passes}
 use Rattle.router_laws_sound.proofs.SoundEntities.{passes_in}
+use Rattle.router_laws_sound.proofs.SoundLinks.{link_joins}
+use Rattle.router_laws_sound.proofs.SoundRemoval.{entity_joins}
+use Rattle.router_laws_suiting.proofs.Counting.{all_from_in, fewer_than, rise_of_one}
 use Rattle.router_laws_suiting.specs.Known.{IsDrawn, IsSmall}
 use Rattle.router_laws_values.specs.Spelled.{AnswerSpelled, IsSpelled}
 use Rattle.router_state.specs.Contexts.{activities_of, activity_at, attribute_at, attribute_before, link_before, name_before, named_at}
@@ -65,14 +70,6 @@ all_kept P test (x ∷ xs) each = by (test x) (all_kept P test xs (λ y here. ea
 all_mapped : {X Y : Type 0} (P : Y → Type 0) (f : X → Y) (xs : List X) → AllByRecursion (λ x. P (f x)) xs → AllByRecursion P (map f xs)
 all_mapped P f [] all = tt
 all_mapped P f (x ∷ xs) all = (all.0, all_mapped P f xs all.1)
-
-fewer : {X : Type 0} (test : X → Bool) (xs : List X) → length (filter test xs) ≤ length xs
-fewer test [] = omega arith
-fewer test (x ∷ xs) = let more = fewer test xs in by (test x) more
-  where
-    by : (b : Bool) → length (filter test xs) ≤ length xs → length (cond b (x ∷ filter test xs) (filter test xs)) ≤ length (x ∷ xs)
-    by true more = omega (arith, more)
-    by false more = omega (arith, more)
 
 same_length : {X Y : Type 0} (f : X → Y) (xs : List X) → length (map f xs) ≡ length xs
 same_length f [] = refl
@@ -218,6 +215,51 @@ module _ (s : State) (sound : IsSound s) where
           let passes = passes_in (is_link_row s.entities s.activities) s.links l there (and_parts (rises_by link_before s.links) _ sound.links).1 in
           activity_drawn l.activity.0 (and_parts (is_some (entity_at s.entities l.entity.0)) _ passes).1
 
+  -- rows that are fewer than the numbers that were drawn
+
+  entity_between : (row : Entity) → IsIn row s.entities → (1 ≤ row.number.0) × (row.number.0 < s.next_entity)
+  entity_between row there =
+      let passes = passes_in (is_entity_row s.deployment s.entities s.next_entity) s.entities row there (and_parts (rises_in (λ (r : Entity). r.number.0) s.entities) _ sound.entities).1 in
+      let drawn = and_parts (nat_lt 0 row.number.0) (nat_lt row.number.0 s.next_entity) (and_parts (is_drawn s.next_entity row.number.0) _ passes).0 in
+      (ltb-true 0 row.number.0 drawn.0, ltb-true row.number.0 s.next_entity drawn.1)
+
+  few_children : (test : Entity → Bool) → length (filter test s.entities) + 1 ≤ s.next_entity
+  few_children test =
+      let rows = filter test s.entities in
+      let rises = and_parts (rises_in (λ (r : Entity). r.number.0) s.entities) _ sound.entities in
+      fewer_than (λ (r : Entity). r.number.0) 1 s.next_entity rows (ltb-true 0 s.next_entity (and_parts (nat_lt 0 s.next_entity) _ sound.next_entity).0)
+      (order_from_rises (λ (x y : Entity). nat_lt x.number.0 y.number.0) entity_joins rows (filter_rises (λ (x y : Entity). nat_lt x.number.0 y.number.0) entity_joins test s.entities rises.0))
+      (all_from_in (λ (r : Entity). 1 ≤ r.number.0) rows (λ r there. (entity_between r (in_filter test r s.entities there).0).0))
+      (all_from_in (λ (r : Entity). r.number.0 < s.next_entity) rows (λ r there. (entity_between r (in_filter test r s.entities there).0).1))
+
+  activity_between : (a : ℕ) → is_some (activity_at s.activities a) ≡ true → (1 ≤ a) × (a < s.next_activity)
+  activity_between a there =
+      let row = some_there (activity_at s.activities a) there in
+      let rows = (and_parts (list_all (is_activity_row s.deployment s.next_activity) s.activities) _ (and_parts (rises_in (λ (r : Activity). r.number.0) s.activities) _ sound.activities).1).0 in
+      let both = found_passes (is_activity_row s.deployment s.next_activity) (λ (r : Activity). r.number.0 == a) s.activities row.0 row.1 rows in
+      subst (λ k. (1 ≤ k) × (k < s.next_activity)) (eqb-true row.0.number.0 a both.1) (between row.0 both.0)
+    where
+      between : (row : Activity) → is_activity_row s.deployment s.next_activity row ≡ true → (1 ≤ row.number.0) × (row.number.0 < s.next_activity)
+      between row is =
+          let drawn = and_parts (nat_lt 0 row.number.0) (nat_lt row.number.0 s.next_activity) (and_parts (is_drawn s.next_activity row.number.0) _ is).0 in
+          (ltb-true 0 row.number.0 drawn.0, ltb-true row.number.0 s.next_activity drawn.1)
+
+  link_between : (l : Link) → IsIn l s.links → (1 ≤ l.activity.0) × (l.activity.0 < s.next_activity)
+  link_between l there =
+      let passes = passes_in (is_link_row s.entities s.activities) s.links l there (and_parts (rises_by link_before s.links) _ sound.links).1 in
+      activity_between l.activity.0 (and_parts (is_some (entity_at s.entities l.entity.0)) _ passes).1
+
+  few_links : (e : ℕ) → length (filter (λ (l : Link). l.entity.0 == e) s.links) + 1 ≤ s.next_activity
+  few_links e =
+      let test : Link → Bool = λ l. l.entity.0 == e in
+      let rows = filter test s.links in
+      let rises = and_parts (rises_by link_before s.links) _ sound.links in
+      fewer_than (λ (l : Link). l.activity.0) 1 s.next_activity rows (ltb-true 0 s.next_activity (and_parts (nat_lt 0 s.next_activity) _ sound.next_activity).0)
+      (rise_of_one e rows (all_from_in (λ (l : Link). (l.entity.0 == e) ≡ true) rows (λ l there. (in_filter test l s.links there).1))
+      (order_from_rises link_before link_joins rows (filter_rises link_before link_joins test s.links rises.0)))
+      (all_from_in (λ (l : Link). 1 ≤ l.activity.0) rows (λ l there. (link_between l (in_filter test l s.links there).0).0))
+      (all_from_in (λ (l : Link). l.activity.0 < s.next_activity) rows (λ l there. (link_between l (in_filter test l s.links there).0).1))
+
   -- and has a spelling
   pub told_spelled : IsSmall s → (key : Key) → AnswerSpelled (answers_in s key)
   told_spelled small (keys.Next a) = tt
@@ -226,10 +268,10 @@ module _ (s : State) (sound : IsSound s) where
       by : (o : Option Value) → field_at s.fields e.0 name ≡ o → AnswerSpelled (Some (seen.Held o))
       by None is = tt
       by (Some v) is = value_spelled s.next_activity s.next_timer v (field_value e.0 name v is)
-  told_spelled small (keys.Children e relation) = under (filter (λ (row : Entity). is_child_of e.0 relation row.stem) s.entities) (fewer (λ (row : Entity). is_child_of e.0 relation row.stem) s.entities)
+  told_spelled small (keys.Children e relation) = under (filter (λ (row : Entity). is_child_of e.0 relation row.stem) s.entities) (few_children (λ (row : Entity). is_child_of e.0 relation row.stem))
     where
-      under : (rows : List Entity) → length rows ≤ length s.entities → length (map number_of rows) < 2 ^ 62
-      under rows le = let same = same_length number_of rows in let few = small.entities in omega (arith, same, le, few)
+      under : (rows : List Entity) → length rows + 1 ≤ s.next_entity → length (map number_of rows) < 2 ^ 62
+      under rows le = let same = same_length number_of rows in let most = small.entities in omega (arith, same, le, most)
   told_spelled small (keys.Priority e) = by (entity_at s.entities e.0) refl
     where
       by : (o : Option Entity) → entity_at s.entities e.0 ≡ o → is_i64 (option_map_or (λ (row : Entity). row.priority) o (pos 0)) ≡ true
@@ -253,7 +295,7 @@ module _ (s : State) (sound : IsSound s) where
       by None is = tt
       by (Some fields) is = values_spelled s.next_activity s.next_timer fields (row_values (table_named s.deployment table) row fields is)
   told_spelled small keys.Now = clock_spelled s.clock sound.clock
-  told_spelled small (keys.Activities e) = under (filter (λ (l : Link). l.entity.0 == e.0) s.links) (fewer (λ (l : Link). l.entity.0 == e.0) s.links)
+  told_spelled small (keys.Activities e) = under (filter (λ (l : Link). l.entity.0 == e.0) s.links) (few_links e.0)
     where
-      under : (links : List Link) → length links ≤ length s.links → length (map (λ (l : Link). l.activity.0) links) < 2 ^ 62
-      under links le = let same = same_length (λ (l : Link). l.activity.0) links in let few = small.links in omega (arith, same, le, few)
+      under : (links : List Link) → length links + 1 ≤ s.next_activity → length (map (λ (l : Link). l.activity.0) links) < 2 ^ 62
+      under links le = let same = same_length (λ (l : Link). l.activity.0) links in let most = small.activities in omega (arith, same, le, most)

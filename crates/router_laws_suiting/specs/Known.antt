@@ -1,5 +1,5 @@
 -- What a run is told of was drawn before it.
-use Rattle.std.specs.Prelude.{ℕ, ◌<◌, ◌^◌, length}
+use Rattle.std.specs.Prelude.{ℕ, ◌<◌, ◌≤◌, ◌^◌}
 use Rattle.slee_effect.specs.declared.reference.Ref.TheVariants.{Known, Fresh}
 use Rattle.script_laws.specs.References.{Reference, ToActivity, ToEntity, ToTimer}
 use Rattle.router_state.specs.State.{State}
@@ -18,7 +18,7 @@ IsDrawn s (ToActivity (Known n)) = n < s.next_activity
 IsDrawn s (ToTimer (Known n)) = n < s.next_timer
 IsDrawn s _ = ⊥
 
--- fewer than 2^62 entities, and as many attachments
+-- the next numbers of entities and activities are at most 2^62, as in each state that isn't used up
 pub record IsSmall (s : State) : Type 0 where
-  pub entities : length s.entities < 2 ^ 62
-  pub links : length s.links < 2 ^ 62
+  pub entities : s.next_entity ≤ 2 ^ 62
+  pub activities : s.next_activity ≤ 2 ^ 62

@@ -29,8 +29,8 @@ pub fn effects_of_scripts_are_typed()
 {}
 
 /// Each effect of every delivery applies at its turn, so none is left out: over a sound state of a deployment whose program is that
-/// of its checked scripts, whose constants have spellings, with fewer than 2^62 entities and attachments, where the numbers that
-/// come next behind it have 64 bits.
+/// of its checked scripts, whose constants have spellings, whose next numbers of entities and activities are at most 2^62, where the
+/// numbers that come next behind it have 64 bits.
 pub fn effects_of_deliveries_apply()
     ensures { (s : State) (a : ℕ) (x : Receipt) → IsSound s → IsDeployed s.deployment → IsProgrammed s.deployment s.program → AreSpelled s.program → IsSmall s → delivery_at s a ≡ Some x → HasRoom (after_effects (resolved_in s x.delivered.effects) (marked_entity x s)) → Apply x.entity.number.0 (resolved_in s x.delivered.effects) (marked_entity x s) }
 {}

@@ -1,0 +1,9 @@
+pub mod Signals
+pub mod Numbers
+pub mod Rooms
+pub mod About
+pub mod Runs
+pub mod HeadingLemmas
+pub mod EndLemmas
+pub mod Applied
+pub mod Laws

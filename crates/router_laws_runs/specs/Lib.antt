@@ -1,0 +1,3 @@
+pub mod AsRead
+pub mod Headings
+pub mod Applied
