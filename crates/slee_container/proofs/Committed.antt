@@ -1,16 +1,13 @@
 -- What the attempt at a claim came to, and how its commit ends.
-use Rattle.std.proofs.Common.{◌≡◌, ℕ, true, false, List, Option, Some, None, refl, sym, ◌∙◌, ap, subst, Result, Ok, Err, IsTrue}
-use Rattle.deploy_model.specs.declared.parts.Parts.{Parts}
+use Rattle.std.proofs.Common.{◌≡◌, ℕ, true, false, List, Some, None, refl, sym, ◌∙◌, ap, subst, Ok, Err}
 use Rattle.script_types.specs.Program.{Program}
-use Rattle.script_types.specs.ProgramOf.{kept_program}
-use Rattle.script_types.specs.declared.codes.Codes.{Codes}
 use Rattle.slee_descriptor.specs.declared.deployment.Deployment.{Deployment}
 use Rattle.slee_disk.specs.Disk.{DiskState}
 use Rattle.slee_value.specs.declared.ids.ActivityId.{ActivityId}
 use Rattle.handler_run.specs.Views.{conflict}
 use Rattle.rollback_calls.specs.declared.delivered.Delivered.{Delivered}
 use Rattle.trace_history.specs.declared.choice.Choice.TheVariants as choices
-use Rattle.router_state.specs.Look.{look, next_delivery}
+use Rattle.router_state.specs.Look.{look}
 use Rattle.router_state.specs.State.{State}
 use Rattle.router_steps.specs.Steps.{is_delivery, is_next_by}
 use Rattle.router_core.specs.States.{IsOwn}

@@ -1,21 +1,17 @@
 -- How steps of a container end, by those of its router.
-use Rattle.std.proofs.Common.{◌≡◌, ℕ, Bool, true, false, if◌then◌else◌, List, [], ◌∷◌, length, refl, arith, ◌+◌, sym, ◌∙◌, ap, subst, Option, Some, None, Result, Ok, Err, IsTrue, IsErr}
+use Rattle.std.proofs.Common.{◌≡◌, ℕ, Bool, true, false, if◌then◌else◌, List, [], length, refl, arith, ◌+◌, sym, ◌∙◌, ap, subst, Some, Result, Ok, Err, IsTrue}
 use Rattle.signal_script.specs.declared.signal.Signal.{Signal}
-use Rattle.slee_disk.specs.Causes.{Rose}
-use Rattle.slee_disk.specs.Disk.{DiskState, LeavesOnly}
+use Rattle.slee_disk.specs.Disk.{DiskState}
 use Rattle.trace_history.specs.Histories.{input_of}
 use Rattle.trace_history.specs.declared.choice.Choice.{Choice}
-use Rattle.trace_history.specs.declared.choice.Choice.TheVariants as choices
-use Rattle.router_state.specs.State.{is_used_up}
-use Rattle.router_durable.specs.Core.{Flushes as FlushesInRouter, Held, Makes as MakesInRouter, Stepped, state_held}
-use Rattle.router_durable.specs.Facts.{IsCrashSafe, Origin, RestartsIn}
+use Rattle.router_durable.specs.Core.{Flushes as FlushesInRouter, Held, Makes as MakesInRouter}
+use Rattle.router_durable.specs.Facts.{IsCrashSafe, Origin}
 use Rattle.router_durable.specs.declared.fault.StepFault.{StepFault}
 use Rattle.router_durable.specs.declared.fault.StepFault.TheVariants as faults
 use Rattle.router_durable.specs.declared.fault.Stop.TheVariants as stops
 use Rattle.router_durable.proofs.Steps.{refused_makes}
 use Rattle.tx_attempt.specs.declared.ticket.Ticket.{Ticket}
-use Rattle.slee_container.specs.Claims.{without_claim}
-use Rattle.slee_container.specs.Container.{Setup, View, held_in, over_router, state_of}
+use Rattle.slee_container.specs.Container.{Setup, View, held_in, over_router}
 use Rattle.slee_container.specs.Steps.{Ends, Flushes, Makes, MakesWith, claims_after, is_made, is_spent, taken_after}
 
 -- the router says how it ends, where it isn't refused as spent

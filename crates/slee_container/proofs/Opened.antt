@@ -1,5 +1,5 @@
 -- A container that was just opened, and what is true of any.
-use Rattle.std.proofs.Common.{◌≡◌, ℕ, ◌≤◌, nat_le, Bool, true, false, if◌then◌else◌, List, [], ◌∷◌, ◌++◌, append-nil, length, take, refl, sym, ◌∙◌, ap, subst, arith, inl, inr}
+use Rattle.std.proofs.Common.{◌≡◌, ℕ, ◌≤◌, nat_le, List, [], ◌∷◌, ◌++◌, append-nil, length, take, refl, sym, ◌∙◌, ap, subst, arith, inl, inr}
 use Rattle.std.proofs.lemmas.Bool.{cases_Bool, leb-false}
 use Rattle.deploy_model.specs.declared.parts.Parts.{Parts}
 use Rattle.script_types.specs.declared.codes.Codes.{Codes}
@@ -17,8 +17,8 @@ use Rattle.router_durable.specs.Facts.{Origin, base_of, initial_of}
 use Rattle.router_durable.specs.Opening.{Opens}
 use Rattle.router_durable.specs.Recovery.{choices_in}
 use Rattle.tx_attempt.specs.declared.ticket.Ticket.{Ticket}
-use Rattle.slee_container.specs.Claims.{AreDrawn, HoldsClaims}
-use Rattle.slee_container.specs.Container.{IsKept, IsSteady, TakesLines, View, held_in, over_router, state_of}
+use Rattle.slee_container.specs.Claims.{AreDrawn}
+use Rattle.slee_container.specs.Container.{IsKept, IsSteady, TakesLines, View, over_router}
 use Rattle.slee_container.specs.Opening.{Starts, skipped_by}
 use Rattle.slee_container.specs.declared.container.Limits.{Limits}
 use Rattle.slee_container.specs.declared.container.Mode.{Mode}

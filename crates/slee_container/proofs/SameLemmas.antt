@@ -1,15 +1,11 @@
 -- Tickets that are told to be the same are one.
-use Rattle.std.proofs.Common.{◌≡◌, ℕ, Bool, true, false, true≢false, ◌==◌, ◌&&◌, ◌||◌, List, [], ◌∷◌, Option, Some, None, refl, sym, ◌∙◌, ap, subst, inl, inr, arith, IsTrue}
+use Rattle.std.proofs.Common.{◌≡◌, ℕ, Bool, true, false, ◌==◌, ◌&&◌, List, [], ◌∷◌, Option, Some, None, refl, ◌∙◌, ap, subst, inl, inr, arith}
 use Rattle.std.specs.Prelude.{bytes_eq}
 use Rattle.std.proofs.lemmas.Bool.{cases_Bool}
 use Rattle.std.proofs.lemmas.Bool.Decides.{nat_tests}
 use Rattle.std.proofs.lemmas.Slice.Eq.{bytes_eq-Decides}
-use Rattle.slee_value.specs.declared.ids.ActivityId.{ActivityId}
-use Rattle.slee_value.specs.declared.ids.EntityId.{EntityId}
-use Rattle.slee_value.specs.declared.ids.EventId.{EventId}
 use Rattle.slee_value.specs.declared.value.Value.{Value}
 use Rattle.script_meaning.specs.Same.{same_field, same_list, same_option}
-use Rattle.script_meaning.specs.declared.seen.Seen.{Seen}
 use Rattle.script_meaning.specs.declared.seen.Seen.TheVariants as seens
 use Rattle.router_state.specs.declared.rows.Event.{Event}
 use Rattle.tx_attempt.specs.declared.ticket.Ticket.{Ticket}

@@ -15,7 +15,6 @@ use Rattle.router_state.specs.declared.rows.Event.{Event}
 use Rattle.router_steps.specs.Steps.{is_delivery, is_next_by}
 use Rattle.router_core.specs.Delivering.{IsTicket}
 use Rattle.tx_attempt.specs.declared.ticket.Ticket.{Ticket}
-use Rattle.router_core.specs.States.{IsOwn}
 use Rattle.router_core.proofs.TicketLemmas.{ticket_block}
 use Rattle.deploy_model.specs.declared.parts.Parts.{Parts}
 use Rattle.rollback_calls.specs.Deliveries.{Handles}

@@ -1,5 +1,5 @@
 -- What is to be done next.
-use Rattle.std.specs.Prelude.{◌≡◌, ℕ, ◌<◌, ◌==◌, nat_le, not, ◌&&◌, ◌||◌, is_some, length, Bool, false, if◌then◌else◌, [], None, Some, ⊤}
+use Rattle.std.specs.Prelude.{◌≡◌, ◌<◌, ◌==◌, nat_le, not, ◌&&◌, ◌||◌, is_some, length, Bool, false, if◌then◌else◌, [], None, Some, ⊤}
 use Rattle.std.specs.Option.{option_map_or}
 use Rattle.router_state.specs.Next.{least, next}
 use Rattle.router_state.specs.State.{is_used_up}

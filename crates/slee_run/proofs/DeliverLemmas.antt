@@ -13,6 +13,7 @@ use Rattle.script_meaning.specs.declared.seen.Seen.TheVariants as seens
 use Rattle.handler_run.specs.Views.{Holds, conflict, holds_at}
 use Rattle.rollback_calls.specs.Deliveries.{Handles}
 use Rattle.rollback_calls.specs.Prepared.{CanDeliver, delivery_over}
+use Rattle.rollback_calls.specs.declared.prepared.PreparedDelivery.{PreparedDelivery}
 use Rattle.router_state.specs.Look.{look, next_delivery}
 use Rattle.router_state.specs.Next.{next}
 use Rattle.router_state.specs.State.{State}
@@ -94,6 +95,12 @@ none_by seen_at pair known is none =
 pub unconflicting : (seen_at : Key → Seen) (known : List (Key × Seen)) → Holds seen_at known → conflict seen_at known ≡ None
 unconflicting seen_at [] holds = refl
 unconflicting seen_at (pair ∷ known) holds = none_by seen_at pair known holds.0 (unconflicting seen_at known holds.1)
+
+-- the same attempt has asked for the same
+pub same_asked : (program : Program) (a b : Attempt) → IsSameTask a b → HasAsked program a → HasAsked program b
+same_asked program a b same asked =
+    subst (asked_for (λ answers. lacked_by (delivery_over program b.delivery answers))) (sym same.known)
+    (subst (λ (d : PreparedDelivery). asked_for (λ answers. lacked_by (delivery_over program d answers)) a.known) (sym same.delivery) asked)
 
 -- it came to its end
 pub whole_tried : (program other : Program) (s : State) (t : Ticket) (a b : Attempt) → program ≡ other → IsTried program s t a → IsSameTask a b → IsDone program b → IsTriedWhole other s t b

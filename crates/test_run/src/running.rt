@@ -62,6 +62,51 @@ pub fn run(
     run_on(alloc, words, deploy, signals, out, disk)
 }
 
+/// What a run is given. It is let go in one place.
+struct Given {
+    deploy: MemorySource,
+    signals: MemorySource,
+    out: MemorySink,
+    disk: MemoryDisk,
+}
+
+impl Drop for Given {
+    fn drop(self) {
+        let Self {
+            deploy: _,
+            signals: _,
+            out: _,
+            disk: _,
+        } = self;
+    }
+}
+
+impl Given {
+    /// Runs words on it, with these selectors.
+    fn run(self, alloc: Global, words: &[&str], selectors: &Selectors) -> Ran {
+        let Self {
+            mut deploy,
+            mut signals,
+            mut out,
+            disk,
+        } = self;
+        let (status, disk) = run_one(
+            alloc,
+            words,
+            &mut deploy,
+            &mut signals,
+            &mut out,
+            disk,
+            selectors,
+        );
+        Ran {
+            code: status.code(),
+            out,
+            disk,
+        }
+    }
+}
+
 /// Runs words on a deployment that comes from a source.
 pub fn run_on(
     alloc: Global,
@@ -71,6 +116,17 @@ pub fn run_on(
     out: MemorySink,
     disk: MemoryDisk,
 ) -> Result<Ran, NoMemory> {
+    let given = Given {
+        deploy,
+        signals,
+        out,
+        disk,
+    };
+    run_given(alloc, words, given)
+}
+
+/// Runs words on what it is given, with the selectors of all rules.
+fn run_given(alloc: Global, words: &[&str], given: Given) -> Result<Ran, NoMemory> {
     let whole = Box::new(alloc, move |text: &[u8]| {
         custom_name(alloc, SelectRule::Whole, text)
     })?;
@@ -89,36 +145,7 @@ pub fn run_on(
         Selector::new(SelectRule::Scheme, scheme),
         Selector::new(SelectRule::Screened, screened),
     );
-    Ok(run_selecting(alloc, words, deploy, signals, out, disk, &selectors))
-}
-
-/// Runs words on a deployment that comes from a source, with these selectors.
-fn run_selecting(
-    alloc: Global,
-    words: &[&str],
-    deploy: MemorySource,
-    signals: MemorySource,
-    out: MemorySink,
-    disk: MemoryDisk,
-    selectors: &Selectors,
-) -> Ran {
-    let mut deploy = deploy;
-    let mut signals = signals;
-    let mut out = out;
-    let (status, disk) = run_one(
-        alloc,
-        words,
-        &mut deploy,
-        &mut signals,
-        &mut out,
-        disk,
-        selectors,
-    );
-    Ran {
-        code: status.code(),
-        out,
-        disk,
-    }
+    Ok(given.run(alloc, words, &selectors))
 }
 
 /// Which reads of the lines and which writes of the text fail: the k-th where the k-th is 1.

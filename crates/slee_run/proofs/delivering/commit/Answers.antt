@@ -1,4 +1,4 @@
-use Rattle.std.proofs.Common.{sym, subst, Result, Err, ℕ}
+use Rattle.std.proofs.Common.{sym, subst, Ok, Err}
 use Rattle.router_durable.specs.declared.fault.StepFault.{StepFault}
 use Rattle.trace_history.specs.declared.choice.Choice.TheVariants as choices
 use Rattle.slee_run.specs.Playing.{Moves}
@@ -12,7 +12,7 @@ pub step_fault_of-requires : goal.step_fault_of-requires
 step_fault_of-requires g c = of_step c.args.container.now c.commit.new.self c.args.ticket.now c.args.attempt.now _ _ c.in-Err.fault c.requires.seen c.in-Err.ensures
 
 pub returns-in-Ok-clause-setup : goal.returns-in-Ok-clause-setup
-returns-in-Ok-clause-setup g c = commit_setup c.args.container.now c.commit.new.self c.args.ticket.now c.args.attempt.now _ _ _ c.in-Ok.ensures
+returns-in-Ok-clause-setup g c = commit_setup c.args.container.now c.commit.new.self c.args.ticket.now c.args.attempt.now _ _ (Ok c.in-Ok.number) c.in-Ok.ensures
 
 pub returns-in-Ok-clause-moves : goal.returns-in-Ok-clause-moves
 returns-in-Ok-clause-moves g c = committed c.args.container.now c.commit.new.self c.args.ticket.now c.args.attempt.now _ _ c.in-Ok.number c.requires.claims c.in-Ok.ensures

@@ -5,9 +5,8 @@ use Rattle.script_types.specs.Program.{Program}
 use Rattle.script_types.specs.ProgramOf.{kept_program}
 use Rattle.rollback_calls.specs.Deliveries.{Handles}
 use Rattle.tx_attempt.specs.Attempts.{Progresses}
-use Rattle.tx_attempt.proofs.AskingLemmas.{same_asked}
 use Rattle.slee_container.specs.Container.{state_of}
-use Rattle.slee_run.proofs.DeliverLemmas.{begins, deliverable, learns, program_is, whole_tried}
+use Rattle.slee_run.proofs.DeliverLemmas.{begins, deliverable, learns, program_is, same_asked, whole_tried}
 use Rattle.slee_run.proofs.delivering.try_whole.Goals as goal
 
 pub asking-init : goal.asking-init

@@ -20,6 +20,7 @@ pub returns-in-Ok-clause-write : goal.returns-in-Ok-clause-write
 returns-in-Ok-clause-write g c = λ is. write_failed g.K.Sink.contents g.K.Sink.faults _ _ _ c.write_whole.result statuses.Ok _ c.write_whole.ensures c.status_written.ensures.ok (λ e. cc) is
 
 pub returns-in-Ok-clause-quiet : goal.returns-in-Ok-clause-quiet
+unfolding returns-in-Ok-clause-lines
 returns-in-Ok-clause-quiet g c =
     let out = (returns-in-Ok-clause-lines g c).output in
     ((λ is. let never : statuses.Ok ≡ statuses.ReadFault = told_as _ _ _ _ _ out (λ e. cc) ∙ is in cc), (λ is. let never : statuses.Ok ≡ statuses.TooLarge givens.Deploy = told_as _ _ _ _ _ out (λ e. cc) ∙ is in cc))

@@ -32,7 +32,7 @@ finish-status-requires-clause-reached g c = subst (λ (s : Status). IsReachedTim
 
 pub returns-in-Err-clause-played : goal.returns-in-Err-clause-played
 returns-in-Err-clause-played g c =
-    refused_played _ _ _ (g.D.Disk.disk c.args.disk) (g.D.Disk.disk c.in-Err.disk) c.in-Err.fault _ _ c.status_of.ensures c.requires.given.within c.in-Err.ensures c.refuse.ensures.output
+    refused_played _ _ _ (g.D.Disk.disk c.args.disk) (g.D.Disk.disk c.in-Err.disk) c.in-Err.fault _ _ c.status_of.ensures c.requires.given.within c.in-Err.ensures.refused c.refuse.ensures.output
     c.args.run.mode c.args.run.steps c.args.run.report c.args.lines.now
 
 pub returns-in-Err-clause-write : goal.returns-in-Err-clause-write

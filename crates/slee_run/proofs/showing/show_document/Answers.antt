@@ -8,7 +8,7 @@ open-requires-clause-own g c = own_read c.args.bytes.now c.args.deployment.now c
 
 pub returns-in-Err-clause-shown : goal.returns-in-Err-clause-shown
 returns-in-Err-clause-shown g c =
-    refused_shown _ _ _ (g.D.Disk.disk c.args.disk) (g.D.Disk.disk c.in-Err.disk) c.in-Err.fault _ _ c.status_of.ensures c.requires.given.within c.in-Err.ensures c.refuse.ensures.output
+    refused_shown _ _ _ (g.D.Disk.disk c.args.disk) (g.D.Disk.disk c.in-Err.disk) c.in-Err.fault _ _ c.status_of.ensures c.requires.given.within c.in-Err.ensures.refused c.refuse.ensures.output
 
 pub returns-in-Err-clause-write : goal.returns-in-Err-clause-write
 returns-in-Err-clause-write g c = λ is. c.refuse.ensures.write (λ e. refused_unwritten c.in-Err.fault (sym c.status_of.ensures ∙ e)) is

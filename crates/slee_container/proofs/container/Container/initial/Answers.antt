@@ -1,4 +1,4 @@
-use Rattle.std.proofs.Common.{◌≡◌, sym, ◌∙◌, subst, refl, false, true}
+use Rattle.std.proofs.Common.{◌≡◌, sym, ◌∙◌, subst, refl, true}
 use Rattle.router_steps.specs.Steps.{is_enabled}
 use Rattle.trace_history.specs.declared.choice.Choice.TheVariants as choices
 use Rattle.slee_container.specs.Container.{state_of}

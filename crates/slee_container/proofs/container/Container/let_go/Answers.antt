@@ -1,4 +1,4 @@
-use Rattle.std.proofs.Common.{◌≡◌, ◌∙◌, ap, sym, subst, List}
+use Rattle.std.proofs.Common.{◌∙◌, ap, sym, subst, List}
 use Rattle.router_durable.specs.Core.{state_held}
 use Rattle.tx_attempt.specs.declared.ticket.Ticket.{Ticket}
 use Rattle.slee_container.specs.Claims.{activities_of}
