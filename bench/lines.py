@@ -5,17 +5,19 @@
     python3 bench/lines.py --cmd PROGRAM    with another program
     python3 bench/lines.py --small          a tenth of the lines
 
-Tables: `starts`, n, 2n and 4n lines of `start` (all activities stay alive); `calls`, calls of three lines one after
-another; `reading`, megabytes a second of reading alone, in processor time, by the program bench_lines (build it first:
+It plays the call service of examples/restart. Tables: `starts`, n, 2n and 4n lines of `start` (all activities stay alive); `calls`, calls of three lines one after
+another; `trial`, 100,000 generated lines of examples/prepaid; `reading`, megabytes a second of reading alone, in processor time, by the program bench_lines (build it first:
 cd crates/bench_lines && rt run -- 1 < stdin), and in wall time by runs of one entry; `memory`, the memory and the user time of 180,000
 lines with 480,000 entries; `alive`, the cost of a step while 10, 1,000 and 10,000 calls are alive; `files`, entries a second over real files
-in the current folder, and how much of that is waiting for the disk; `opening`, the time of `show` as the journal grows.
+in the current folder, and how much of that is waiting for the disk; `bare`, playing 180,000 lines and a trial over real files in the current
+folder, beside writing the same bytes of journal and trace there and syncing them; `opening`, the time of `show` as the journal grows.
 Times are the least of three runs. All but `files` run in a folder in memory where there is one, so that the journal's
 syncs cost nothing there.
 """
 import argparse
 import os
 import resource
+import shutil
 import subprocess
 import sys
 import tempfile
@@ -23,12 +25,23 @@ import time
 
 
 MEMORY = "/dev/shm" if os.path.isdir("/dev/shm") else None
-LINE_BENCH = os.path.join(os.path.dirname(os.path.abspath(__file__)), "..", "crates", "bench_lines", "out", "bench_lines")
+TOP = os.path.join(os.path.dirname(os.path.abspath(__file__)), "..")
+LINE_BENCH = os.path.join(TOP, "crates", "bench_lines", "out", "bench_lines")
+CALLS = os.path.join(TOP, "examples", "restart", "deploy.json")
+PREPAID = os.path.join(TOP, "examples", "prepaid", "deploy.json")
+TRIAL = ["trial", "7", "100000"]
+PLAY = ["play", "1", "1000000"]
 
 
-def run(command, words, lines, where=MEMORY):
-    """Seconds, peak memory in KiB, status and last line of one run in an empty folder."""
+def deploy(folder, deployment):
+    """Gives a folder its deployment."""
+    shutil.copy(deployment, os.path.join(folder, "deploy.json"))
+
+
+def run(command, words, lines, where=MEMORY, deployment=CALLS):
+    """Seconds, peak memory in KiB, status and last line of one run in a folder that has the deployment alone."""
     with tempfile.TemporaryDirectory(dir=where) as folder:
+        deploy(folder, deployment)
         with open(os.path.join(folder, "signals"), "wb") as f:
             f.write(lines)
         with open(os.path.join(folder, "signals"), "rb") as given, open(os.path.join(folder, "out"), "wb") as out:
@@ -44,8 +57,8 @@ def run(command, words, lines, where=MEMORY):
         return took, usage.ru_maxrss, os.waitstatus_to_exitcode(status), last
 
 
-def best(command, words, lines, times=3, where=MEMORY):
-    found = min((run(command, words, lines, where) for _ in range(times)), key=lambda r: r[0])
+def best(command, words, lines, times=3, where=MEMORY, deployment=CALLS):
+    found = min((run(command, words, lines, where, deployment) for _ in range(times)), key=lambda r: r[0])
     if found[2] not in (0, 11):
         sys.exit(f"status {found[2]}: {found[3]}")
     return found
@@ -78,11 +91,52 @@ def calls(command, small):
     print(f"the cost of a line varies {max(costs) / min(costs):.2f} times")
 
 
+def trial(command, small):
+    print("trial: generated lines of examples/prepaid")
+    print(f"{'lines':>9} {'ms':>9} {'us/line':>9} {'KiB':>9}")
+    for n in [s // (10 if small else 1) for s in (10_000, 100_000)]:
+        took, memory, status, last = best(command, ["trial", "7", str(n)], b"", deployment=PREPAID)
+        print(f"{n:>9} {took * 1e3:>9.1f} {took / n * 1e6:>9.2f} {memory:>9}  {last}")
+
+
+def bare_seconds(sizes):
+    """The least time of three in which files of these sizes are written here and synced."""
+    found = []
+    for _ in range(3):
+        with tempfile.TemporaryDirectory(dir=".") as folder:
+            begun = time.perf_counter()
+            for number, size in enumerate(sizes):
+                handle = os.open(os.path.join(folder, str(number)), os.O_CREAT | os.O_WRONLY)
+                block = b"." * 131_072
+                for at in range(0, size, len(block)):
+                    os.write(handle, block[: size - at])
+                    os.fsync(handle)
+                os.close(handle)
+            found.append(time.perf_counter() - begun)
+    return min(found)
+
+
+def bare(command, small):
+    print("bare: a run over real files in this folder, beside a bare write of the same bytes, synced as often as batches are")
+    print(f"{'run':>16} {'bytes':>11} {'ms':>9} {'bare ms':>9} {'times':>7}")
+    for name, words, lines, deployment in (("180,000 lines", PLAY, calls_of(60_000), CALLS), ("trial 7 100000", TRIAL, b"", PREPAID)):
+        with tempfile.TemporaryDirectory(dir=".") as folder:
+            deploy(folder, deployment)
+            with open(os.path.join(folder, "out"), "wb") as out:
+                begun = time.perf_counter()
+                subprocess.run([command, *words], input=lines, cwd=folder, stdout=out)
+                took = time.perf_counter() - begun
+            sizes = [os.path.getsize(os.path.join(folder, it)) for it in ("out", "journal.a", "journal.b") if os.path.exists(os.path.join(folder, it))]
+        plain = bare_seconds(sizes)
+        print(f"{name:>16} {sum(sizes):>11} {took * 1e3:>9.1f} {plain * 1e3:>9.1f} {took / plain:>7.1f}")
+
+
 def user_seconds(command, words, lines):
     """The user time, the peak memory in KiB and the bytes that are written, of the best of three runs."""
     found = []
     for _ in range(3):
         with tempfile.TemporaryDirectory(dir=MEMORY) as folder:
+            deploy(folder, CALLS)
             with open(os.path.join(folder, "signals"), "wb") as f:
                 f.write(lines)
             with open(os.path.join(folder, "signals"), "rb") as given, open(os.path.join(folder, "out"), "wb") as out:
@@ -174,6 +228,7 @@ def opening(command, small):
     print(f"{'entries':>9} {'ms':>9} {'us/entry':>9}")
     for n in [s // (10 if small else 1) for s in (2_000, 10_000, 50_000)]:
         with tempfile.TemporaryDirectory(dir=MEMORY) as folder:
+            deploy(folder, CALLS)
             subprocess.run([command, "play", "1", "1000000"], input=calls_of(n), cwd=folder, capture_output=True, check=True)
             took = []
             for _ in range(3):
@@ -183,7 +238,7 @@ def opening(command, small):
         print(f"{8 * n:>9} {min(took) * 1e3:>9.1f} {min(took) / (8 * n) * 1e6:>9.2f}")
 
 
-TABLES = {"starts": starts, "calls": calls, "reading": reading, "memory": memory, "alive": alive, "files": files, "opening": opening}
+TABLES = {"starts": starts, "calls": calls, "trial": trial, "reading": reading, "memory": memory, "alive": alive, "files": files, "bare": bare, "opening": opening}
 
 
 def main():
@@ -191,7 +246,7 @@ def main():
     parser = argparse.ArgumentParser()
     parser.add_argument("--cmd", default=os.path.join(here, "..", "slee"))
     parser.add_argument("--small", action="store_true")
-    parser.add_argument("tables", nargs="*", default=["starts", "calls", "reading", "memory", "alive", "files", "opening"])
+    parser.add_argument("tables", nargs="*", default=list(TABLES))
     given = parser.parse_args()
     command = os.path.abspath(given.cmd)
     for table in given.tables:
