@@ -1,0 +1,4 @@
+pub mod JsonContents
+pub mod JsonTexts
+pub mod Scripts
+pub mod WholeReadings
