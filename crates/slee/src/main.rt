@@ -2,14 +2,12 @@
 #![tactic(auto)]
 
 mod help;
-mod selecting;
 
 use help::{HELP, VERSION};
-use selecting::run_selecting;
+use initial_select::{SelectRule, Selector, Selectors, custom_name};
 use slee_disk::{HostDisk, HostSink, HostSource, LateFile, write_whole};
-use slee_run::Status;
+use slee_run::{Status, run_one};
 use slee_value::NoMemory;
-use std::alloc::Global;
 use std::fs::File;
 use std::process::ExitCode;
 use std::{env, io};
@@ -68,9 +66,33 @@ fn run_words(rt: &HostRuntime, words: &[String]) -> Result<Status, NoMemory> {
     run(rt, list.as_slice())
 }
 
-/// Calls the top call, on the files of this folder. The system gives the place of a standard stream that is closed to the
-/// next file that is opened: a folder takes it, which can be neither read nor written, and so no file of the journal does.
+/// Calls the top call with a selector of each rule: a closure that answers what the rule gives.
 fn run(rt: &HostRuntime, words: &[&str]) -> Result<Status, NoMemory> {
+    let alloc = rt.alloc();
+    let whole = Box::new(alloc, move |text: &[u8]| {
+        custom_name(alloc, SelectRule::Whole, text)
+    })?;
+    let digits3 = Box::new(alloc, move |text: &[u8]| {
+        custom_name(alloc, SelectRule::Digits3, text)
+    })?;
+    let scheme = Box::new(alloc, move |text: &[u8]| {
+        custom_name(alloc, SelectRule::Scheme, text)
+    })?;
+    let screened = Box::new(alloc, move |text: &[u8]| {
+        custom_name(alloc, SelectRule::Screened, text)
+    })?;
+    let selectors = Selectors::new(
+        Selector::new(SelectRule::Whole, whole),
+        Selector::new(SelectRule::Digits3, digits3),
+        Selector::new(SelectRule::Scheme, scheme),
+        Selector::new(SelectRule::Screened, screened),
+    );
+    Ok(run_on_files(rt, words, &selectors))
+}
+
+/// Calls the top call on the files of this folder. The system gives the place of a standard stream that is closed to the
+/// next file that is opened: a folder takes it, which can be neither read nor written, and so no file of the journal does.
+fn run_on_files(rt: &HostRuntime, words: &[&str], selectors: &Selectors) -> Status {
     let _places = (
         File::open(rt, "/"),
         File::open(rt, "/"),
@@ -80,5 +102,14 @@ fn run(rt: &HostRuntime, words: &[&str]) -> Result<Status, NoMemory> {
     let mut signals = HostSource::new(rt.reader());
     let mut out = HostSink::new(io::writer(rt));
     let disk = HostDisk::new(rt, ".", "journal.a", "journal.b");
-    run_selecting(rt.alloc(), words, &mut deploy, &mut signals, &mut out, disk)
+    let (status, _disk) = run_one(
+        rt.alloc(),
+        words,
+        &mut deploy,
+        &mut signals,
+        &mut out,
+        disk,
+        selectors,
+    );
+    status
 }

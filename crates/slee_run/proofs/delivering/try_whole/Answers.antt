@@ -10,24 +10,24 @@ use Rattle.slee_run.proofs.DeliverLemmas.{begins, deliverable, learns, program_i
 use Rattle.slee_run.proofs.delivering.try_whole.Goals as goal
 
 pub asking-init : goal.asking-init
-asking-init g c = begins (kept_program c.deployment.result.now.codes) (state_of c.args.container.now) c.args.ticket.now c.args.attempt.now c.requires.ticket.ticket c.requires.next c.requires.new
+asking-init g c = begins (kept_program c.deployment-deployment.result.now.codes) (state_of c.args.container.now) c.args.ticket.now c.args.attempt.now c.requires.ticket.ticket c.requires.next c.requires.new
 
 pub run-requires-clause-checked : goal.run-requires-clause-checked
-run-requires-clause-checked g c = c.deployment.ensures.own.deployed.checked
+run-requires-clause-checked g c = c.deployment-deployment.ensures.own.deployed.checked
 
 pub run-requires-clause-handled : goal.run-requires-clause-handled
 run-requires-clause-handled g c =
-    let d = c.deployment.result.now in
+    let d = c.deployment-deployment.result.now in
     let t = c.args.ticket.now in
     deliverable (kept_program d.codes) t c.asking.attempt c.asking.invariant.of
-    (subst (λ (p : Program). Handles p t.block t.event.name) (sym (program_is _ d.parts d.codes c.deployment.ensures.start)) c.requires.ticket.handled)
+    (subst (λ (p : Program). Handles p t.block t.event.name) (sym (program_is _ d.parts d.codes c.deployment-deployment.ensures.start)) c.requires.ticket.handled)
 
 pub run-requires-clause-asked : goal.run-requires-clause-asked
 run-requires-clause-asked g c = c.asking.invariant.asked
 
 pub asking-preserved : goal.asking-preserved
 asking-preserved g c =
-    let program = kept_program c.deployment.result.now.codes in
+    let program = kept_program c.deployment-deployment.result.now.codes in
     let needed = subst (Progresses program c.run.new.self) c.in-Need.is c.in_ok-run.ensures.progress in
     learns program (state_of c.args.container.now) c.args.ticket.now c.asking.attempt c.learn.new.self (c.in-Need.key, c.in_ok-seen-in-Need.seen) c.asking.invariant
     (c.learn.ensures.delivery ∙ c.run.ensures.same.delivery)
@@ -37,7 +37,7 @@ asking-preserved g c =
 
 pub asking-smaller : goal.asking-smaller
 asking-smaller g c =
-    let program = kept_program c.deployment.result.now.codes in
+    let program = kept_program c.deployment-deployment.result.now.codes in
     let needed = subst (Progresses program c.run.new.self) c.in-Need.is c.in_ok-run.ensures.progress in
     omega (
       arith,
@@ -49,7 +49,7 @@ asking-smaller g c =
 
 pub returns-in-Done : goal.returns-in-Done
 returns-in-Done g c =
-    let d = c.deployment.result.now in
+    let d = c.deployment-deployment.result.now in
     let program = kept_program d.codes in
-    whole_tried program _ (state_of c.args.container.now) c.args.ticket.now c.asking.attempt c.run.new.self (program_is _ d.parts d.codes c.deployment.ensures.start) c.asking.invariant c.run.ensures.same
+    whole_tried program _ (state_of c.args.container.now) c.args.ticket.now c.asking.attempt c.run.new.self (program_is _ d.parts d.codes c.deployment-deployment.ensures.start) c.asking.invariant c.run.ensures.same
     (subst (Progresses program c.run.new.self) c.in-Done.is c.in_ok-run.ensures.progress)

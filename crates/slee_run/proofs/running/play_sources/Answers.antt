@@ -9,7 +9,7 @@ use Rattle.slee_run.proofs.running.play_sources.Goals as goal
 pub returns-in-Ok-clause-played : goal.returns-in-Ok-clause-played
 returns-in-Ok-clause-played g c =
     inputs_played c.args.run.mode c.args.run.steps (g.S.Source.left c.args.deploy.now) (g.T.Source.left c.args.signals.now) _ _ (g.D.Disk.disk c.args.disk) _ _ c.in-Ok.inputs c.in-Ok.ensures.inputs
-    (subst (λ (r : Report). IsPlayedOn (document_of c.in-Ok.inputs.deployed) c.args.run.mode c.args.run.steps r c.in-Ok.inputs.lines _ _ _ _ _) c.requires c.play_inputs.ensures.played)
+    (subst (λ (r : Report). IsPlayedOn (document_of c.in-Ok.inputs.deployed) c.args.run.mode c.args.run.steps r c.in-Ok.inputs.lines (g.K.Sink.contents c.args.out.now) (g.K.Sink.contents c.play_inputs.new.out) (g.D.Disk.disk c.args.disk) (g.D.Disk.disk c.play_inputs.result.1) c.play_inputs.result.0) c.requires c.play_inputs.ensures.played)
 
 pub returns-in-Err-clause-played : goal.returns-in-Err-clause-played
 returns-in-Err-clause-played g c =

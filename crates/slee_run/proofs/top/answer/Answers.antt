@@ -1,4 +1,5 @@
 use Rattle.std.proofs.Common.{inl, sym}
+use Rattle.slee_run.specs.Words.{texts}
 use Rattle.slee_run.proofs.RunLemmas.{run_of_bad, run_of_later, run_of_play, run_of_show, run_of_check, run_of_gen, run_of_trial}
 use Rattle.slee_run.proofs.TopLemmas.{refused, check_comes, gen_comes, show_comes, play_asked, check_never, show_never, gen_never, trial_never, check_reads, show_reads, gen_reads, trial_reads, play_reads, show_opens, trial_opens, play_opens}
 use Rattle.slee_run.proofs.top.answer.Goals as goal
@@ -16,7 +17,7 @@ returns-in-Check-clause-headline g c =
 
 pub returns-in-Play-clause-headline : goal.returns-in-Play-clause-headline
 returns-in-Play-clause-headline g c =
-    run_of_play _ _ _ _ _ (g.D.Disk.disk c.args.disk) _ _ c.in-Some.command c.in-Play.run (sym c.in-Some.ensures.command) c.in-Play.ensures c.play_sources.ensures.played
+    run_of_play _ _ _ _ _ (g.D.Disk.disk c.args.disk) _ _ c.in-Some.command c.in-Play.run' (sym c.in-Some.ensures.command) c.in-Play.ensures c.play_sources.ensures.played
 
 pub returns-in-Show-clause-headline : goal.returns-in-Show-clause-headline
 returns-in-Show-clause-headline g c =
@@ -76,7 +77,7 @@ pub returns-in-Check-clause-read : goal.returns-in-Check-clause-read
 returns-in-Check-clause-read g c = λ is. inl (c.check.ensures.read is)
 
 pub returns-in-Check-clause-end : goal.returns-in-Check-clause-end
-returns-in-Check-clause-end g c = λ mode steps plays is. absurd (check_never _ c.in-Some.command (sym c.in-Some.ensures.command) c.in-Check.ensures mode steps plays)
+returns-in-Check-clause-end g c = λ mode steps plays is. absurd (check_never (texts c.args.words.now) c.in-Some.command (sym c.in-Some.ensures.command) c.in-Check.ensures mode steps plays)
 
 pub returns-in-Check-clause-too_large : goal.returns-in-Check-clause-too_large
 returns-in-Check-clause-too_large g c = λ is. absurd (check_comes _ _ _ _ _ c.check.ensures.checked (λ e. cc) is)
@@ -85,7 +86,7 @@ pub returns-in-Check-clause-end_of_deploy : goal.returns-in-Check-clause-end_of_
 returns-in-Check-clause-end_of_deploy g c = λ reads is. c.check.ensures.end is
 
 pub returns-in-Check-clause-deploy_unread : goal.returns-in-Check-clause-deploy_unread
-returns-in-Check-clause-deploy_unread g c = λ none. absurd (none (check_reads _ c.in-Some.command (sym c.in-Some.ensures.command) c.in-Check.ensures))
+returns-in-Check-clause-deploy_unread g c = λ none. absurd (none (check_reads (texts c.args.words.now) c.in-Some.command (sym c.in-Some.ensures.command) c.in-Check.ensures))
 
 pub returns-in-Check-clause-disk : goal.returns-in-Check-clause-disk
 returns-in-Check-clause-disk g c = λ is. absurd (check_comes _ _ _ _ _ c.check.ensures.checked (λ e. cc) is)
@@ -94,7 +95,7 @@ pub returns-in-Gen-clause-read : goal.returns-in-Gen-clause-read
 returns-in-Gen-clause-read g c = λ is. inl (c.write_generated.ensures.read is)
 
 pub returns-in-Gen-clause-end : goal.returns-in-Gen-clause-end
-returns-in-Gen-clause-end g c = λ mode steps plays is. absurd (gen_never _ c.in-Some.command (sym c.in-Some.ensures.command) c.in-Gen.seeded c.in-Gen.ensures mode steps plays)
+returns-in-Gen-clause-end g c = λ mode steps plays is. absurd (gen_never (texts c.args.words.now) c.in-Some.command (sym c.in-Some.ensures.command) c.in-Gen.seeded c.in-Gen.ensures mode steps plays)
 
 pub returns-in-Gen-clause-too_large : goal.returns-in-Gen-clause-too_large
 returns-in-Gen-clause-too_large g c = λ is. absurd (gen_comes _ _ _ _ _ _ _ c.write_generated.ensures.generated (λ e. cc) is)
@@ -103,7 +104,7 @@ pub returns-in-Gen-clause-end_of_deploy : goal.returns-in-Gen-clause-end_of_depl
 returns-in-Gen-clause-end_of_deploy g c = λ reads is. c.write_generated.ensures.end is
 
 pub returns-in-Gen-clause-deploy_unread : goal.returns-in-Gen-clause-deploy_unread
-returns-in-Gen-clause-deploy_unread g c = λ none. absurd (none (gen_reads _ c.in-Some.command (sym c.in-Some.ensures.command) c.in-Gen.seeded c.in-Gen.ensures))
+returns-in-Gen-clause-deploy_unread g c = λ none. absurd (none (gen_reads (texts c.args.words.now) c.in-Some.command (sym c.in-Some.ensures.command) c.in-Gen.seeded c.in-Gen.ensures))
 
 pub returns-in-Gen-clause-disk : goal.returns-in-Gen-clause-disk
 returns-in-Gen-clause-disk g c = λ is. absurd (gen_comes _ _ _ _ _ _ _ c.write_generated.ensures.generated (λ e. cc) is)
@@ -112,7 +113,7 @@ pub returns-in-Show-clause-read : goal.returns-in-Show-clause-read
 returns-in-Show-clause-read g c = λ is. inl (c.show.ensures.read is)
 
 pub returns-in-Show-clause-end : goal.returns-in-Show-clause-end
-returns-in-Show-clause-end g c = λ mode steps plays is. absurd (show_never _ c.in-Some.command (sym c.in-Some.ensures.command) c.in-Show.ensures mode steps plays)
+returns-in-Show-clause-end g c = λ mode steps plays is. absurd (show_never (texts c.args.words.now) c.in-Some.command (sym c.in-Some.ensures.command) c.in-Show.ensures mode steps plays)
 
 pub returns-in-Show-clause-too_large : goal.returns-in-Show-clause-too_large
 returns-in-Show-clause-too_large g c = λ is. absurd (show_comes _ _ _ _ _ _ _ c.show.ensures.shown (λ e. cc) is)
@@ -121,16 +122,16 @@ pub returns-in-Show-clause-end_of_deploy : goal.returns-in-Show-clause-end_of_de
 returns-in-Show-clause-end_of_deploy g c = λ reads is. c.show.ensures.end is
 
 pub returns-in-Show-clause-deploy_unread : goal.returns-in-Show-clause-deploy_unread
-returns-in-Show-clause-deploy_unread g c = λ none. absurd (none (show_reads _ c.in-Some.command (sym c.in-Some.ensures.command) c.in-Show.ensures))
+returns-in-Show-clause-deploy_unread g c = λ none. absurd (none (show_reads (texts c.args.words.now) c.in-Some.command (sym c.in-Some.ensures.command) c.in-Show.ensures))
 
 pub returns-in-Show-clause-idle : goal.returns-in-Show-clause-idle
-returns-in-Show-clause-idle g c = λ none. absurd (none (show_opens _ c.in-Some.command (sym c.in-Some.ensures.command) c.in-Show.ensures))
+returns-in-Show-clause-idle g c = λ none. absurd (none (show_opens (texts c.args.words.now) c.in-Some.command (sym c.in-Some.ensures.command) c.in-Show.ensures))
 
 pub returns-in-Trial-clause-read : goal.returns-in-Trial-clause-read
 returns-in-Trial-clause-read g c = λ is. inl (c.try_generated.ensures.read is)
 
 pub returns-in-Trial-clause-end : goal.returns-in-Trial-clause-end
-returns-in-Trial-clause-end g c = λ mode steps plays is. absurd (trial_never _ c.in-Some.command (sym c.in-Some.ensures.command) c.in-Trial.seeded c.in-Trial.ensures mode steps plays)
+returns-in-Trial-clause-end g c = λ mode steps plays is. absurd (trial_never (texts c.args.words.now) c.in-Some.command (sym c.in-Some.ensures.command) c.in-Trial.seeded c.in-Trial.ensures mode steps plays)
 
 pub returns-in-Trial-clause-too_large : goal.returns-in-Trial-clause-too_large
 returns-in-Trial-clause-too_large g c = λ is. absurd (c.try_generated.ensures.quiet is)
@@ -139,25 +140,25 @@ pub returns-in-Trial-clause-end_of_deploy : goal.returns-in-Trial-clause-end_of_
 returns-in-Trial-clause-end_of_deploy g c = λ reads is. c.try_generated.ensures.end is
 
 pub returns-in-Trial-clause-deploy_unread : goal.returns-in-Trial-clause-deploy_unread
-returns-in-Trial-clause-deploy_unread g c = λ none. absurd (none (trial_reads _ c.in-Some.command (sym c.in-Some.ensures.command) c.in-Trial.seeded c.in-Trial.ensures))
+returns-in-Trial-clause-deploy_unread g c = λ none. absurd (none (trial_reads (texts c.args.words.now) c.in-Some.command (sym c.in-Some.ensures.command) c.in-Trial.seeded c.in-Trial.ensures))
 
 pub returns-in-Trial-clause-idle : goal.returns-in-Trial-clause-idle
-returns-in-Trial-clause-idle g c = λ none. absurd (none (trial_opens _ c.in-Some.command (sym c.in-Some.ensures.command) c.in-Trial.seeded c.in-Trial.ensures))
+returns-in-Trial-clause-idle g c = λ none. absurd (none (trial_opens (texts c.args.words.now) c.in-Some.command (sym c.in-Some.ensures.command) c.in-Trial.seeded c.in-Trial.ensures))
 
 pub returns-in-Play-clause-end : goal.returns-in-Play-clause-end
 returns-in-Play-clause-end g c = λ mode steps plays is. (c.play_sources.ensures.end is).1
 
 pub returns-in-Play-clause-unread : goal.returns-in-Play-clause-unread
-returns-in-Play-clause-unread g c = λ none. absurd (none c.in-Play.run.mode c.in-Play.run.steps (play_asked _ c.in-Some.command (sym c.in-Some.ensures.command) c.in-Play.run c.in-Play.ensures))
+returns-in-Play-clause-unread g c = λ none. absurd (none c.in-Play.run'.mode c.in-Play.run'.steps (play_asked (texts c.args.words.now) c.in-Some.command (sym c.in-Some.ensures.command) c.in-Play.run' c.in-Play.ensures))
 
 pub returns-in-Play-clause-end_of_deploy : goal.returns-in-Play-clause-end_of_deploy
 returns-in-Play-clause-end_of_deploy g c = λ reads is. (c.play_sources.ensures.end is).0
 
 pub returns-in-Play-clause-deploy_unread : goal.returns-in-Play-clause-deploy_unread
-returns-in-Play-clause-deploy_unread g c = λ none. absurd (none (play_reads _ c.in-Some.command (sym c.in-Some.ensures.command) c.in-Play.run c.in-Play.ensures))
+returns-in-Play-clause-deploy_unread g c = λ none. absurd (none (play_reads (texts c.args.words.now) c.in-Some.command (sym c.in-Some.ensures.command) c.in-Play.run' c.in-Play.ensures))
 
 pub returns-in-Play-clause-idle : goal.returns-in-Play-clause-idle
-returns-in-Play-clause-idle g c = λ none. absurd (none (play_opens _ c.in-Some.command (sym c.in-Some.ensures.command) c.in-Play.run c.in-Play.ensures))
+returns-in-Play-clause-idle g c = λ none. absurd (none (play_opens (texts c.args.words.now) c.in-Some.command (sym c.in-Some.ensures.command) c.in-Play.run' c.in-Play.ensures))
 
 pub form_of-requires : goal.form_of-requires
 form_of-requires g c = c.in-Some.ensures.in_range
