@@ -1,0 +1,13 @@
+use Rattle.router_durable.specs.Facts.{initial_of}
+use Rattle.slee_container.proofs.Opened.{kept_begun, starts_begun}
+use Rattle.slee_container.proofs.container.Container.open.Goals as goal
+
+pub returns-clause-starts : goal.returns-clause-starts
+returns-clause-starts g c =
+    starts_begun g.D.Disk.disk c.in_ok-core.core c.args.lines.now c.args.mode c.args.limits (g.D.Disk.disk c.args.disk) (initial_of c.args.deployment.now.parts c.args.deployment.now.codes) c.args.bytes.now
+    c.in_ok-core.ensures.opened c.begun.result c.begun.ensures
+
+pub returns-clause-kept : goal.returns-clause-kept
+returns-clause-kept g c =
+    kept_begun g.D.Disk.disk c.in_ok-core.core c.args.lines.now c.args.mode c.args.limits (g.D.Disk.disk c.args.disk) (initial_of c.args.deployment.now.parts c.args.deployment.now.codes) c.args.bytes.now
+    c.in_ok-core.ensures.opened c.begun.result c.begun.ensures
