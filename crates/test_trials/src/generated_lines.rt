@@ -30,6 +30,17 @@ fn print_lines(lines: &Signals, into: &mut Vec<u8>) -> Result<(), NoMemory> {
     Ok(())
 }
 
+// Lets a deployment go, with all its parts.
+fn drop_deployed(_checked: Checked) {}
+
+// The lines of this seed, printed.
+fn printed(alloc: Global, checked: &Checked, seed: u32, count: u32) -> Result<Vec<u8>, NoMemory> {
+    let given = generate(alloc, seed, count, checked.deployment())?;
+    let mut printed = Vec::new(alloc);
+    print_lines(&given, &mut printed)?;
+    Ok(printed)
+}
+
 // Whether the lines of this seed are these.
 fn gives(
     alloc: Global,
@@ -39,10 +50,9 @@ fn gives(
     lines: &str,
 ) -> Result<bool, NoMemory> {
     let checked = deployed(alloc, deployment)?;
-    let given = generate(alloc, seed, count, checked.deployment())?;
-    let mut printed = Vec::new(alloc);
-    print_lines(&given, &mut printed)?;
-    Ok(printed.as_slice() == lines.as_bytes())
+    let printed = printed(alloc, &checked, seed, count);
+    drop_deployed(checked);
+    Ok(printed?.as_slice() == lines.as_bytes())
 }
 
 const INVITE: &str =
