@@ -214,7 +214,7 @@ def alive(command, small):
 
 
 def files(command, small):
-    print("files: calls over real files in this folder, each entry synced")
+    print("files: calls over real files in this folder, synced batch by batch")
     print(f"{'entries':>9} {'entries/s':>10} {'in memory':>10} {'waiting':>8}")
     for n in [s // (10 if small else 1) for s in (125, 1_250)]:
         words = ["play", "1", "1000000"]
