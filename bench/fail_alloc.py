@@ -5,10 +5,12 @@
     python3 bench/fail_alloc.py --cmd PROGRAM    with another program
     python3 bench/fail_alloc.py --onward         from the N-th allocation on all are refused, and not the N-th alone
 
-The program plays a call over real files, in a fresh folder each time, and then `show` reads them with ample memory. Each
-run has to end with 0 and the whole text, or with 12, 6 or 7 and a front of it, or with 12 and no text where no memory was
-found to begin with. What `show` gives has to be the state behind the entries that were acknowledged, or behind one more.
-The second table refuses the allocations of `show`. A C compiler is wanted for the small library that refuses.
+The program plays a call of the service of examples/restart over real files, in a fresh folder each time, and then `show`
+reads them with ample memory. Each run has to end with 0 and the whole text, or with 12, 6 or 7 and a front of it, or with
+12 and no text where no memory was found to begin with. What `show` gives has to be the state behind the entries that were
+acknowledged: those of the text at 0 and 12. At 7, where the batch that was being written may be there too, and at 6, where
+the text may be shorter than what is kept, it has to be a state behind at least those of the text. The second table refuses
+the allocations of `show`. A C compiler is wanted for the small library that refuses.
 """
 import argparse
 import os
@@ -16,6 +18,8 @@ import re
 import subprocess
 import sys
 import tempfile
+
+from lines import fresh
 
 REFUSES = r"""
 #define _GNU_SOURCE
@@ -109,11 +113,12 @@ def run(command, words, lines, folder, refuses=None, at=0, onward=False):
 
 
 def allocations_of(command, words, lines, folder, refuses):
-    """How many allocations a run makes."""
+    """How many allocations a run makes; a program with an allocator of its own can't be tried."""
     with tempfile.NamedTemporaryFile() as counted:
         env = dict(os.environ, LD_PRELOAD=refuses, COUNTED_ALLOCATIONS=counted.name)
         subprocess.run([command, *words], input=lines, cwd=folder, env=env, capture_output=True, timeout=60, check=False)
-        return int(counted.read())
+        count = int(counted.read())
+    return count or sys.exit("no allocation was seen: the program doesn't take its memory from the system's library")
 
 
 def entries_of(text):
@@ -124,7 +129,7 @@ def shown_states(command, whole):
     """What `show` gives behind each number of the call's entries, by runs with ample memory that stop there."""
     states = []
     for steps in range(entries_of(whole) + 1):
-        with tempfile.TemporaryDirectory() as folder:
+        with fresh() as folder:
             if steps:
                 run(command, ["play", "1", str(steps)], CALL, folder)
             states.append(run(command, ["show"], b"", folder)[1])
@@ -147,23 +152,23 @@ def fault_of(status, text, whole):
 
 
 def play(command, refuses, onward):
-    with tempfile.TemporaryDirectory() as folder:
+    with fresh() as folder:
         status, whole = run(command, ["play", "1", "100"], CALL, folder)
     if status != 0:
         sys.exit(f"with ample memory: status {status}")
     states = shown_states(command, whole)
-    with tempfile.TemporaryDirectory() as folder:
+    with fresh() as folder:
         count = allocations_of(command, ["play", "1", "100"], CALL, folder, refuses)
     for at in range(1, count + 1):
-        with tempfile.TemporaryDirectory() as folder:
+        with fresh() as folder:
             status, text = run(command, ["play", "1", "100"], CALL, folder, refuses, at, onward)
             shown = run(command, ["show"], b"", folder)
         fault = fault_of(status, text, whole)
         entries = entries_of(text)
-        least, most = (0, len(states) - 1) if status == 6 or text == "" else (entries, entries + 1)
+        right = states[entries:] if status in (6, 7) else states[entries : entries + 1]
         if not fault and shown[0] != 0:
             fault = f"show ends with {shown[0]}"
-        if not fault and shown[1] not in states[least : most + 1]:
+        if not fault and shown[1] not in right:
             fault = "show gives another state"
         yield at, status, fault
 
@@ -177,7 +182,7 @@ def show_fault_of(status, text, whole):
 
 
 def show(command, refuses, onward):
-    with tempfile.TemporaryDirectory() as folder:
+    with fresh() as folder:
         run(command, ["play", "1", "5"], CALL, folder)
         whole = run(command, ["show"], b"", folder)[1]
         for at in range(1, allocations_of(command, ["show"], b"", folder, refuses) + 1):

@@ -4,7 +4,7 @@
     python3 bench/fuzz_journal.py                     10,000 pairs of files, with ./slee show
     python3 bench/fuzz_journal.py --count 500         so many
     python3 bench/fuzz_journal.py --seed 8            others
-    python3 bench/fuzz_journal.py --deploy FILE       with the deployment of a file, in place of the one that is built in
+    python3 bench/fuzz_journal.py --deploy FILE       with the deployment of a file, in place of that of examples/restart
                                                       (and of `bench` for bench_journal)
     python3 bench/fuzz_journal.py --cmd PROGRAM..     with another program and its words, as
                                                       --cmd crates/bench_journal/out/bench_journal open bench
@@ -27,6 +27,7 @@ import tempfile
 import time
 
 import deployments
+import lines
 
 TOP = os.path.join(os.path.dirname(os.path.abspath(__file__)), "..")
 SLEE = "slee"
@@ -50,7 +51,7 @@ def payload(chance):
     """A payload that a journal may hold: a line, a selection, a delivery or a finish, or any bytes."""
     kind = chance.randrange(6)
     if kind < 3:
-        return b"\x01" + text(chance.choice([b"start c1", b"end c1", b"clock 5", b"start c2", b"fire c1 x", b""]))
+        return b"\x01" + text(chance.choice([b"start c1", b"end c1", b"clock 5", b"start c2", b"fire c1 invite", b"fire c1 x", b""]))
     if kind == 3:
         return chance.choice([b"\x02", b"\x04"]) + number(chance.randrange(4), 8)
     if kind == 4:
@@ -63,10 +64,13 @@ def side(chance, own):
     generation = chance.choice([0, 1, 1, 1, 2, LARGEST])
     deployment = chance.choice([own] * 6 + [b"", own + b"x", b"other"])
     snapshot = b"" if chance.randrange(8) else chance.randbytes(9)
-    records = b"".join(b"\x01" + text(payload(chance)) for _ in range(chance.randrange(5)))
+    name = chance.choice(NAMES)
+    # the second format has the clock before each payload
+    clock = b"" if name == NAMES[0] else number(0, 8)
+    records = b"".join(b"\x01" + text(clock + payload(chance)) for _ in range(chance.randrange(5)))
     gate = bytes([chance.choice([0, 0, 0, 7, 255])])
     tail = b"" if chance.randrange(4) else chance.randbytes(chance.randrange(9))
-    return b"\x01" + chance.choice(NAMES) + number(generation, 8) + text(deployment) + text(snapshot) + records + gate + tail
+    return b"\x01" + name + number(generation, 8) + text(deployment) + text(snapshot) + records + gate + tail
 
 
 def mutated(chance, bytes_):
@@ -205,8 +209,9 @@ def main():
     given = words.parse_args()
     program = os.path.abspath(given.cmd[0])
     kind = JOURNAL_BENCH if os.path.basename(program) == JOURNAL_BENCH else SLEE
-    # the deployment that is built in is kept as the empty text
-    own = given.deploy.read() if given.deploy else (b"bench" if kind == JOURNAL_BENCH else b"")
+    if not given.deploy and kind != JOURNAL_BENCH:
+        given.deploy = open(lines.CALLS, "rb")
+    own = given.deploy.read() if given.deploy else b"bench"
     chance = random.Random(given.seed)
     definitions = Definitions()
     seen = {}

@@ -1,12 +1,15 @@
 #!/usr/bin/env python3
 """Reads random and mutated signal lines with a second reader, a few lines of Python, and compares what they come to.
 
-    bench/fuzz_lines.py [COUNT] [SEED]                       the program, a run for each line (2,000 lines, seed 1)
+    bench/fuzz_lines.py [COUNT] [SEED]                       ./slee, a run for each line (2,000 lines, seed 1)
+    bench/fuzz_lines.py --cmd PROGRAM [COUNT] [SEED]         another program
     bench/fuzz_lines.py --definitions FOLDER [COUNT] [SEED]  the definitions of specs/, run by the evaluator in FOLDER
 
-Prints how many lines came to what, and ends with 1 at the first line on which the two differ.
+The program plays in a folder that has the deployment of examples/restart. Prints how many lines came to what, and ends with 1 at the first line on which the two differ.
 """
-import collections, os, random, re, subprocess, sys, tempfile
+import collections, os, random, re, subprocess, sys
+
+from lines import fresh
 
 ROOT = os.path.dirname(os.path.dirname(os.path.abspath(__file__)))
 NAME = re.compile(rb'[a-z][a-z0-9_]{0,63}\Z')
@@ -118,15 +121,17 @@ def lines(count, seed):
         yield mutated(r, good_line(r)) if r.random() < .8 else b''.join(r.choice(PIECES) for _ in range(r.randrange(9)))
 
 
-def of_program(line):
-    """The kind that the program tells of a text whose second line this is; None where it tells no fault."""
-    with tempfile.TemporaryDirectory() as folder:
-        ran = subprocess.run([os.path.join(ROOT, 'slee'), 'play', '1', '1'], input=b'start c1\n' + line + b'\n', cwd=folder, stdout=subprocess.PIPE)
-    last = ran.stdout.split(b'\n')[-2].decode()
-    told = re.match(r'status 5 bad-signals (\d+) ([a-z0-9]+)$', last)
-    if told and (told[1] != '2' or ran.returncode != 5):
-        return last
-    return told[2] if told else None
+def of_program(program):
+    """The kind that a program tells of a text whose second line is the one that is asked for; None where it plays it."""
+    def kind(line):
+        with fresh() as folder:
+            ran = subprocess.run([program, 'play', '1', '1'], input=b'start c1\n' + line + b'\n', cwd=folder, stdout=subprocess.PIPE)
+        last = ran.stdout.split(b'\n')[-2].decode()
+        told = re.match(r'status 5 bad-signals 2 ([a-z0-9]+)$', last)
+        if told and ran.returncode == 5 and ran.stdout.count(b'\n') == 1:
+            return told[1]
+        return None if (ran.returncode, last) == (11, 'status 11 steps-spent 1') else last
+    return kind
 
 
 def of_definitions(folder):
@@ -149,7 +154,10 @@ def of_definitions(folder):
 
 def main():
     words = sys.argv[1:]
-    of = of_program
+    program = os.path.join(ROOT, 'slee')
+    if words[:1] == ['--cmd']:
+        program, words = os.path.abspath(words[1]), words[2:]
+    of = of_program(program)
     if words[:1] == ['--definitions']:
         of, words = of_definitions(words[1]), words[2:]
     count, seed = (int(w) for w in (words + ['2000', '1'][len(words):])[:2])

@@ -15,6 +15,7 @@ Times are the least of three runs. All but `files` run in a folder in memory whe
 syncs cost nothing there.
 """
 import argparse
+import contextlib
 import os
 import resource
 import shutil
@@ -38,10 +39,17 @@ def deploy(folder, deployment):
     shutil.copy(deployment, os.path.join(folder, "deploy.json"))
 
 
-def run(command, words, lines, where=MEMORY, deployment=CALLS):
-    """Seconds, peak memory in KiB, status and last line of one run in a folder that has the deployment alone."""
+@contextlib.contextmanager
+def fresh(deployment=CALLS, where=None):
+    """A folder of its own that has the deployment alone."""
     with tempfile.TemporaryDirectory(dir=where) as folder:
         deploy(folder, deployment)
+        yield folder
+
+
+def run(command, words, lines, where=MEMORY, deployment=CALLS):
+    """Seconds, peak memory in KiB, status and last line of one run in a folder that has the deployment alone."""
+    with fresh(deployment, where) as folder:
         with open(os.path.join(folder, "signals"), "wb") as f:
             f.write(lines)
         with open(os.path.join(folder, "signals"), "rb") as given, open(os.path.join(folder, "out"), "wb") as out:
@@ -120,8 +128,7 @@ def bare(command, small):
     print("bare: a run over real files in this folder, beside a bare write of the same bytes, synced as often as batches are")
     print(f"{'run':>16} {'bytes':>11} {'ms':>9} {'bare ms':>9} {'times':>7}")
     for name, words, lines, deployment in (("180,000 lines", PLAY, calls_of(60_000), CALLS), ("trial 7 100000", TRIAL, b"", PREPAID)):
-        with tempfile.TemporaryDirectory(dir=".") as folder:
-            deploy(folder, deployment)
+        with fresh(deployment, ".") as folder:
             with open(os.path.join(folder, "out"), "wb") as out:
                 begun = time.perf_counter()
                 subprocess.run([command, *words], input=lines, cwd=folder, stdout=out)
@@ -135,8 +142,7 @@ def user_seconds(command, words, lines):
     """The user time, the peak memory in KiB and the bytes that are written, of the best of three runs."""
     found = []
     for _ in range(3):
-        with tempfile.TemporaryDirectory(dir=MEMORY) as folder:
-            deploy(folder, CALLS)
+        with fresh(where=MEMORY) as folder:
             with open(os.path.join(folder, "signals"), "wb") as f:
                 f.write(lines)
             with open(os.path.join(folder, "signals"), "rb") as given, open(os.path.join(folder, "out"), "wb") as out:
@@ -214,7 +220,7 @@ def alive(command, small):
 
 
 def files(command, small):
-    print("files: calls over real files in this folder, synced batch by batch")
+    print("files: calls over real files in this folder, each batch synced")
     print(f"{'entries':>9} {'entries/s':>10} {'in memory':>10} {'waiting':>8}")
     for n in [s // (10 if small else 1) for s in (125, 1_250)]:
         words = ["play", "1", "1000000"]
@@ -227,8 +233,7 @@ def opening(command, small):
     print("opening: `show` over a journal of so many entries")
     print(f"{'entries':>9} {'ms':>9} {'us/entry':>9}")
     for n in [s // (10 if small else 1) for s in (2_000, 10_000, 50_000)]:
-        with tempfile.TemporaryDirectory(dir=MEMORY) as folder:
-            deploy(folder, CALLS)
+        with fresh(where=MEMORY) as folder:
             subprocess.run([command, "play", "1", "1000000"], input=calls_of(n), cwd=folder, capture_output=True, check=True)
             took = []
             for _ in range(3):
