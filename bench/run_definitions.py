@@ -141,7 +141,7 @@ class Case:
         entries, state, is_left = self.solo(base, steps, tuple(taken))
         self.well(state)
         status = f"status 11 steps-spent {steps}" if is_left else "status 0 ok"
-        return bytes(self.word("trace_history.specs.Totals.output_text")(tuple(entries), tuple(status.encode())))
+        return bytes(self.word("usage_totals.specs.Totals.output_text")(tuple(entries), tuple(status.encode())))
 
     def well(self, state):
         if not self.word("router_state.specs.Well.is_well")(state):
@@ -173,7 +173,7 @@ class Case:
             ("deliveries", sum(entry.choice.con.name == "Deliver" for entry in entries)),
             ("refused", sum(line.startswith(b"  refused ") for line in kinds)),
         ]
-        totals = self.word("trace_history.specs.Totals.total_lines")(tuple(entries))
+        totals = self.word("usage_totals.specs.Totals.total_lines")(tuple(entries))
         text = "".join(f"{word} {number}\n" for word, number in counts).encode()
         return text + b"".join(bytes(line) + b"\n" for line in totals) + b"status 0 ok\n"
 

@@ -13,9 +13,14 @@ use std::alloc::Global;
 use std::marker::Model;
 
 /// A deployment whose scripts have no fault, with what they are made into.
-#[derive(Drop)]
 pub struct Checked {
     deployment: Deployment,
+}
+
+impl Drop for Checked {
+    fn drop(self) {
+        let Self { deployment: _ } = self;
+    }
 }
 
 impl Model for Checked {

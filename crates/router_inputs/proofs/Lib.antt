@@ -1,4 +1,3 @@
-pub mod NumberLemmas
 pub mod GivenLemmas
 pub mod OrderLemmas
 pub mod LookupLemmas

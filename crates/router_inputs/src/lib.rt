@@ -6,7 +6,6 @@ mod clock;
 mod firing;
 mod inputs;
 mod lookups;
-mod numbers;
 mod order;
 mod rows;
 mod services;

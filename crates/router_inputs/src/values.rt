@@ -3,9 +3,9 @@ ghost use Rattle.std.specs.Prelude.{◌≡◌, IfOk, IsTrue, option_copied};
 ghost use Rattle.router_steps.specs.Values.{bool_in, fields_given, text_given, value_given, value_in, values_given};
 ghost use Rattle.router_inputs.specs.InOrder.{are_rising};
 
-use crate::numbers::int_in;
 use script_types::FieldCode;
 use signal_script::Fields;
+use signed_decimals::int_in;
 use slee_value::{Kind, Name, NoMemory, Payload, Text, Value};
 use std::alloc::Global;
 
@@ -23,7 +23,7 @@ fn value_in(alloc: Global, kind: Kind, text: &str) -> Result<Option<Value>, NoMe
     ensures { IfOk result (λ value. value ≡ value_in kind text.now) }
 {
     match kind {
-        Kind::Int => Ok(int_in(text).map(Value::Int)),
+        Kind::Int => Ok(int_in(text.as_bytes()).map(Value::Int)),
         Kind::Text => Ok(Some(Value::Text(Text::from_str(alloc, text)?))),
         Kind::Bool => Ok(bool_in(text).map(Value::Bool)),
         Kind::Activity | Kind::Timer => Ok(None),

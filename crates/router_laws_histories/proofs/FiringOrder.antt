@@ -20,7 +20,7 @@ use Rattle.router_steps.specs.Histories.{replay, Legal, pending_at}
 use Rattle.signal_script.specs.Signals.{spelled}
 use Rattle.router_steps.specs.Steps.{Due, Root, NoRoot, OldRoot, NewRoot, lines_of_root, Subject, Taking, Selecting, Delivering, Finishing, after, after_subject, subject_of, lines_of_subject, lines_of_step}
 use Rattle.trace_history.specs.Reading.{queued_in, finished_in, finished_by, heading_of}
-use Rattle.trace_history.specs.Totals.{words_in}
+use Rattle.trace_history.specs.Words.{words_in}
 use Rattle.trace_history.specs.declared.choice.Choice.{Choice}
 use Rattle.trace_history.specs.declared.entry.Entry.{Entry}
 

@@ -19,7 +19,7 @@ use Rattle.router_state.specs.declared.change.Change.TheVariants as changes
 use Rattle.router_state.specs.declared.rows.Event.{Event}
 use Rattle.router_steps.specs.Moves.{queued, lines_of_queued}
 use Rattle.trace_history.specs.Reading.{queued_by}
-use Rattle.trace_history.specs.Totals.{words_in}
+use Rattle.trace_history.specs.Words.{words_in}
 
 -- the events that lines say were queued on an activity
 abbrev pub told_on : ℕ → List (List ℕ) → List ℕ

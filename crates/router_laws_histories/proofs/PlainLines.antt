@@ -43,7 +43,7 @@ use Rattle.router_steps.specs.Scripts.{last_words, answers_in}
 use Rattle.router_steps.specs.Steps.{line_of_callback}
 use Rattle.router_steps.specs.Taking.{all_occurred, lines_of_all_occurred, occurred}
 use Rattle.router_steps.specs.Values.{unset}
-use Rattle.trace_history.specs.Totals.{words_in}
+use Rattle.trace_history.specs.Words.{words_in}
 
 -- the line says nothing of suspensions
 abbrev pub IsPlain : List ℕ → Type 0

@@ -13,7 +13,7 @@ use Rattle.std.proofs.lemmas.Slice.Eq.{bytes_eq-Decides}
 use Rattle.router_laws.proofs.ListRules.{append_joins}
 use Rattle.trace_history.specs.Decimals.{decimal_value}
 use Rattle.trace_history.specs.Reading.{activity_word, event_word, queued_by, finished_by, reached_by}
-use Rattle.trace_history.specs.Totals.{words_in}
+use Rattle.trace_history.specs.Words.{words_in}
 use Rattle.script_meaning.specs.Running.{word_of}
 use Rattle.script_meaning.specs.declared.outcome.Outcome.{Outcome}
 use Rattle.script_meaning.specs.declared.outcome.Outcome.TheVariants as outcomes

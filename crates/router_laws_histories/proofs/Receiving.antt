@@ -34,7 +34,7 @@ use Rattle.router_steps.specs.Histories.{pending_at, Legal}
 use Rattle.router_steps.specs.Scripts.{delivered_in}
 use Rattle.router_steps.specs.Steps.{Due, Root, NoRoot, OldRoot, NewRoot, lines_of_root, Receipt, Subject, Taking, Selecting, Delivering, Finishing, after, after_subject, subject_of, delivery_at, delivery_to, due_at, finish_at, lines_of_subject}
 use Rattle.trace_history.specs.Reading.{reached_by, reached_in, heading_of}
-use Rattle.trace_history.specs.Totals.{words_in}
+use Rattle.trace_history.specs.Words.{words_in}
 use Rattle.trace_history.specs.declared.choice.Choice.{Choice}
 use Rattle.trace_history.specs.declared.choice.Choice.TheVariants as choices
 use Rattle.trace_history.specs.declared.entry.Entry.{Entry}

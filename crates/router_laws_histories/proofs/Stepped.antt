@@ -27,7 +27,7 @@ use Rattle.router_steps.specs.Moves.{attached, lines_of_attached, dropped}
 use Rattle.router_steps.specs.Steps.{Subject, Taking, Selecting, Delivering, Finishing, Root, NoRoot, OldRoot, NewRoot, Due, Finish, after_subject, subject_of, lines_of_subject, lines_of_root, lines_of_finish, line_of_callback, with_root_attached, marked_service, marked_entity, finished, is_end, due_at, delivery_at, finish_at}
 use Rattle.router_steps.specs.Values.{unset}
 use Rattle.trace_history.specs.Reading.{queued_by}
-use Rattle.trace_history.specs.Totals.{words_in}
+use Rattle.trace_history.specs.Words.{words_in}
 use Rattle.trace_history.specs.declared.choice.Choice.{Choice}
 use Rattle.trace_history.specs.declared.choice.Choice.TheVariants as choices
 

@@ -55,7 +55,7 @@ use Rattle.router_state.specs.Services.{is_inactive, is_active}
 use Rattle.router_state.specs.declared.rows.AcKind.TheVariants as kinds
 use Rattle.router_state.specs.declared.rows.ServiceState.TheVariants as states
 use Rattle.trace_history.specs.Reading.{queued_by}
-use Rattle.trace_history.specs.Totals.{words_in}
+use Rattle.trace_history.specs.Words.{words_in}
 
 -- lines
 

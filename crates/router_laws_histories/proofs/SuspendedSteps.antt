@@ -43,7 +43,7 @@ use Rattle.router_steps.specs.Lines.{created_line, deliver_heading, exception_li
 use Rattle.router_steps.specs.Moves.{attached, dropped, ended, lines_of_attached, lines_of_queued, lines_of_resumed, resumed, with_service}
 use Rattle.router_steps.specs.Steps.{Due, Finish, Root, NoRoot, OldRoot, NewRoot, Subject, Taking, Selecting, Delivering, Finishing, after_subject, finished, is_end, line_of_callback, lines_of_finish, lines_of_root, lines_of_subject, marked_entity, marked_service, with_root_attached}
 use Rattle.router_steps.specs.Taking.{after_action, all_occurred, all_resumed, counted, occurred, ended_if, lines_of_action, lines_of_all_occurred, lines_of_all_resumed, lines_of_ended_if, lines_of_taken, row_changed, taken}
-use Rattle.trace_history.specs.Totals.{words_in}
+use Rattle.trace_history.specs.Words.{words_in}
 
 -- head events stay where events are put behind those that wait
 

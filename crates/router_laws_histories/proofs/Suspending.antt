@@ -15,7 +15,7 @@ use Rattle.router_steps.specs.Effects.{lines_of_suspended}
 use Rattle.router_steps.specs.Lines.{suspended_line, resumed_line}
 use Rattle.router_steps.specs.Moves.{resumed, lines_of_resumed}
 use Rattle.trace_history.specs.Reading.{activity_word, event_word}
-use Rattle.trace_history.specs.Totals.{words_in}
+use Rattle.trace_history.specs.Words.{words_in}
 
 -- lines one behind another
 pub told_append : (a : ℕ) (was : Bool) (l k : List (List ℕ)) → told_suspended a was (l ++ k) ≡ told_suspended a (told_suspended a was l) k

@@ -35,7 +35,7 @@ use Rattle.router_steps.specs.Histories.{Legal}
 use Rattle.router_steps.specs.Lines.{deliver_heading, finish_heading, initial_heading, initial_none_heading, outcome_words}
 use Rattle.router_steps.specs.Steps.{Due, Finish, Receipt, Root, NoRoot, OldRoot, NewRoot, Subject, Taking, Selecting, Delivering, Finishing, after, after_subject, delivery_at, delivery_to, due_at, finish_at, is_delivery, is_enabled, is_finish, is_initial, is_next, is_next_by, lines_of_root, lines_of_step, lines_of_subject, subject_of}
 use Rattle.trace_history.specs.Reading.{activity_word, event_word, heading_of}
-use Rattle.trace_history.specs.Totals.{words_in}
+use Rattle.trace_history.specs.Words.{words_in}
 use Rattle.trace_history.specs.declared.choice.Choice.{Choice}
 use Rattle.trace_history.specs.declared.choice.Choice.TheVariants as choices
 use Rattle.trace_history.specs.declared.entry.Entry.{Entry}

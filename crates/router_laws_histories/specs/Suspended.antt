@@ -12,7 +12,7 @@ use Rattle.router_steps.specs.Applying.{applied_in}
 use Rattle.router_steps.specs.Effects.{number_in}
 use Rattle.router_steps.specs.Steps.{Subject, Taking, Selecting, Delivering, Finishing, after, marked_entity, subject_of}
 use Rattle.trace_history.specs.Reading.{activity_word, heading_of}
-use Rattle.trace_history.specs.Totals.{words_in}
+use Rattle.trace_history.specs.Words.{words_in}
 use Rattle.trace_history.specs.declared.choice.Choice.{Choice}
 use Rattle.trace_history.specs.declared.entry.Entry.{Entry}
 

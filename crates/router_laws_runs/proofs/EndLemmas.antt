@@ -30,7 +30,7 @@ use Rattle.router_steps.specs.Histories.{Legal, pending_at, replay}
 use Rattle.router_steps.specs.Lines.{finish_heading}
 use Rattle.router_steps.specs.Steps.{Finish, Finishing, Subject, after, lines_of_step, subject_of}
 use Rattle.trace_history.specs.Reading.{activity_word, finished_by, finished_in, heading_of, queued_in}
-use Rattle.trace_history.specs.Totals.{words_in}
+use Rattle.trace_history.specs.Words.{words_in}
 use Rattle.trace_history.specs.declared.choice.Choice.TheVariants as choices
 use Rattle.trace_history.specs.declared.entry.Entry.{Entry}
 

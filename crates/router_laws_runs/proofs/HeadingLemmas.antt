@@ -37,7 +37,7 @@ use Rattle.rows_sorted.specs.Orders.{rises_in}
 use Rattle.script_meaning.specs.declared.outcome.Outcome.{Outcome}
 use Rattle.signal_script.specs.Signals.{spelled}
 use Rattle.trace_history.specs.Reading.{activity_word, event_word, heading_of}
-use Rattle.trace_history.specs.Totals.{words_in}
+use Rattle.trace_history.specs.Words.{words_in}
 use Rattle.trace_history.specs.declared.choice.Choice.{Choice}
 use Rattle.trace_history.specs.declared.choice.Choice.TheVariants as choices
 

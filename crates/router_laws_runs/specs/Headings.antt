@@ -12,7 +12,7 @@ use Rattle.router_state.specs.declared.rows.Entity.{Entity}
 use Rattle.router_state.specs.declared.rows.Event.{Event}
 use Rattle.router_steps.specs.Histories.{pending_at}
 use Rattle.trace_history.specs.Reading.{activity_word, event_word, finished_in, heading_of, queued_in}
-use Rattle.trace_history.specs.Totals.{words_in}
+use Rattle.trace_history.specs.Words.{words_in}
 use Rattle.trace_history.specs.declared.entry.Entry.{Entry}
 
 -- the words of an entry's heading

@@ -22,7 +22,6 @@ use slee_value::{NoMemory, Text};
 use std::alloc::Global;
 
 /// A deployment. It is made once and lent to all that need it; an item's number is its place in its list, from 0.
-#[derive(Drop)]
 pub struct Deployment {
     parts: Parts,
     codes: Codes,
@@ -31,6 +30,16 @@ pub struct Deployment {
     ghost coded: { codes ≡ codes_in parts codes.programs },
     ghost indexed: { AreIndexes indexes (deployed_of parts) },
     ghost numbered: { AreNumbered parts },
+}
+
+impl Drop for Deployment {
+    fn drop(self) {
+        let Self {
+            parts: _,
+            codes: _,
+            indexes: _,
+        } = self;
+    }
 }
 
 /// What scripts may name in parts, and the scripts, none of them checked.

@@ -4,5 +4,5 @@ pub mod Ends
 pub mod Views
 pub mod Histories
 pub mod Decimals
-pub mod Totals
+pub mod Words
 pub mod Reading

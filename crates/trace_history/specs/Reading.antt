@@ -3,7 +3,7 @@ use Rattle.std.specs.Prelude.{ℕ, ◌&&◌, if◌then◌else◌, List, [], ◌�
 use Rattle.std.specs.List.{flat_map}
 use Rattle.std.specs.Str.{bytes_eq}
 use Rattle.trace_history.specs.Decimals.{decimal_value}
-use Rattle.trace_history.specs.Totals.{words_in}
+use Rattle.trace_history.specs.Words.{words_in}
 use Rattle.trace_history.specs.declared.entry.Entry.{Entry}
 
 -- the number behind a letter, in a list
