@@ -4,7 +4,6 @@ use mathlib.Core.List.{IsPrefix}
 use Rattle.slee_disk.specs.Causes.{Rose}
 use Rattle.slee_disk.specs.Sides.{Sides}
 use Rattle.slee_disk.specs.Disk.{DiskState, is_clean}
-use Rattle.commit_journal.specs.Reading.{Wrong}
 use Rattle.commit_journal.specs.declared.limits.TheConstants.{SIDE_FRAME}
 use Rattle.commit_journal.specs.Spelling.{records_size}
 use Rattle.trace_history.specs.Histories.{choices_of}
@@ -12,7 +11,7 @@ use Rattle.trace_history.specs.declared.entry.Entry.{Entry}
 use Rattle.router_state.specs.State.{State}
 use Rattle.router_steps.specs.Histories.{replay}
 use Rattle.router_steps.specs.Payloads.{payloads}
-use Rattle.router_durable.specs.Recovery.{restart, records}
+use Rattle.router_durable.specs.Recovery.{Unfit, restart, records}
 use Rattle.router_durable.specs.Choices.{written_format}
 use Rattle.router_durable.specs.Opening.{IsLeftAlone, IsUntouched}
 use Rattle.slee_run.specs.Given.{Document}
@@ -74,7 +73,7 @@ pub record KeepsJournal (x : Document) (base : State) (history acked : List Entr
   pub opened : IsTrue old.told → IsOpened (found x old) base history status
   pub untouched : IsUntouchedAt status old new
   -- bytes that stand for no state are left alone, whatever the status
-  pub alone : IsTrue old.told → (wrong : Wrong) → found x old ≡ Err wrong → IsLeftAlone old new
+  pub alone : IsTrue old.told → (unfit : Unfit) → found x old ≡ Err unfit → IsLeftAlone old new
   pub safe : IsTrue (is_clean old) → found x old ≡ Ok base → IsSafe x base history acked old new status
   -- where something was pending, this is said of what is left unless opening failed; a run that comes to its end leaves nothing pending
   pub held : IsTrue old.told → found x old ≡ Ok base → IsKeptNow x base history acked old new status ⊎ IsUnopened history old new status

@@ -36,7 +36,7 @@ returns-in-Err-begin-clause-refused g c =
     let j = c.in-Ok.found in
     let ok = c.in-Ok.ensures in
     let o : Opened g.D.Disk.disk old c.args.bytes.now j = record { opened = λ told. (ok.found told).read; records = λ told. (ok.found told).located_are; named = ok.opened.named; seen = λ told. (ok.found told).stands; looks = ok.looks; leaves = λ clean. (ok.any_moment clean).leaves; rest = λ clean. (ok.any_moment clean).clean; idle = ok.opened.empty } in
-    let both = plain_of start j.kept.head.format j.kept.head.snapshot j.records c.in-Ok-replayed.ensures.fits in
+    let both = plain_of start j.kept.side j.kept.head.format j.kept.head.snapshot j.records c.in-Ok-replayed.ensures.fits in
     let b = c.begin.ensures in
     let begins : Begins g.D.Disk.disk j c.begin.new.self = record { head = b.still.head; records = b.still.records; told = b.runs.told; rising = b.runs.rising; leaves = b.any_moment } in
     let refused = refused_by_begin g.D.Disk.disk old start c.args.bytes.now j o both.0 both.1 both.2 c.begin.new.self begins c.args.limit ok.opened.limited c.in-Err-begin.fault c.in-Err-begin.ensures.refused
@@ -53,7 +53,7 @@ invariant_of-result g c =
     let j = c.in-Ok.found in
     let ok = c.in-Ok.ensures in
     let o : Opened g.D.Disk.disk old c.args.bytes.now j = record { opened = λ told. (ok.found told).read; records = λ told. (ok.found told).located_are; named = ok.opened.named; seen = λ told. (ok.found told).stands; looks = ok.looks; leaves = λ clean. (ok.any_moment clean).leaves; rest = λ clean. (ok.any_moment clean).clean; idle = ok.opened.empty } in
-    let both = plain_of start j.kept.head.format j.kept.head.snapshot j.records c.in-Ok-replayed.ensures.fits in
+    let both = plain_of start j.kept.side j.kept.head.format j.kept.head.snapshot j.records c.in-Ok-replayed.ensures.fits in
     let b = c.begin.ensures in
     let begins : Begins g.D.Disk.disk j c.begin.new.self = record { head = b.still.head; records = b.still.records; told = b.runs.told; rising = b.runs.rising; leaves = b.any_moment } in
     let k = c.in-Ok-begin.ensures in
@@ -72,7 +72,7 @@ returns-clause-opened g c =
     let j = c.in-Ok.found in
     let ok = c.in-Ok.ensures in
     let o : Opened g.D.Disk.disk old c.args.bytes.now j = record { opened = λ told. (ok.found told).read; records = λ told. (ok.found told).located_are; named = ok.opened.named; seen = λ told. (ok.found told).stands; looks = ok.looks; leaves = λ clean. (ok.any_moment clean).leaves; rest = λ clean. (ok.any_moment clean).clean; idle = ok.opened.empty } in
-    let both = plain_of start j.kept.head.format j.kept.head.snapshot j.records c.in-Ok-replayed.ensures.fits in
+    let both = plain_of start j.kept.side j.kept.head.format j.kept.head.snapshot j.records c.in-Ok-replayed.ensures.fits in
     let b = c.begin.ensures in
     let begins : Begins g.D.Disk.disk j c.begin.new.self = record { head = b.still.head; records = b.still.records; told = b.runs.told; rising = b.runs.rising; leaves = b.any_moment } in
     let k = c.in-Ok-begin.ensures in
@@ -92,5 +92,5 @@ pub begin-requires-clause-current : goal.begin-requires-clause-current
 begin-requires-clause-current g c =
     let start = initial_of c.args.deployment.now.parts c.args.deployment.now.codes in
     let j = c.in-Ok.found in
-    let both = plain_of start j.kept.head.format j.kept.head.snapshot j.records c.in-Ok-replayed.ensures.fits in
+    let both = plain_of start j.kept.side j.kept.head.format j.kept.head.snapshot j.records c.in-Ok-replayed.ensures.fits in
     ap format_number both.2
