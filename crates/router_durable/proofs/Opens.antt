@@ -5,6 +5,7 @@ use Rattle.std.proofs.lemmas.Bool.{and_parts, eqb-true}
 use Rattle.std.proofs.lemmas.Slice.Eq.{bytes_eq-Decides}
 use mathlib.Core.List.{IsPrefix}
 use Rattle.slee_disk.specs.declared.side.Side.{Side}
+use Rattle.slee_disk.specs.declared.side.Side.TheVariants.{A}
 use Rattle.slee_disk.specs.Causes.{Rose}
 use Rattle.slee_disk.specs.Sides.{Sides, on}
 use Rattle.slee_disk.specs.Disk.{DiskState, Looks, LeavesOnly, is_clean}
@@ -21,11 +22,13 @@ use Rattle.commit_journal.specs.declared.fault.JournalFault.{JournalFault}
 use Rattle.commit_journal.specs.declared.fault.JournalFault.TheVariants as journal_faults
 use Rattle.commit_journal.specs.declared.fault.BeginFault.{BeginFault}
 use Rattle.commit_journal.specs.declared.fault.BeginFault.TheVariants as begin_faults
-use Rattle.commit_journal.specs.Reading.{Kept, Bad, recovered, first_gate}
+use Rattle.commit_journal.specs.Beginning.{MayLeave, size_left}
+use Rattle.commit_journal.specs.Reading.{Kept, Wrong, Bad, recovered, first_gate}
 use Rattle.commit_journal.specs.Spelling.{Head, format_number, spelled, size}
 use Rattle.commit_journal.specs.Kept.{IsWhole, Keeps, Stands, StandsOrBegun}
 use Rattle.commit_journal.specs.Journal.{View, payloads_on, IsOpenedAs, IsLeft, IsRefusedBegin, IsTooLarge, StaysClean, size_begun}
 use Rattle.commit_journal.specs.Views.{payload_of, located, kept_first, IsCause}
+use Rattle.commit_journal.proofs.Pending.{leaves_itself, leaves_look, leaves_more}
 use Rattle.commit_journal.proofs.Sizes.{length-stands}
 use Rattle.commit_journal.proofs.Sound.{payloads_on_stands}
 use Rattle.trace_history.specs.declared.choice.Choice.{Choice}
@@ -43,7 +46,7 @@ use Rattle.router_durable.specs.declared.replaying.ReplayFault.TheVariants as re
 use Rattle.router_durable.specs.Choices.{after_all, AreEnabled, AreChoices, AreReadAgain, written_format}
 use Rattle.router_durable.specs.Recovery.{fits_here, wrong_by, wrong_at, after_if, Misfit, first_wrong, misfit, with_choice, choices_in, Unfit, Broken, FirstFormat, unfit_by, first_fault, if_fit, past_of, past, state_of, restart, records_of, records, side_of, counting_side}
 use Rattle.router_durable.specs.Facts.{AreRead, Origin, origin_of, told_on, base_of, records_since, RestartsIn}
-use Rattle.router_durable.specs.Opening.{fault_of, begin_fault_of, IsOpenCause, IsReplayCause, IsSmall, IsUntouched, IsUntouchedFor, IsLeftAlone, IsRefused, Opens, StandsFor}
+use Rattle.router_durable.specs.Opening.{fault_of, begin_fault_of, IsOpenCause, IsReplayCause, IsSmall, IsUntouched, IsUntouchedFor, IsLeftAlone, IsRefused, LeavesAs, Opens, StandsFor}
 use Rattle.router_durable.specs.Replaying.{IsWrong, IsMisfit, misfit_at, refusal_of}
 use Rattle.router_durable.specs.Core.{IsSound, IsSoundWith}
 use Rattle.slee_descriptor.specs.declared.deployment.Deployment.{Deployment}
@@ -409,6 +412,20 @@ looks_alone old new failed looks = record {
   moments = leaves_call old new old.images failed (λ image now. now) looks.passes looks.images;
 }
 
+-- nothing else may be left than before
+pub leaves_same : (read : Result (Option Kept) Wrong) (old new : DiskState) → ((image : Sides) → new.images image → old.images image) → LeavesAs read old new
+leaves_same (Err wrong) old new same = same
+leaves_same (Ok None) old new same = leaves_itself A 0 old new same
+leaves_same (Ok (Some kept)) old new same = leaves_itself kept.side (size kept.head kept.payloads) old new same
+
+-- it was read, and its beginning failed
+leaves_begun : {D : Type 0} (deployment : List ℕ) (read : Result (Option Kept) Wrong) (v : View D) (old new : DiskState) → IsOpenedAs deployment read v → MayLeave v.kept.side (size_left v.stage v.kept) old new → LeavesAs read old new
+leaves_begun {D} deployment read v old new opened leaves = ⊎_elim
+    (λ x. subst (λ (r : Result (Option Kept) Wrong). LeavesAs r old new) (sym x.1) (subst (λ (s : Stage). MayLeave v.kept.side (size_left s v.kept) old new) x.0 leaves))
+    (λ x. subst (λ (r : Result (Option Kept) Wrong). LeavesAs r old new) (sym x.1)
+        (subst (λ (k : Kept). MayLeave k.side 0 old new) x.2 (subst (λ (s : Stage). MayLeave v.kept.side (size_left s v.kept) old new) x.0 leaves)))
+    opened
+
 -- ---- what the fields of the core are then
 
 fit_by : (side : Side) (first : Option Misfit) (format : Format) → unfit_by side first format ≡ None → (first ≡ None) × (format ≡ Two)
@@ -504,6 +521,7 @@ refused_by_journal old new start deployment limit fault cause looks stays = reco
   failed = λ is. looks.passes.cause (disk_of_journal fault is);
   untouched = left_for (fault_of fault) old new (looks_untouched old new (fault ≡ journal_faults.DiskFault) looks);
   any_moment = λ clean s is. restart_left start old new deployment s (stays clean).leaves is;
+  stays = λ told. leaves_same (recovered deployment old.seen) old new looks.images;
   left_alone = λ told wrong is. looks_alone old new (fault ≡ journal_faults.DiskFault) looks;
 }
 
@@ -516,6 +534,7 @@ refused_looking old new start deployment limit fault cause small other looks sta
   failed = λ is. absurd (other is);
   untouched = left_for fault old new (looks_untouched old new ⊥ looks);
   any_moment = λ clean s is. restart_left start old new deployment s (stays clean).leaves is;
+  stays = λ told. leaves_same (recovered deployment old.seen) old new looks.images;
   left_alone = λ told wrong is. looks_alone old new ⊥ looks;
 }
 
@@ -578,7 +597,8 @@ blank_size stages.Stopped head deployment blank named plain = absurd (cc blank)
 module _ {D : Type 0} (disk_of : D → DiskState) (old : DiskState) (start : State) (deployment : List ℕ) (j : View D) (o : Opened disk_of old deployment j)
     (plain : j.kept.head.snapshot ≡ []) (fits : misfit written_format start j.records ≡ None) (format : j.kept.head.format ≡ Two) (j2 : View D) (begins : Begins disk_of j j2) where
   -- the journal isn't begun
-  module _ (limit : ℕ) (limited : j.limit ≡ limit) (fault : BeginFault) (refused : IsRefusedBegin j j2 fault) (rose : fault ≡ begin_faults.DiskFault → Rose (disk_of j.disk).faults (disk_of j2.disk).faults) where
+  module _ (limit : ℕ) (limited : j.limit ≡ limit) (fault : BeginFault) (refused : IsRefusedBegin j j2 fault) (rose : fault ≡ begin_faults.DiskFault → Rose (disk_of j.disk).faults (disk_of j2.disk).faults)
+      (leaves : IsTrue (disk_of j.disk).told → MayLeave j.kept.side (size_left j.stage j.kept) (disk_of j.disk) (disk_of j2.disk)) where
     begin_cause : (fault : BeginFault) → IsTooLarge (size_begun j.stage j.kept.head) j.limit fault → IsTrue old.told → IsOpenCause start limit deployment old.seen (begin_fault_of fault)
     begin_cause begin_faults.DiskFault large told = tt
     begin_cause (begin_faults.Full size adding) large told =
@@ -599,6 +619,8 @@ module _ {D : Type 0} (disk_of : D → DiskState) (old : DiskState) (start : Sta
       failed = λ is. let up = rose (disk_of_begin fault is) in omega (arith, up, o.looks.passes.faults);
       untouched = begin_untouched fault refused.left;
       any_moment = λ clean s is. state_leaves disk_of old start deployment j o plain fits format j2 begins clean s is;
+      stays = λ told. leaves_begun deployment (recovered deployment old.seen) j old (disk_of j2.disk) (o.opened told)
+          (leaves_more j.kept.side (size_left j.stage j.kept) old (disk_of j.disk) (disk_of j2.disk) (leaves_look j.kept.side (size_left j.stage j.kept) old (disk_of j.disk) ⊥ o.looks) (leaves (subst IsTrue (sym o.looks.passes.told) told)));
       left_alone = λ told wrong is. absurd (no_fault disk_of old start deployment j o plain fits format told wrong is);
     }
 

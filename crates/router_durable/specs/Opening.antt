@@ -1,6 +1,7 @@
 -- Why a router over a journal isn't opened.
-use Rattle.std.specs.Prelude.{◌≡◌, ℕ, ◌+◌, ◌≤◌, ◌<◌, List, [], ◌∷◌, length, IsTrue, Option, Some, None, Ok, Err}
+use Rattle.std.specs.Prelude.{◌≡◌, ℕ, ◌+◌, ◌≤◌, ◌<◌, List, [], ◌∷◌, length, IsTrue, Option, Some, None, Result, Ok, Err}
 use Rattle.slee_disk.specs.declared.side.Side.{Side}
+use Rattle.slee_disk.specs.declared.side.Side.TheVariants.{A}
 use Rattle.slee_disk.specs.Sides.{Sides}
 use Rattle.slee_disk.specs.Causes.{Rose}
 use Rattle.slee_disk.specs.Disk.{DiskState, LeavesOnly, is_clean}
@@ -9,7 +10,9 @@ use Rattle.commit_journal.specs.declared.fault.JournalFault.{JournalFault}
 use Rattle.commit_journal.specs.declared.fault.JournalFault.TheVariants as journal_faults
 use Rattle.commit_journal.specs.declared.fault.BeginFault.{BeginFault}
 use Rattle.commit_journal.specs.declared.fault.BeginFault.TheVariants as begin_faults
-use Rattle.commit_journal.specs.Reading.{Bad, Other, recovered}
+use Rattle.commit_journal.specs.Beginning.{MayLeave}
+use Rattle.commit_journal.specs.Reading.{Kept, Wrong, Bad, Other, recovered}
+use Rattle.commit_journal.specs.Spelling.{size}
 use Rattle.router_state.specs.State.{State}
 use Rattle.router_durable.specs.declared.fault.OpenFault.{OpenFault}
 use Rattle.router_durable.specs.declared.fault.OpenFault.TheVariants as faults
@@ -74,6 +77,13 @@ IsUntouchedFor (faults.Full size adding) old new = IsUntouched old new
 IsUntouchedFor faults.NoMemory old new = IsUntouched old new
 IsUntouchedFor faults.DiskFault old new = Unit {0}
 
+-- Whatever was pending, a stop may leave what it might have left before: of the side that counts, by what reads gave, only as far as its
+-- last gate, and of side A nothing where both are blank.
+abbrev pub LeavesAs : Result (Option Kept) Wrong → DiskState → DiskState → Type 0
+LeavesAs (Err wrong) old new = (image : Sides) → new.images image → old.images image
+LeavesAs (Ok None) old new = MayLeave A 0 old new
+LeavesAs (Ok (Some kept)) old new = MayLeave kept.side (size kept.head kept.payloads) old new
+
 -- why what was found isn't replayed
 abbrev pub IsReplayCause : Option Unfit → OpenFault → Type 0
 IsReplayCause first (faults.BadJournal side at kind) = first ≡ Some (Broken (Bad side at kind))
@@ -109,5 +119,7 @@ pub record IsRefused (old new : DiskState) (start : State) (bytes : List ℕ) (l
   pub untouched : IsUntouchedFor fault old new
   -- a crash at any moment leaves the state and the records that were there
   pub any_moment : IsTrue (is_clean old) → (s : State) → restart start bytes old.seen ≡ Ok s → LeavesOnly old new (StandsFor start bytes s old.seen)
+  -- whatever was pending, all but what a beginning cuts or writes stays
+  pub stays : IsTrue old.told → LeavesAs (recovered bytes old.seen) old new
   -- bytes that stand for no state are left alone
   pub left_alone : IsTrue old.told → (unfit : Unfit) → restart start bytes old.seen ≡ Err unfit → IsLeftAlone old new

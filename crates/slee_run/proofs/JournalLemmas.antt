@@ -8,6 +8,7 @@ use Rattle.slee_disk.specs.Sides.{Sides}
 use Rattle.slee_disk.specs.Disk.{DiskState, LeavesOnly, is_clean}
 use Rattle.slee_disk.proofs.Moments.{leaves_start, now_since, tells, clean_of, clean_told, clean_settled, clean_only}
 use Rattle.commit_journal.specs.Journal.{payloads_on}
+use Rattle.commit_journal.specs.Reading.{recovered}
 use Rattle.commit_journal.specs.Spelling.{records_size}
 use Rattle.commit_journal.proofs.Sizes.{records_size-more}
 use Rattle.router_state.specs.State.{State}
@@ -19,6 +20,7 @@ use Rattle.router_durable.specs.declared.fault.OpenFault.{OpenFault}
 use Rattle.router_durable.specs.declared.fault.OpenFault.TheVariants as faults
 use Rattle.router_durable.specs.Recovery.{Unfit, restart, records, state_of as state_after}
 use Rattle.router_durable.specs.Opening.{IsOpenCause, IsRefused, IsSmall, IsUntouched, IsUntouchedFor, IsLeftAlone, Opens, StandsFor}
+use Rattle.router_durable.proofs.Opens.{leaves_same}
 use Rattle.router_durable.specs.Core.{is_down, IsStopOf, IsHeld}
 use Rattle.router_durable.specs.Facts.{Origin, base_of, origin_over, records_since, size_after, RestartsIn, HasRecords, HasRecordsOrMore}
 use Rattle.slee_container.specs.Container.{View, Setup, held_in, IsKept}
@@ -154,7 +156,7 @@ untouched x d status early = record {
   alone = λ told wrong is. alone_still d;
   safe = λ clean is. nothing_done x (base_on x d) d d status is clean
       (leaves_start d (StandsFor x.start x.bytes (base_on x d) d.seen) (λ image now. seen_stands x d (base_on x d) image is (clean_only d clean image now))) (λ up. still d);
-  held = λ told is. inr (record { none = refl; untouched = λ up. still d });
+  held = λ told is. inr (record { none = refl; untouched = λ up. still d; stays = leaves_same (recovered x.bytes d.seen) d d (λ image now. now) });
   settled = λ told is good more. absurd (early_ended status early good more);
   sized = λ told is. nothing_sized x (base_on x d) d status (early_fits status early);
   failed = λ is. absurd (early_up status early is);
@@ -216,7 +218,7 @@ refused x old new fault short r = record {
   untouched = refused_untouched old new fault r.untouched;
   alone = r.left_alone;
   safe = λ clean is. nothing_done x (base_on x old) old new (status_of fault) is clean (r.any_moment clean (base_on x old) is) (refused_still old new fault r.untouched);
-  held = λ told is. inr (record { none = refl; untouched = refused_still old new fault r.untouched });
+  held = λ told is. inr (record { none = refl; untouched = refused_still old new fault r.untouched; stays = r.stays told });
   settled = λ told is good more. absurd (refused_ended x.bytes fault short r.small good more);
   sized = λ told is. nothing_sized x (base_on x old) old (status_of fault) (refused_fits x.bytes fault short r.small);
   failed = refused_failed old new fault r.failed;
