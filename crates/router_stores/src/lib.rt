@@ -16,4 +16,4 @@ pub use laws::fitting_changes_can_be_made;
 pub use parts::StoreParts;
 pub use ready::Ready;
 pub use stores::Stores;
-pub use table_specs::specs_of as table_specs;
+pub use table_specs::specs_of;
