@@ -1,5 +1,5 @@
 -- Each step keeps the rule of the table.
-use Rattle.std.proofs.Common.{◌≡◌, ◌≢◌, ◌⊎◌, ℕ, ◌+◌, ◌-◌, ◌<◌, ◌≤◌, eqb, List, [], ◌∷◌, ◌++◌, length, set, get_or, Option, Some, refl, sym, ap, ◌∙◌, subst, inl, inr, ⊎_elim, arith, eq-eqb, ne_eqb}
+use Rattle.std.proofs.Common.{◌≡◌, ◌≢◌, ℕ, zero, suc, ◌+◌, ◌-◌, ◌<◌, ◌≤◌, eqb, List, [], ◌∷◌, length, set, get_or, Option, Some, refl, sym, ap, ◌∙◌, subst, inl, inr, ⊎_elim, arith, eq-eqb, ne_eqb}
 use Rattle.std.specs.Option.{unwrap_or}
 use mathlib.Core.Logic.{dite}
 use mathlib.Core.Option.{some, none, some-injective, some-ne-none}
@@ -13,10 +13,10 @@ use Rattle.atomic_table.proofs.Lists.{set_again, set_here, set_else, at_longer, 
 use Rattle.trace_history.specs.declared.choice.Choice.{Choice}
 use Rattle.slee_turn.specs.Setups.{Setup}
 use Rattle.slee_turn.specs.Numbers.{IsAmong, AreDisjoint, AreUpTo, numbers_after}
-use Rattle.slee_turn.specs.Knowledge.{Phase, free, inside, told, spent, Knowledge, number_limit, first_known, spent_known, taken_known, told_known, freed_known, heard_known, next_number, parted_known, part_known, joined_known}
-use Rattle.slee_turn.specs.Rule.{IsLive, HasTurn, SuitsPhase, Knows, AreApart, IsKept, IsOther, Takes, Tells, Frees, Hears, Looks}
+use Rattle.slee_turn.specs.Knowledge.{free, inside, told, Knowledge, number_limit, first_known, spent_known, taken_known, told_known, freed_known, heard_known, next_number, parted_known, part_known, joined_known}
+use Rattle.slee_turn.specs.Rule.{IsLive, HasTurn, SuitsPhase, Knows, AreApart, IsKept, Takes, Tells, Frees, Hears, Looks}
 use Rattle.slee_turn.proofs.NumberLemmas.{among_append, among_after, rises_append, among_merged, merged_rises, without_among, among_without}
-use Rattle.slee_turn.proofs.SeatLemmas.{prefix_refl, prefix_trans, prefix_length, turn_live, turn_number, free_in_phase, not_free, same_in_phase, free_phase, AllApart, apart_set, apart_snoc, each_set, each_snoc_at, inside_views, set_apart, longer_begins, others_set, others_snoc}
+use Rattle.slee_turn.proofs.SeatLemmas.{prefix_refl, prefix_trans, prefix_length, turn_live, turn_number, free_in_phase, not_free, same_in_phase, free_phase, apart_set, apart_snoc, each_set, each_snoc_at, inside_views, set_apart, longer_begins, others_set, others_snoc}
 
 module _ {G : Type 0} (setup_of : G → Setup) (history_of : G → List Choice) where
   abbrev St : Type 0

@@ -1,5 +1,5 @@
 -- Lists of numbers, which rise: what stands in them, and that two have none in common.
-use Rattle.std.proofs.Common.{◌≡◌, ◌≢◌, ◌⊎◌, ℕ, zero, suc, ◌+◌, ◌<◌, ◌≤◌, nat_lt, ◌==◌, if◌then◌else◌, Bool, true, false, List, [], ◌∷◌, ◌++◌, refl, sym, ◌∙◌, subst, inl, inr, ⊎_elim, arith, ltb-true, ltb-false, eqb-true}
+use Rattle.std.proofs.Common.{◌≡◌, ◌≢◌, ◌⊎◌, ℕ, zero, suc, ◌+◌, ◌<◌, ◌≤◌, nat_lt, ◌==◌, if◌then◌else◌, Bool, true, false, List, [], ◌∷◌, ◌++◌, refl, sym, ◌∙◌, subst, inl, inr, ⊎_elim, arith, ltb-true, ltb-false, eqb-true, true≢false, eq-eqb}
 use Rattle.slee_turn.specs.Numbers.{IsAmong, AreDisjoint, RisesAfter, Rises, AreUpTo, numbers_after, put_in, merged, without}
 
 -- a number of a rising list is above its bound
@@ -95,7 +95,7 @@ among_without x z (y ∷ ys) a =
     a
   where
     ne_of_false : (i j : ℕ) → (i == j) ≡ false → i ≢ j
-    ne_of_false i j is e = true-ne-false (sym (eq-eqb i j e) ∙ is)
+    ne_of_false i j is e = true≢false (sym (eq-eqb i j e) ∙ is)
 
 put_in_rest : (b x : ℕ) (ys : List ℕ) → RisesAfter b (put_in x ys) → RisesAfter b ys
 put_in_rest b x [] r = tt

@@ -77,8 +77,8 @@ module _ {G : Type 0} (setup_of : G → Setup) (history_of : G → List Choice) 
   abbrev pub Takes : Step (Option G) → Mine → ℕ → Mine → Type 0
   Takes step before found after =
       (found ≡ 0
-        → (g : G) × (after ≡ (taken_known before.0 (history_of g), (0, Some g) ∷ before.1))
-        × (setup_of g ≡ before.0.setup) × IsPrefix before.0.seen (history_of g) × (before.0.heard ≤ length (history_of g)))
+      → (g : G) × (after ≡ (taken_known before.0 (history_of g), (0, Some g) ∷ before.1))
+      × (setup_of g ≡ before.0.setup) × IsPrefix before.0.seen (history_of g) × (before.0.heard ≤ length (history_of g)))
       × (found ≢ 0 → (after ≡ before) × (found ≢ before.0.number))
 
   -- the length of the value is stored that the pass gives back

@@ -99,9 +99,7 @@ impl<G: Grows + Send> Turnstile<G> {
             spare: _,
             stopped: _,
         } = other;
-        self.board
-            .shared
-            .join_seat::<Parts>(&mut pass.seat, seat);
+        self.board.shared.join_seat::<Parts>(&mut pass.seat, seat);
         self.board.shared.load::<Looks>(&mut pass.seat, HOLDER);
     }
 

@@ -11,10 +11,10 @@ pub join_seat-requires : goal.join_seat-requires
 join_seat-requires g c =
     let mine = ap (λ p. p.known) c.pass.view_is in
     let theirs = ap (λ p. p.known) c.other.view_is in
-    let is_free : c.pass.inside.seat.me.0.phase ≡ free = ap (λ v. v.phase) mine ∙ c.requires.own.1 in
-    let is_free' : c.other.inside.seat.me.0.phase ≡ free = ap (λ v. v.phase) theirs ∙ c.requires.other.0.1 in
+    let is_free : c.pass.inside.seat.me.0.phase ≡ free = ap (λ v. v.phase) mine ∙ c.requires.pass.1 in
+    let is_free' : c.other.inside.seat.me.0.phase ≡ free = ap (λ v. v.phase) theirs ∙ c.requires.other.1 in
     let empty : c.other.inside.seat.me.1 ≡ [] = c.other.invariant.2 ∙ ap (slots_of None) is_free' in
-    let listed : IsAmong c.other.inside.seat.me.0.number c.pass.inside.seat.me.0.out = subst (λ (x : Knowledge × Knowledge). IsAmong x.0.number x.1.out) (λ i. (sym theirs i, sym mine i)) c.requires.other.1 in
+    let listed : IsAmong c.other.inside.seat.me.0.number c.pass.inside.seat.me.0.out = subst (λ (x : Knowledge × Knowledge). IsAmong x.0.number x.1.out) (λ i. (sym theirs i, sym mine i)) c.requires.out in
     (search rules, search rules, empty, search rules, joins_passes g.G.Grows.setup g.G.Grows.history _ _ _ _ is_free is_free' listed)
 
 pub load-requires : goal.load-requires
