@@ -67,7 +67,7 @@ impl<D: Disk> Journal<D> {
     ghost use Rattle.commit_journal.specs.Journal.{payloads_on, IsOpen, IsOpenOver, StaysClean, IsCounted, HasRoomFor, IsFullFor, IsRefused, with_payload, IsSameSide, size_begun, IsLeft, IsBegun, IsRefusedBegin, IsFlushed, IsSettled, GoesOn, IsRenewed, LeavesInRenewal, IsRefusedRenewal};
 
     /// Reads the two sides of a disk, of either format, and writes nothing. `limit` is the most bytes that a side may come
-    /// to have; a longer side is read all the same.
+    /// to have; a longer side is read all the same, but one longer than any side may be isn't: there is no memory for it.
     pub fn open(
         alloc: Global,
         disk: D,

@@ -423,7 +423,7 @@ leaves_begun : {D : Type 0} (deployment : List ℕ) (read : Result (Option Kept)
 leaves_begun {D} deployment read v old new opened leaves = ⊎_elim
     (λ x. subst (λ (r : Result (Option Kept) Wrong). LeavesAs r old new) (sym x.1) (subst (λ (s : Stage). MayLeave v.kept.side (size_left s v.kept) old new) x.0 leaves))
     (λ x. subst (λ (r : Result (Option Kept) Wrong). LeavesAs r old new) (sym x.1)
-        (subst (λ (k : Kept). MayLeave k.side 0 old new) x.2 (subst (λ (s : Stage). MayLeave v.kept.side (size_left s v.kept) old new) x.0 leaves)))
+    (subst (λ (k : Kept). MayLeave k.side 0 old new) x.2 (subst (λ (s : Stage). MayLeave v.kept.side (size_left s v.kept) old new) x.0 leaves)))
     opened
 
 -- ---- what the fields of the core are then
