@@ -38,7 +38,7 @@ impl Counted {
     }
 
     /// Adds an entry.
-    #[tactic(auto, using(crate::proofs::EntryLemmas::grown, crate::proofs::EntryLemmas::same))]
+    #[tactic(auto, using(crate::proofs::EntryLemmas::same))]
     pub fn add(&mut self, number: u64) -> Result<(), NoMemory>
         ensures grown { IsPrefix (history_of self.old.entries.items) (history_of self.new.entries.items) }
     {
