@@ -1,5 +1,5 @@
 //! A value to take in turns, whose entries are numbers.
-ghost use Rattle.std.specs.Prelude.{◌≡◌, ◌++◌, ◌∷◌, [], IfOk, OnOk, OnErr, false};
+ghost use Rattle.std.specs.Prelude.{false};
 ghost use mathlib.Core.List.{IsPrefix};
 ghost use Rattle.slee_turn.specs.Setups.{no_setup};
 ghost use Rattle.test_turns.specs.Entries.{history_of};
