@@ -50,7 +50,7 @@ use Rattle.router_state.specs.declared.rows.Timer.{Timer}
 use Rattle.router_steps.specs.Effects.{next_in, number_in, resolved_in}
 use Rattle.router_steps.specs.Steps.{Receipt, marked_entity}
 
-plain_first : (next : Next) (kind : Kind) (o : Option Value) → held kind o ≡ resolved_val next (held kind o)
+pub plain_first : (next : Next) (kind : Kind) (o : Option Value) → held kind o ≡ resolved_val next (held kind o)
 plain_first next kind (Some value) = refl
 plain_first next kinds.Int None = refl
 plain_first next kinds.Text None = refl
@@ -58,7 +58,7 @@ plain_first next kinds.Bool None = refl
 plain_first next kinds.Activity None = refl
 plain_first next kinds.Timer None = refl
 
-none_found : {Row : Type 0} (number : Row → ℕ) (n k : ℕ) (rows : List Row) → AllByRecursion (λ row. number row < n) rows → n ≤ k → find (λ row. number row == k) rows ≡ None
+pub none_found : {Row : Type 0} (number : Row → ℕ) (n k : ℕ) (rows : List Row) → AllByRecursion (λ row. number row < n) rows → n ≤ k → find (λ row. number row == k) rows ≡ None
 none_found number n k [] below le = refl
 none_found number n k (row ∷ rows) below le = let other : (number row == k) ≡ false = false_from_ne_true (number row == k) (λ is. clash below.0 (eqb-true (number row) k is)) in rw other (none_found number n k rows below.1 le)
   where
@@ -112,15 +112,15 @@ begin_read s x sound was = record {
   olds = λ e. told_olds s e sound;
 }
 
-all_below : {Row : Type 0} (number : Row → ℕ) (n : ℕ) (rows : List Row) → are_below number n rows ≡ true → AllByRecursion (λ row. number row < n) rows
+pub all_below : {Row : Type 0} (number : Row → ℕ) (n : ℕ) (rows : List Row) → are_below number n rows ≡ true → AllByRecursion (λ row. number row < n) rows
 all_below number n [] all = tt
 all_below number n (row ∷ rows) all = let parts = and_parts (nat_lt (number row) n) (are_below number n rows) all in (ltb-true (number row) n parts.0, all_below number n rows parts.1)
 
-received_drawn : (s : State) (x : Receipt) → IsSound s → entity_at s.entities x.entity.number.0 ≡ Some x.entity → x.entity.number.0 < s.next_entity
+pub received_drawn : (s : State) (x : Receipt) → IsSound s → entity_at s.entities x.entity.number.0 ≡ Some x.entity → x.entity.number.0 < s.next_entity
 received_drawn s x sound found = ltb-true x.entity.number.0 s.next_entity (there_below (λ (r : Entity). r.number.0) s.next_entity x.entity.number.0 s.entities (ap is_some found) (entities_drawn s.deployment s.entities s.next_entity sound.entities))
 
 -- after the effects of a delivery
-made_read : (s : State) (x : Receipt) (es : List Effect) → AreMade s x es → IsBehind s x.entity.number.0 x.entity.block x.activity es (after_made s x es) × IsRead s es (after_made s x es)
+pub made_read : (s : State) (x : Receipt) (es : List Effect) → AreMade s x es → IsBehind s x.entity.number.0 x.entity.block x.activity es (after_made s x es) × IsRead s es (after_made s x es)
 made_read s x es made =
     let start = delivery_behind s x [] made.sound made.deployed made.waits made.received tt tt (room_before (marked_entity x s) (after_made s x es) (grown_effects (resolved_in s es) (marked_entity x s)) made.room) in
     all_read s x.entity.number.0 x.entity.block x.activity [] es (marked_entity x s) made.sound made.deployed start (received_drawn s x made.sound made.received)

@@ -1,21 +1,25 @@
 -- The blocks of entities that stay through an effect.
-use Rattle.std.proofs.Common.{◌≡◌, ℕ, ℤ, ◌==◌, ◌∷◌, [], List, true, false, refl, ◌∙◌, ap, subst, Option, Some, None}
+use Rattle.std.proofs.Common.{◌≡◌, ℕ, ℤ, ◌≤◌, inl, inr, ◌==◌, ◌∷◌, [], List, true, false, refl, ◌∙◌, ap, subst, Option, Some, None}
 use Rattle.std.specs.Prelude.{is_some, option_map}
 use Rattle.std.proofs.lemmas.Bool.{and_parts}
 use Rattle.slee_effect.specs.Resolving.{resolved_effect, resolved_ref}
 use Rattle.slee_effect.specs.declared.effect.Effect.{Effect}
 use Rattle.slee_effect.specs.declared.effect.Effect.TheVariants as effects
 use Rattle.slee_effect.specs.declared.next.Next.{Next}
+use Rattle.slee_effect.specs.declared.reference.Ref.{Ref}
 use Rattle.slee_effect.specs.declared.reference.Ref.TheVariants.{Known}
 use Rattle.router_laws.proofs.KeptLemmas.{same_effect}
 use Rattle.router_laws.proofs.Removal.{in_list, left_entities}
-use Rattle.router_laws_applying.proofs.Behind.{stays_out}
+use Rattle.router_laws_applying.proofs.Behind.{out_here}
 use Rattle.router_laws_applying.proofs.Kids.{attached_rows, block_ranked, made_rows}
+use Rattle.router_laws_applying.proofs.Links.{out_of}
 use Rattle.router_laws_applying.specs.Behind.{IsHere}
 use Rattle.router_laws_sound.proofs.SoundBase.{found_more}
 use Rattle.router_laws_sound.proofs.SoundCreated.{new_entity}
 use Rattle.router_laws_sound.proofs.SoundRemoval.{entity_left}
+use Rattle.router_laws_sound.proofs.SoundTrees.{removed_alone}
 use Rattle.router_state.specs.Fits.{is_priority}
+use Rattle.router_state.specs.Fitting.{has_entity}
 use Rattle.router_state.specs.State.{State}
 use Rattle.router_state.specs.Trees.{entity_at, tree_of}
 use Rattle.router_state.specs.Well.{IsSound}
@@ -28,6 +32,15 @@ use Rattle.router_steps.specs.Going.{all_removed}
 -- what is so of the block of an entity, where it is there
 abbrev pub OfBlock : (ℕ → Type 0) → State → ℕ → Type 0
 OfBlock P s e = (row : Entity) → entity_at s.entities e ≡ Some row → P row.block
+
+-- what stays when a tree goes isn't in it
+pub stays_out : (me : ℕ) (next : Next) (entity : Ref) (s : State) (k : ℕ) → IsSound s → applies me (resolved_effect next (effects.Remove entity)) s ≡ true → IsHere (after_effect (resolved_effect next (effects.Remove entity)) s) k
+    → in_list k (tree_of s.entities (number_in (resolved_ref next.entity entity))) ≡ false
+stays_out me next entity s k sound is here = by (and_parts (has_entity s.entities (number_in (resolved_ref next.entity entity))) _ is).0 here
+  where
+    by : has_entity s.entities (number_in (resolved_ref next.entity entity)) ≡ true → IsHere (all_removed (tree_of s.entities (number_in (resolved_ref next.entity entity))) s) k → in_list k (tree_of s.entities (number_in (resolved_ref next.entity entity))) ≡ false
+    by there (inl stays) = out_of (tree_of s.entities (number_in (resolved_ref next.entity entity))) s k stays
+    by there (inr le) = out_here s (number_in (resolved_ref next.entity entity)) k sound there (subst (λ (n : ℕ). n ≤ k) (ap (λ (t : State). t.next_entity) (removed_alone (tree_of s.entities (number_in (resolved_ref next.entity entity))) s)) le)
 
 -- an entity with this block is there
 abbrev HasBlock : State → ℕ → ℕ → Type 0
@@ -54,7 +67,7 @@ block_stays me next (effects.SetAttr activity key value) s k row sound is here f
 block_stays me next (effects.Create parent under priority) s k row sound is here found =
     created s (number_in (resolved_ref next.entity parent)) under priority k row (and_parts (is_some (relation_at s (number_in (resolved_ref next.entity parent)) under)) (is_priority priority) is).0 found
 block_stays me next (effects.Remove entity) s k row sound is here found =
-    gone s (tree_of s.entities (number_in (resolved_ref next.entity entity))) k row (stays_out me next (effects.Remove entity) s k sound is here) found
+    gone s (tree_of s.entities (number_in (resolved_ref next.entity entity))) k row (stays_out me next entity s k sound is here) found
 block_stays me next (effects.SetPriority entity priority) s k row sound is here found = block_ranked s.entities (number_in (resolved_ref next.entity entity)) priority k ∙ kept s k row found
 block_stays me next (effects.Attach entity activity) s k row sound is here found =
     ap (λ rows. option_map (λ (r : Entity). r.block) (entity_at rows k)) (attached_rows s (number_in (resolved_ref next.entity entity)) (number_in (resolved_ref next.activity activity))) ∙ kept s k row found

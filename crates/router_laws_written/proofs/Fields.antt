@@ -27,7 +27,6 @@ use Rattle.router_laws.proofs.ListLemmas.{find_kept, find_put_other, find_put_ow
 use Rattle.router_laws.proofs.OrderLemmas.{below_joins}
 use Rattle.router_laws.proofs.Removal.{in_list}
 use Rattle.router_laws.proofs.RisingLemmas.{InOrder, order_from_rises}
-use Rattle.router_laws_applying.proofs.Behind.{stays_out}
 use Rattle.router_laws_applying.proofs.Frames.{child_is, child_state}
 use Rattle.router_laws_applying.proofs.Kids.{made_rows}
 use Rattle.router_laws_applying.proofs.References.{same_numbers}
@@ -37,7 +36,7 @@ use Rattle.router_laws_sound.proofs.SoundBase.{entities_drawn, there_below}
 use Rattle.router_laws_sound.proofs.SoundCreated.{new_entity, new_found, with_fields}
 use Rattle.router_laws_sound.proofs.SoundFields.{not_below_itself}
 use Rattle.router_laws_written.proofs.Attributes.{key_level, key_sides, plain_held, texts_same}
-use Rattle.router_laws_written.proofs.Blocks.{OfBlock}
+use Rattle.router_laws_written.proofs.Blocks.{OfBlock, stays_out}
 use Rattle.router_laws_written.specs.Held.{field_held, held}
 use Rattle.router_state.specs.Changes.{after_changes}
 use Rattle.router_state.specs.Contexts.{is_linked}
@@ -205,7 +204,7 @@ field_step me next n (effects.Create parent under priority) s e name kind base s
     created next n s (number_in (resolved_ref next.entity parent)) under priority e name kind base sound (and_parts (is_some (relation_at s (number_in (resolved_ref next.entity parent)) under)) (is_priority priority) apply).0 drawn mine kinds is
 field_step me next n (effects.Remove entity) s e name kind base sound apply drawn old mine here kinds is =
     let k = number_in (resolved_ref next.entity e) in
-    ap (held kind) (field_left (tree_of s.entities (number_in (resolved_ref next.entity entity))) s k name (stays_out me next (effects.Remove entity) s k sound apply here)) ∙ is
+    ap (held kind) (field_left (tree_of s.entities (number_in (resolved_ref next.entity entity))) s k name (stays_out me next entity s k sound apply here)) ∙ is
 field_step me next n (effects.SetPriority entity priority) s e name kind base sound apply drawn old mine here kinds is = is
 field_step me next n (effects.Attach entity activity) s e name kind base sound apply drawn old mine here kinds is =
     left next kind s (after_effect (resolved_effect next (effects.Attach entity activity)) s) e name base (linked s (number_in (resolved_ref next.entity entity)) (number_in (resolved_ref next.activity activity))) is

@@ -13,7 +13,6 @@ use Rattle.script_meaning.specs.Overlay.{mask_set, masks_after, or_masks, same_r
 use Rattle.script_types.specs.declared.codes.RelationCode.{RelationCode}
 use Rattle.deploy_model.specs.Deployed.{Deployed, masked_on_attach}
 use Rattle.rows_sorted.specs.Orders.{same_pair}
-use Rattle.router_laws_applying.proofs.Behind.{stays_out}
 use Rattle.router_laws_applying.proofs.Frames.{child_is}
 use Rattle.router_laws_applying.proofs.Links.{LinksOld, link_step}
 use Rattle.router_laws_applying.proofs.References.{same_numbers}
@@ -21,7 +20,7 @@ use Rattle.router_laws_applying.specs.Behind.{IsHere}
 use Rattle.router_laws_effects.specs.Runs.{IsOld}
 use Rattle.router_laws_sound.proofs.SoundBase.{some_there}
 use Rattle.router_laws_written.proofs.Attributes.{texts_same}
-use Rattle.router_laws_written.proofs.Blocks.{OfBlock}
+use Rattle.router_laws_written.proofs.Blocks.{OfBlock, stays_out}
 use Rattle.router_laws_written.proofs.MaskRows.{first_other, first_own, forgotten_other, forgotten_own, mask_is_seen, mask_seen, masked_other, masked_own, masks_left, unmasked_other, unmasked_own}
 use Rattle.router_laws_written.specs.Held.{BeginsWith, has_mask}
 use Rattle.router_state.specs.Changes.{after_changes}
@@ -84,7 +83,7 @@ masked name event false true m base is = let set = is_set event base m is in rw 
         by false = refl
     without (other ∷ names) = elim (cases_Bool (bytes_eq event other)) [
       | inl own ↦ (let same : bytes_eq other name ≡ bytes_eq event name = ap (λ z. bytes_eq z name) (sym (texts_same event other own)) in elim (cases_Bool (bytes_eq event name)) [
-        | inl is ↦ rw (same, is, own) (without names ∙ rw is refl)
+        | inl is ↦ rw (same, is) (without names ∙ rw is refl)
         | inr isnt ↦ rw (same, isnt, own) refl
       ])
       | inr not_own ↦ cond_both (not (bytes_eq other name)) (other ∷ filter (λ z. not (bytes_eq z name)) names) (filter (λ z. not (bytes_eq z name)) names) (λ zs. list_any (bytes_eq event) zs ≡ (not (bytes_eq event name) && (bytes_eq event other || list_any (bytes_eq event) names)))
@@ -143,12 +142,18 @@ same_seen s t e a event one two = rw (one, two) refl
 pair_numbers : (e a f b : ℕ) → same_pair e a f b ≡ true → (e ≡ f) × (a ≡ b)
 pair_numbers e a f b is = let both = and_parts (e == f) (a == b) is in (eqb-true e f both.0, eqb-true a b both.1)
 
+own_here : (s : State) (e a : ℕ) (event : List ℕ) (first : List (List ℕ)) (base : Option (List (List ℕ))) → OfBlock (BeginsWith s.deployment event first) s e → mask_seen s e a event ≡ has_mask event base
+    → has_entity s.entities e ≡ true → is_linked (attached s e a).links e a ≡ true → mask_seen (attached s e a) e a event ≡ has_mask event (or_masks first base)
+own_here s e a event first base begins is there now =
+    ap (λ l. seen_as l (is_masked (attached s e a).masks e a event)) now ∙ ap Some (attached_own s e a event)
+    ∙ ap (λ m. Some (if is_linked s.links e a then is_masked s.masks e a event else m)) (first_are s e event first there begins)
+    ∙ joined first event (is_linked s.links e a) (is_masked s.masks e a event) base is
+
 own_attached : (s : State) (f b e a : ℕ) (event : List ℕ) (first : List (List ℕ)) (base : Option (List (List ℕ))) → (f ≡ e) × (b ≡ a) → has_entity s.entities f ≡ true → OfBlock (BeginsWith s.deployment event first) s e
     → is_linked (attached s f b).links e a ≡ true → mask_seen s e a event ≡ has_mask event base → mask_seen (attached s f b) e a event ≡ has_mask event (or_masks first base)
 own_attached s f b e a event first base (one, two) there begins now is =
-    rw now (ap Some (subst (λ k. is_masked (attached s k b).masks e a event ≡ _) (sym one) (subst (λ k. is_masked (attached s e k).masks e a event ≡ _) (sym two) (attached_own s e a event)))
-    ∙ ap (λ m. Some (if is_linked s.links e a then is_masked s.masks e a event else m)) (first_are s e event first (subst (λ k. has_entity s.entities k ≡ true) one there) begins)
-    ∙ joined first event (is_linked s.links e a) (is_masked s.masks e a event) base is)
+    subst (λ k. has_entity s.entities k ≡ true → is_linked (attached s k b).links e a ≡ true → mask_seen (attached s k b) e a event ≡ has_mask event (or_masks first base)) (sym one)
+    (subst (λ k. has_entity s.entities e ≡ true → is_linked (attached s e k).links e a ≡ true → mask_seen (attached s e k) e a event ≡ has_mask event (or_masks first base)) (sym two) (own_here s e a event first base begins is)) there now
 
 -- one effect that applies does to a mask what the overlay does, while the entity stays
 pub mask_step : (me : ℕ) (next : Next) (n : ℕ) (x : Effect) (s : State) (e a : Ref) (event : List ℕ) (first : List (List ℕ)) (base : Option (List (List ℕ))) → IsSound s → applies me (resolved_effect next x) s ≡ true → LinksOld next x → MasksOld next x → IsOld next.entity e → IsOld next.activity a
@@ -167,7 +172,7 @@ mask_step me next n (effects.Remove entity) s e a event first base sound apply l
     let x = effects.Remove entity in
     let k = number_in (resolved_ref next.entity e) in
     let b = number_in (resolved_ref next.activity a) in
-    let out = stays_out me next x s k sound apply here in
+    let out = stays_out me next entity s k sound apply here in
     same_seen s (after_effect (resolved_effect next x) s) k b event (link_step next n x s e a links mine on out) (masks_left (tree_of s.entities (number_in (resolved_ref next.entity entity))) s k b event out) ∙ is
 mask_step me next n (effects.SetPriority entity priority) s e a event first base sound apply links masks mine on here begins is = is
 mask_step me next n (effects.Attach entity activity) s e a event first base sound apply links masks mine on here begins is =
@@ -209,8 +214,8 @@ mask_step me next n (effects.SetMask entity activity name set) s e a event first
   where
     own_set : (f c k b : ℕ) → (f ≡ k) × (c ≡ b) → mask_seen s k b event ≡ has_mask event base → (if is_linked s.links k b then Some (is_masked (with_mask_set s.masks f c name set) k b event) else None) ≡ has_mask event (mask_set name set base)
     own_set f c k b (one, two) is =
-        ap (λ m. seen_as (is_linked s.links k b) m) (subst (λ i. is_masked (with_mask_set s.masks i c name set) k b event ≡ _) (sym one) (subst (λ i. is_masked (with_mask_set s.masks k i name set) k b event ≡ _) (sym two) (set_own s.masks k b name event set)))
-        ∙ masked name event set (is_linked s.links k b) (is_masked s.masks k b event) base is
+        ap (λ i. seen_as (is_linked s.links k b) (is_masked (with_mask_set s.masks i c name set) k b event)) one ∙ ap (λ i. seen_as (is_linked s.links k b) (is_masked (with_mask_set s.masks k i name set) k b event)) two
+        ∙ ap (λ m. seen_as (is_linked s.links k b) m) (set_own s.masks k b name event set) ∙ masked name event set (is_linked s.links k b) (is_masked s.masks k b event) base is
 mask_step me next n (effects.Fire activity name service fields) s e a event first base sound apply links masks mine on here begins is = is
 mask_step me next n effects.NewNull s e a event first base sound apply links masks mine on here begins is = is
 mask_step me next n (effects.EndNull activity) s e a event first base sound apply links masks mine on here begins is = is

@@ -14,7 +14,6 @@ use Rattle.slee_effect.specs.declared.reference.Ref.TheVariants.{Fresh}
 use Rattle.script_meaning.specs.Overlay.{priority_after, same_ref}
 use Rattle.rows_sorted.specs.Orders.{are_below}
 use Rattle.router_laws.proofs.Removal.{in_list, left_entities}
-use Rattle.router_laws_applying.proofs.Behind.{stays_out}
 use Rattle.router_laws_applying.proofs.Kids.{attached_rows, made_rows}
 use Rattle.router_laws_applying.proofs.References.{same_numbers}
 use Rattle.router_laws_applying.specs.Behind.{IsHere}
@@ -22,6 +21,7 @@ use Rattle.router_laws_effects.specs.Runs.{IsOld}
 use Rattle.router_laws_sound.proofs.SoundBase.{entities_drawn}
 use Rattle.router_laws_sound.proofs.SoundCreated.{new_entity}
 use Rattle.router_laws_sound.proofs.SoundRemoval.{entity_left}
+use Rattle.router_laws_written.proofs.Blocks.{stays_out}
 use Rattle.router_laws_written.specs.Held.{priority_held}
 use Rattle.router_state.specs.Fits.{is_priority}
 use Rattle.router_state.specs.Fitting.{has_entity}
@@ -108,7 +108,7 @@ priority_step me next n (effects.Create parent under priority) s e base sound ap
 priority_step me next n (effects.Remove entity) s e base sound apply drawn old mine here is =
     let k = number_in (resolved_ref next.entity e) in
     let tree = tree_of s.entities (number_in (resolved_ref next.entity entity)) in
-    ap (λ rows. rank_in (entity_at rows k)) (left_entities tree s) ∙ ap rank_in (entity_left tree s.entities k (stays_out me next (effects.Remove entity) s k sound apply here)) ∙ is
+    ap (λ rows. rank_in (entity_at rows k)) (left_entities tree s) ∙ ap rank_in (entity_left tree s.entities k (stays_out me next entity s k sound apply here)) ∙ is
 priority_step me next n (effects.SetPriority entity priority) s e base sound apply drawn old mine here is =
     rank_set s.entities (number_in (resolved_ref next.entity entity)) priority (number_in (resolved_ref next.entity e))
     ∙ elim (cases_Bool (number_in (resolved_ref next.entity entity) == number_in (resolved_ref next.entity e))) [

@@ -16,7 +16,6 @@ use Rattle.deploy_model.specs.Deployed.{Deployed, block_fields}
 use Rattle.router_laws.proofs.ListRules.{append_joins, append_nil}
 use Rattle.router_laws_applying.proofs.Applied.{applies_now, refers_old}
 use Rattle.router_laws_applying.proofs.Behind.{RefersOld, behind_one}
-use Rattle.router_laws_applying.proofs.Beginning.{delivery_begins}
 use Rattle.router_laws_applying.proofs.Kids.{here_before}
 use Rattle.router_laws_applying.proofs.Laid.{laid}
 use Rattle.router_laws_applying.proofs.Present.{IsPresent, present, there_of}
@@ -46,21 +45,21 @@ use Rattle.router_steps.specs.Scripts.{answers_in}
 
 -- what is asked of an effect's references
 record ReadsOld (next : Next) (x : Effect) : Type 0 where
-  fields : FieldsOld next.entity x
-  ranks : RanksOld next.entity x
-  masks : MasksOld next x
-  times : TimesOld next.activity x
+  pub fields : FieldsOld next.entity x
+  pub ranks : RanksOld next.entity x
+  pub masks : MasksOld next x
+  pub times : TimesOld next.activity x
 
 -- what a run reads of entities, masks and timers is there, and its activities are those that were drawn before or are new
-record IsRead (s : State) (before : List Effect) (t : State) : Type 0 where
-  fields : (e : Ref) (name : List ℕ) (kind : Kind) → IsOld s.next_entity e → IsHere t (number_in (resolved_ref s.next_entity e)) → OfBlock (λ block. AreOfKind name kind (block_fields s.deployment block)) t (number_in (resolved_ref s.next_entity e))
+pub record IsRead (s : State) (before : List Effect) (t : State) : Type 0 where
+  pub fields : (e : Ref) (name : List ℕ) (kind : Kind) → IsOld s.next_entity e → IsHere t (number_in (resolved_ref s.next_entity e)) → OfBlock (λ block. AreOfKind name kind (block_fields s.deployment block)) t (number_in (resolved_ref s.next_entity e))
       → field_held (next_in s) kind t e name ≡ resolved_val (next_in s) (overlay entities_by (field_after e name) before (field_told s kind e name))
-  priorities : (e : Ref) → IsOld s.next_entity e → IsHere t (number_in (resolved_ref s.next_entity e)) → priority_held (next_in s) t e ≡ overlay entities_by (priority_after e) before (priority_told s e)
-  masks : (e a : Ref) (event : List ℕ) (first : List (List ℕ)) → IsOld s.next_entity e → IsOld s.next_activity a → IsHere t (number_in (resolved_ref s.next_entity e)) → OfBlock (BeginsWith s.deployment event first) t (number_in (resolved_ref s.next_entity e))
+  pub priorities : (e : Ref) → IsOld s.next_entity e → IsHere t (number_in (resolved_ref s.next_entity e)) → priority_held (next_in s) t e ≡ overlay entities_by (priority_after e) before (priority_told s e)
+  pub masks : (e a : Ref) (event : List ℕ) (first : List (List ℕ)) → IsOld s.next_entity e → IsOld s.next_activity a → IsHere t (number_in (resolved_ref s.next_entity e)) → OfBlock (BeginsWith s.deployment event first) t (number_in (resolved_ref s.next_entity e))
       → mask_seen t (number_in (resolved_ref s.next_entity e)) (number_in (resolved_ref s.next_activity a)) event ≡ has_mask event (overlay activities_by (masks_after first e a) before (masks_told s e a))
-  timers : (r : Ref) → IsOld s.next_timer r → timer_held (next_in s) t r ≡ numbered (next_in s) (overlay timers_by (timer_after r) before (timer_told s r))
-  stands : (r : Ref) → StandsOld s.next_activity (overlay timers_by (timer_after r) before (timer_told s r))
-  olds : (e : Ref) → AllByRecursion (IsOld s.next_activity) (overlay activities_by (activities_after e) before (activities_told s e))
+  pub timers : (r : Ref) → IsOld s.next_timer r → timer_held (next_in s) t r ≡ numbered (next_in s) (overlay timers_by (timer_after r) before (timer_told s r))
+  pub stands : (r : Ref) → StandsOld s.next_activity (overlay timers_by (timer_after r) before (timer_told s r))
+  pub olds : (e : Ref) → AllByRecursion (IsOld s.next_activity) (overlay activities_by (activities_after e) before (activities_told s e))
 
 -- an effect that suits refers to what was drawn before the run or is new
 
@@ -123,7 +122,7 @@ read_one s me own a before x t was old reads cancels is read =
     }
 
 -- after all of them
-all_read : (s : State) (me own a : ℕ) (before es : List Effect) (t : State) → IsSound s → IsDeployed s.deployment → IsBehind s me own a before t → me < s.next_entity → AllByRecursion (λ row. row.number.0 < s.next_activity) s.activities
+pub all_read : (s : State) (me own a : ℕ) (before es : List Effect) (t : State) → IsSound s → IsDeployed s.deployment → IsBehind s me own a before t → me < s.next_entity → AllByRecursion (λ row. row.number.0 < s.next_activity) s.activities
     → AllSuit s me own a before es → Guarded (answers_in s) before es → AllByRecursion (CancelsOld s.next_timer) es → HasRoom (after_effects (map (resolved_effect (next_in s)) es) t) → IsRead s before t
     → IsBehind s me own a (before ++ es) (after_effects (map (resolved_effect (next_in s)) es) t) × IsRead s (before ++ es) (after_effects (map (resolved_effect (next_in s)) es) t)
 all_read s me own a before [] t first deployed was drawn below suit guard cancels room read =

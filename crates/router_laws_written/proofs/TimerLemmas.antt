@@ -1,5 +1,5 @@
 -- What a run reads of a timer after its own effects is what is there once they are done.
-use Rattle.std.proofs.Common.{◌≡◌, ℕ, ◌+◌, ◌<◌, ◌==◌, Bool, true, false, List, [], ◌∷◌, refl, sym, ◌∙◌, ap, subst, inl, inr, arith, not, if◌then◌else◌, Option, Some, None}
+use Rattle.std.proofs.Common.{◌≡◌, ℕ, ℤ, ◌+◌, ◌<◌, ◌==◌, Bool, true, false, List, [], ◌∷◌, refl, sym, ◌∙◌, ap, subst, inl, inr, arith, not, if◌then◌else◌, Option, Some, None}
 use Rattle.std.specs.Prelude.{nat_lt, option_map}
 use Rattle.std.specs.List.{AllByRecursion, filter, list_all}
 use Rattle.std.specs.Option.{option_map_or}
@@ -104,7 +104,7 @@ timers_ended (row ∷ rows) a k order = elim (cases_Bool (row.number.0 == k)) [
 
 -- the timers of a sound state rise and were drawn
 
-timers_below : (s : State) → IsSound s → AllByRecursion (λ (row : Timer). row.number.0 < s.next_timer) s.timers
+pub timers_below : (s : State) → IsSound s → AllByRecursion (λ (row : Timer). row.number.0 < s.next_timer) s.timers
 timers_below s sound = each s.timers (and_parts (rises_in (λ (row : Timer). row.number.0) s.timers) _ sound.timers).1
   where
     each : (rows : List Timer) → list_all (is_timer_row s.activities s.next_timer) rows ≡ true → AllByRecursion (λ (row : Timer). row.number.0 < s.next_timer) rows

@@ -6,5 +6,8 @@ mod entities;
 mod timers;
 
 pub use activities::attributes_are_read_as_written;
-pub use entities::{activities_of_entities_are_read_as_written, fields_are_read_as_written, masks_are_read_as_written, priorities_are_read_as_written};
+pub use entities::{
+    activities_of_entities_are_read_as_written, fields_are_read_as_written,
+    masks_are_read_as_written, priorities_are_read_as_written,
+};
 pub use timers::timers_are_read_as_written;
