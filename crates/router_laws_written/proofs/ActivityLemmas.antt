@@ -1,5 +1,5 @@
 -- What a run reads of the activities of an entity after its own effects are those to which it is attached once they are done, while it stays.
-use Rattle.std.proofs.Common.{◌≡◌, ℕ, ◌+◌, ◌-◌, ◌<◌, ◌==◌, ◌&&◌, ◌||◌, Bool, true, false, List, [], ◌∷◌, map, refl, sym, ◌∙◌, ap, subst, inl, inr, arith, not, if◌then◌else◌, Some, None}
+use Rattle.std.proofs.Common.{◌≡◌, ℕ, ◌+◌, ◌-◌, ◌==◌, ◌&&◌, ◌||◌, Bool, true, false, List, [], ◌∷◌, map, refl, sym, ◌∙◌, ap, subst, inl, inr, arith, not, if◌then◌else◌}
 use Rattle.std.specs.Prelude.{is_some, nat_lt}
 use Rattle.std.specs.List.{AllByRecursion, filter, list_all, list_any}
 use Rattle.std.proofs.lemmas.Bool.{and_parts, cases_Bool, cond_both, eqb-true, ltb-true, lt-ltb}
@@ -23,7 +23,7 @@ use Rattle.router_laws_sound.proofs.SoundBase.{activities_drawn, there_below}
 use Rattle.router_laws_sound.proofs.SoundLinks.{link_joins}
 use Rattle.router_laws_written.proofs.RisingNumbers.{Rise, same_members}
 use Rattle.router_laws_written.specs.Held.{activities_held, activities_told, activity_numbers}
-use Rattle.router_state.specs.Contexts.{activities_of, activity_at, is_link, is_linked, link_before}
+use Rattle.router_state.specs.Contexts.{activities_of, activity_at, is_linked, link_before}
 use Rattle.router_state.specs.State.{State}
 use Rattle.router_state.specs.Trees.{entity_at}
 use Rattle.router_state.specs.Well.{IsSound}

@@ -1,10 +1,9 @@
 -- Where the effects of a delivery begin, a run reads what is there; and so it does after them, of each key.
-use Rattle.std.proofs.Common.{◌≡◌, ℕ, ℤ, ◌+◌, ◌<◌, ◌≤◌, ◌==◌, List, [], ◌∷◌, map, refl, sym, ◌∙◌, ap, subst, inl, arith, true, false, Some, None, Option}
+use Rattle.std.proofs.Common.{◌≡◌, ℕ, ◌+◌, ◌<◌, ◌≤◌, ◌==◌, List, [], ◌∷◌, refl, sym, ◌∙◌, ap, subst, inl, arith, true, false, Some, None, Option}
 use Rattle.std.specs.Prelude.{find, is_some, nat_lt, not, option_map, pos}
 use Rattle.std.specs.Option.{option_map_or}
 use Rattle.std.specs.List.{AllByRecursion, list_all}
 use Rattle.std.proofs.lemmas.Bool.{and_parts, eqb-true, false_from_ne_true, ltb-true}
-use Rattle.slee_value.specs.declared.ids.ActivityId.{ActivityId}
 use Rattle.slee_value.specs.declared.kind.Kind.{Kind}
 use Rattle.slee_value.specs.declared.kind.Kind.TheVariants as kinds
 use Rattle.slee_value.specs.declared.value.Value.{Value}
@@ -20,8 +19,8 @@ use Rattle.script_meaning.specs.Overlay.{activities_after, activities_by, entiti
 use Rattle.deploy_model.specs.Deployed.{block_fields}
 use Rattle.rows_sorted.specs.Orders.{are_below, rises_in}
 use Rattle.router_laws_applying.proofs.Beginning.{delivery_behind}
-use Rattle.router_laws_applying.proofs.Present.{IsPresent, present, there_of}
-use Rattle.router_laws_applying.specs.Behind.{IsBehind, IsHere, attached_told}
+use Rattle.router_laws_applying.proofs.Present.{present, there_of}
+use Rattle.router_laws_applying.specs.Behind.{IsBehind, attached_told}
 use Rattle.router_laws_applying.specs.Seen.{linked_in, numbered}
 use Rattle.router_laws_applying.specs.Suited.{LivesAtAll, LivesSomewhere}
 use Rattle.router_laws_effects.specs.Runs.{IsOld}
@@ -36,7 +35,7 @@ use Rattle.router_laws_written.proofs.Readings.{IsRead, all_read}
 use Rattle.router_laws_written.proofs.TimerLemmas.{StandsOld, timers_below}
 use Rattle.router_laws_written.specs.Held.{BeginsWith, activities_held, activities_told, activity_numbers, field_held, field_told, has_mask, held, masks_held, masks_told, priority_held, priority_told, timer_held, timer_told}
 use Rattle.router_laws_written.specs.Made.{AreMade, after_made}
-use Rattle.router_state.specs.Contexts.{activity_at, is_active, is_linked}
+use Rattle.router_state.specs.Contexts.{activity_at, is_active}
 use Rattle.router_state.specs.Fields.{field_at}
 use Rattle.router_state.specs.Fits.{is_drawn}
 use Rattle.router_state.specs.State.{State}

@@ -8,7 +8,6 @@ use Rattle.slee_effect.specs.declared.effect.Effect.TheVariants as effects
 use Rattle.slee_effect.specs.declared.next.Next.{Next}
 use Rattle.slee_effect.specs.declared.reference.Ref.{Ref}
 use Rattle.slee_effect.specs.declared.reference.Ref.TheVariants.{Known}
-use Rattle.router_laws.proofs.KeptLemmas.{same_effect}
 use Rattle.router_laws.proofs.Removal.{in_list, left_entities}
 use Rattle.router_laws_applying.proofs.Behind.{out_here}
 use Rattle.router_laws_applying.proofs.Kids.{attached_rows, block_ranked, made_rows}

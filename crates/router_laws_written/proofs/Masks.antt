@@ -11,7 +11,7 @@ use Rattle.slee_effect.specs.declared.next.Next.{Next}
 use Rattle.slee_effect.specs.declared.reference.Ref.{Ref}
 use Rattle.script_meaning.specs.Overlay.{mask_set, masks_after, or_masks, same_ref}
 use Rattle.script_types.specs.declared.codes.RelationCode.{RelationCode}
-use Rattle.deploy_model.specs.Deployed.{Deployed, masked_on_attach}
+use Rattle.deploy_model.specs.Deployed.{masked_on_attach}
 use Rattle.rows_sorted.specs.Orders.{same_pair}
 use Rattle.router_laws_applying.proofs.Frames.{child_is}
 use Rattle.router_laws_applying.proofs.Links.{LinksOld, link_step}
@@ -21,7 +21,7 @@ use Rattle.router_laws_effects.specs.Runs.{IsOld}
 use Rattle.router_laws_sound.proofs.SoundBase.{some_there}
 use Rattle.router_laws_written.proofs.Attributes.{texts_same}
 use Rattle.router_laws_written.proofs.Blocks.{OfBlock, stays_out}
-use Rattle.router_laws_written.proofs.MaskRows.{first_other, first_own, forgotten_other, forgotten_own, mask_is_seen, mask_seen, masked_other, masked_own, masks_left, unmasked_other, unmasked_own}
+use Rattle.router_laws_written.proofs.MaskRows.{first_other, first_own, forgotten_other, forgotten_own, mask_seen, masked_other, masked_own, masks_left, unmasked_other, unmasked_own}
 use Rattle.router_laws_written.specs.Held.{BeginsWith, has_mask}
 use Rattle.router_state.specs.Changes.{after_changes}
 use Rattle.router_state.specs.Contexts.{is_linked}

@@ -1,5 +1,5 @@
 -- What a run reads of a priority after its own effects is what is there once they are done, while the entity stays.
-use Rattle.std.proofs.Common.{◌≡◌, ℕ, ℤ, ◌+◌, ◌<◌, ◌==◌, ◌&&◌, Bool, true, false, List, [], ◌∷◌, ◌++◌, refl, sym, ◌∙◌, ap, subst, inl, inr, arith, if◌then◌else◌, Option, Some, None}
+use Rattle.std.proofs.Common.{◌≡◌, ℕ, ℤ, ◌+◌, ◌<◌, ◌==◌, ◌&&◌, Bool, true, false, List, [], ◌∷◌, ◌++◌, refl, sym, ◌∙◌, ap, subst, inl, inr, arith, if◌then◌else◌, Option}
 use Rattle.std.specs.Prelude.{is_some, nat_lt, pos}
 use Rattle.std.specs.List.{AllByRecursion}
 use Rattle.std.specs.Option.{option_map_or}
@@ -13,7 +13,7 @@ use Rattle.slee_effect.specs.declared.reference.Ref.{Ref}
 use Rattle.slee_effect.specs.declared.reference.Ref.TheVariants.{Fresh}
 use Rattle.script_meaning.specs.Overlay.{priority_after, same_ref}
 use Rattle.rows_sorted.specs.Orders.{are_below}
-use Rattle.router_laws.proofs.Removal.{in_list, left_entities}
+use Rattle.router_laws.proofs.Removal.{left_entities}
 use Rattle.router_laws_applying.proofs.Kids.{attached_rows, made_rows}
 use Rattle.router_laws_applying.proofs.References.{same_numbers}
 use Rattle.router_laws_applying.specs.Behind.{IsHere}

@@ -1,16 +1,12 @@
 -- What a run reads after effects of a delivery is what is there: effect by effect, and then of each key.
-use Rattle.std.proofs.Common.{◌≡◌, ℕ, ◌+◌, ◌<◌, List, [], ◌∷◌, ◌++◌, map, refl, sym, ◌∙◌, ap, subst, inl, arith, true, Some, None, Bool}
+use Rattle.std.proofs.Common.{◌≡◌, ℕ, ◌<◌, List, [], ◌∷◌, ◌++◌, map, sym, ◌∙◌, ap, subst, true}
 use Rattle.std.specs.List.{AllByRecursion}
-use Rattle.std.specs.Prelude.{is_some, option_map, ℤ}
 use Rattle.slee_value.specs.declared.kind.Kind.{Kind}
 use Rattle.slee_effect.specs.Resolving.{resolved_effect, resolved_ref, resolved_val}
 use Rattle.slee_effect.specs.declared.effect.Effect.{Effect}
 use Rattle.slee_effect.specs.declared.effect.Effect.TheVariants as effects
 use Rattle.slee_effect.specs.declared.next.Next.{Next}
 use Rattle.slee_effect.specs.declared.reference.Ref.{Ref}
-use Rattle.slee_effect.specs.declared.reference.Ref.TheVariants.{Known, Fresh}
-use Rattle.script_types.specs.Codes.{named}
-use Rattle.script_types.specs.declared.codes.FieldCode.{FieldCode}
 use Rattle.script_meaning.specs.Overlay.{activities_after, activities_by, count_of, entities_by, field_after, masks_after, overlay, priority_after, timer_after, timers_by}
 use Rattle.deploy_model.specs.Deployed.{Deployed, block_fields}
 use Rattle.router_laws.proofs.ListRules.{append_joins, append_nil}
@@ -18,27 +14,24 @@ use Rattle.router_laws_applying.proofs.Applied.{applies_now, refers_old}
 use Rattle.router_laws_applying.proofs.Behind.{RefersOld, behind_one}
 use Rattle.router_laws_applying.proofs.Kids.{here_before}
 use Rattle.router_laws_applying.proofs.Laid.{laid}
-use Rattle.router_laws_applying.proofs.Present.{IsPresent, present, there_of}
+use Rattle.router_laws_applying.proofs.Present.{present}
 use Rattle.router_laws_applying.specs.Behind.{IsBehind, IsHere}
 use Rattle.router_laws_applying.specs.Seen.{numbered}
-use Rattle.router_laws_applying.specs.Suited.{AllSuit, LivesAtAll, LivesSomewhere, Suits}
+use Rattle.router_laws_applying.specs.Suited.{AllSuit, LivesSomewhere, Suits}
 use Rattle.router_laws_effects.specs.Guards.{Guarded}
 use Rattle.router_laws_effects.specs.Runs.{IsOld}
 use Rattle.router_laws_sound.proofs.SoundNumbers.{grown_effects, room_before}
 use Rattle.router_laws_sound.specs.Rooms.{HasRoom, IsDeployed}
-use Rattle.router_laws_written.proofs.ActivityLemmas.{activities_read, olds_step, told_olds}
+use Rattle.router_laws_written.proofs.ActivityLemmas.{olds_step}
 use Rattle.router_laws_written.proofs.Blocks.{OfBlock, of_block_before}
-use Rattle.router_laws_written.proofs.Fields.{AreOfKind, FieldsOld, field_step, kinds_of_block}
-use Rattle.router_laws_written.proofs.MaskRows.{mask_is_seen, mask_seen}
+use Rattle.router_laws_written.proofs.Fields.{AreOfKind, FieldsOld, field_step}
+use Rattle.router_laws_written.proofs.MaskRows.{mask_seen}
 use Rattle.router_laws_written.proofs.Masks.{MasksOld, mask_step}
 use Rattle.router_laws_written.proofs.Priorities.{RanksOld, priority_step}
 use Rattle.router_laws_written.proofs.TimerLemmas.{StandsOld, TimesOld, stands_step, timer_step}
 use Rattle.router_laws_written.specs.Held.{BeginsWith, CancelsOld, activities_told, field_held, field_told, has_mask, masks_told, priority_held, priority_told, timer_held, timer_told}
-use Rattle.router_laws_written.specs.Made.{AreMade, after_made}
 use Rattle.router_state.specs.State.{State}
-use Rattle.router_state.specs.Trees.{entity_at}
 use Rattle.router_state.specs.Well.{IsSound}
-use Rattle.router_state.specs.declared.rows.Entity.{Entity}
 use Rattle.router_steps.specs.Applying.{applies}
 use Rattle.router_steps.specs.Effects.{after_effect, after_effects, next_in, number_in}
 use Rattle.router_steps.specs.Scripts.{answers_in}

@@ -1,16 +1,16 @@
 -- What a run reads of a timer after its own effects is what is there once they are done.
-use Rattle.std.proofs.Common.{◌≡◌, ℕ, ℤ, ◌+◌, ◌<◌, ◌==◌, Bool, true, false, List, [], ◌∷◌, refl, sym, ◌∙◌, ap, subst, inl, inr, arith, not, if◌then◌else◌, Option, Some, None}
+use Rattle.std.proofs.Common.{◌≡◌, ℕ, ℤ, ◌+◌, ◌<◌, ◌==◌, Bool, true, false, List, [], ◌∷◌, refl, ◌∙◌, ap, inl, inr, arith, not, if◌then◌else◌, Option, Some, None}
 use Rattle.std.specs.Prelude.{nat_lt, option_map}
 use Rattle.std.specs.List.{AllByRecursion, filter, list_all}
 use Rattle.std.specs.Option.{option_map_or}
-use Rattle.std.proofs.lemmas.Bool.{and_parts, cases_Bool, cond_both, eqb-true, ltb-true}
+use Rattle.std.proofs.lemmas.Bool.{and_parts, cases_Bool, cond_both, ltb-true}
 use Rattle.std.proofs.lemmas.Bool.Decides.{nat_tests}
 use Rattle.slee_effect.specs.Resolving.{resolved_effect, resolved_ref}
 use Rattle.slee_effect.specs.declared.effect.Effect.{Effect}
 use Rattle.slee_effect.specs.declared.effect.Effect.TheVariants as effects
 use Rattle.slee_effect.specs.declared.next.Next.{Next}
 use Rattle.slee_effect.specs.declared.reference.Ref.{Ref}
-use Rattle.slee_effect.specs.declared.reference.Ref.TheVariants.{Known, Fresh}
+use Rattle.slee_effect.specs.declared.reference.Ref.TheVariants.{Fresh}
 use Rattle.script_meaning.specs.Overlay.{same_ref, stands_on, timer_after}
 use Rattle.script_types.specs.declared.codes.RelationCode.{RelationCode}
 use Rattle.rows_sorted.specs.Orders.{rises_in}

@@ -1,5 +1,5 @@
 -- What a state holds of what a run refers to, and what a run is told of it.
-use Rattle.std.specs.Prelude.{◌≡◌, ℕ, ℤ, pos, List, map, bytes_eq, Bool, Option, Some, None, option_and_then, option_map}
+use Rattle.std.specs.Prelude.{◌≡◌, ℕ, ℤ, pos, List, map, bytes_eq, Bool, Option, Some, option_and_then, option_map}
 use Rattle.std.specs.List.{list_any}
 use Rattle.std.specs.Option.{option_map_or}
 use Rattle.slee_value.specs.declared.kind.Kind.{Kind}
