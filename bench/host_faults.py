@@ -16,6 +16,7 @@ import argparse
 import contextlib
 import fcntl
 import os
+import random
 import re
 import shutil
 import signal
@@ -245,6 +246,33 @@ def two_programs(command):
         say(f"{what}, killed, resume", status, shown_fault(shown_in_copy(command, folder), len(MANY.splitlines())))
 
 
+def written_meanwhile(command):
+    """A program that asks for no lock writes the files while they are read: each run ends, with a status of the journal."""
+    what, seen = "a journal that is written while it is read", {}
+    with fresh() as folder:
+        run(command, ["play", "1", "1000000"], MANY, folder)
+        whole = files_of(folder)["journal.a"]
+        writer = os.fork()
+        if writer == 0:
+            chance = random.Random(7)
+            while True:
+                with open(os.path.join(folder, "journal.a"), "r+b") as f:
+                    f.truncate(chance.randrange(len(whole)))
+                    f.seek(chance.randrange(len(whole)))
+                    f.write(whole[: chance.randrange(1, BATCH)])
+                    f.seek(0)
+                    f.write(whole)
+        for number in range(100):
+            words = ["show"] if number % 2 else ["play", "1", "10"]
+            status, text = run(command, words, b"start d1\n", folder)
+            seen[status] = seen.get(status, 0) + 1
+            if status not in (0, 7, 8, 9, 11) or not text.splitlines()[-1].startswith(f"status {status} "):
+                say(f"{what}, {words[0]}", status, f"printed {text[-100:]!r}")
+        os.kill(writer, signal.SIGKILL)
+        os.waitpid(writer, 0)
+    say(f"{what}, 100 runs, statuses {seen}", 0, None)
+
+
 def long_file(command):
     """A file that is longer than a side may be isn't read."""
     for name in ("journal.a", "journal.b"):
@@ -293,6 +321,7 @@ def main():
     full_output(command)
     locked_journal(command)
     two_programs(command)
+    written_meanwhile(command)
     long_file(command)
     interrupted_calls(command)
     read_only_folder(command)
