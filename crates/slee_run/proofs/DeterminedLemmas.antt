@@ -437,6 +437,7 @@ shown_fine statuses.NotBuilt s at good answer fine = absurd at
 said_text : (a b : State) (w : Unfit) → shown_text a (said w) ≡ shown_text b (said w)
 said_text a b (Broken (WrongAt side at kind)) = refl
 said_text a b (Broken (OtherFrom kept_len place)) = refl
+said_text a b FirstFormat = refl
 
 -- nothing is shown before the journal is opened but by a fault, where the deployment is good
 early_show : (status : Status) → IsShownAt status → IsBarredShow status → IsEarly status → IsByFault status

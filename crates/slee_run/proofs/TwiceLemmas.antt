@@ -23,7 +23,7 @@ use Rattle.slee_run.specs.Headline.{ComesOn, EndsOn, IsBefore, IsLegalRun, IsPla
 use Rattle.slee_run.specs.Opening.{IsEarly, found}
 use Rattle.slee_run.specs.Status.{status_line}
 use Rattle.slee_run.specs.Stops.{IsSettled, KeepsJournal}
-use Rattle.slee_run.specs.Text.{IsReported, IsTextOf, output_text, short_text}
+use Rattle.slee_run.specs.Text.{IsTextOf, output_text, short_text}
 use Rattle.slee_run.specs.Twice.{IsOneHistory, IsUnbroken}
 use Rattle.slee_run.specs.declared.finishing.Report.TheVariants as reports
 use Rattle.slee_run.specs.declared.status.Status.{Status}
