@@ -9,7 +9,8 @@ use Rattle.slee_value.specs.Order.{is_below}
 use Rattle.script_tree.specs.Tree.{Bytes}
 use Rattle.script_types.specs.Codes.{Block as BlockCodes, Codes, symbol_of}
 use Rattle.script_types.specs.CodesOf.{block_of_code, codes_of, handler_of_code}
-use Rattle.script_types.specs.Program.{BlockProgram, Program, Symbol}
+use Rattle.script_types.specs.Program.{BlockProgram, Program}
+use Rattle.script_types.specs.declared.symbol.Symbol.{Symbol}
 use Rattle.script_types.specs.Programs.{block_of, blocks_of, callback_of, handlers_of, masks_of, methods_of, program_of}
 use Rattle.script_laws.proofs.SafePrograms.{built_ok, built_same}
 use Rattle.deploy_model.specs.Deployed.{Deployed, DeployedBlock, Handling, in_order, masked_on_attach, with_text}
@@ -70,16 +71,16 @@ program_block : (all : Codes) (number : ℕ) (blocks : List BlockCodes) (program
 program_block all number [] program n one is there = none n (ap (λ (x : Program). slice_get x n) (built_same [] program is) ∙ there)
   where
     none : (n : ℕ) → slice_get [] n ≡ Some one → (block : BlockCodes) × (slice_get [] n ≡ Some block) × (one.masks ≡ masks_of all block)
-    none n none = absurd (cc)
+    none n same = absurd (cc)
 program_block all number (block ∷ blocks) program n one is there =
     let a = built_ok (block_of all number block) _ program is in
     let b = built_ok (blocks_of all (number + 1) blocks) _ program a.2 in
-    at a.0 b.0 (block_masks all number block a.0 a.1) n (λ m found. program_block all (number + 1) blocks b.0 m one b.1 found) (ap (λ (x : Program). slice_get x n) (built_same (a.0 ∷ b.0) program b.2) ∙ there)
+    placed a.0 b.0 (block_masks all number block a.0 a.1) n (λ m found. program_block all (number + 1) blocks b.0 m one b.1 found) (ap (λ (x : Program). slice_get x n) (built_same (a.0 ∷ b.0) program b.2) ∙ there)
   where
-    at : (head : BlockProgram) (rest : Program) → head.masks ≡ masks_of all block → (n : ℕ) → ((m : ℕ) → slice_get rest m ≡ Some one → (next : BlockCodes) × (slice_get blocks m ≡ Some next) × (one.masks ≡ masks_of all next))
+    placed : (head : BlockProgram) (rest : Program) → head.masks ≡ masks_of all block → (n : ℕ) → ((m : ℕ) → slice_get rest m ≡ Some one → (next : BlockCodes) × (slice_get blocks m ≡ Some next) × (one.masks ≡ masks_of all next))
         → slice_get (head ∷ rest) n ≡ Some one → (next : BlockCodes) × (slice_get (block ∷ blocks) n ≡ Some next) × (one.masks ≡ masks_of all next)
-    at head rest masks zero later same = (block, refl, ap (λ (x : BlockProgram). x.masks) (sym (some_same same)) ∙ masks)
-    at head rest masks (suc m) later same = later m same
+    placed head rest masks zero later same = (block, refl, ap (λ (x : BlockProgram). x.masks) (sym (some_same same)) ∙ masks)
+    placed head rest masks (suc m) later same = later m same
 
 -- blocks by their place
 

@@ -2,7 +2,8 @@
 use Rattle.std.proofs.Common.{◌≡◌, ℕ, List, [], map, Some, subst, sym}
 use Rattle.std.specs.Prelude.{Ok, slice_get}
 use Rattle.script_tree.specs.Tree.{Bytes}
-use Rattle.script_types.specs.Program.{BlockProgram, Symbol}
+use Rattle.script_types.specs.Program.{BlockProgram}
+use Rattle.script_types.specs.declared.symbol.Symbol.{Symbol}
 use Rattle.script_types.specs.ProgramOf.{kept_program}
 use Rattle.script_types.specs.Programs.{program_of}
 use Rattle.deploy_json.proofs.Codes.{codes_same}

@@ -1,7 +1,8 @@
 //! The events that are masked where an entity is attached.
 ghost use Rattle.std.specs.Prelude.{◌≡◌, ℕ, List, Some, Ok, map, slice_get};
 ghost use Rattle.script_tree.specs.Tree.{Bytes};
-ghost use Rattle.script_types.specs.Program.{BlockProgram, Symbol};
+ghost use Rattle.script_types.specs.Program.{BlockProgram};
+ghost use Rattle.script_types.specs.declared.symbol.Symbol.{Symbol};
 ghost use Rattle.script_types.specs.ProgramOf.{kept_program};
 ghost use Rattle.deploy_json.specs.Checking.{read_as, reading_of};
 ghost use Rattle.deploy_model.specs.Resolving.{deployed_of};
