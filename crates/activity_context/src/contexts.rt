@@ -344,6 +344,13 @@ impl Contexts {
         (row.activity, &row.key, &row.value)
     }
 
+    /// The attributes of the activity, rising by key.
+    pub fn attrs_of(&self, activity: ActivityId) -> Run<'_, Attribute>
+        ensures { result ≡ filter (λ row. row.activity.0 == activity.0) self.now.attributes }
+    {
+        self.attributes.rows_of(activity.0)
+    }
+
     /// The activity of this number.
     pub fn find(&self, activity: ActivityId) -> Option<&Activity>
         ensures { option_copied result ≡ activity_at self.now.activities activity.0 }

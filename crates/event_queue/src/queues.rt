@@ -192,6 +192,13 @@ impl Queues {
         }
     }
 
+    /// The queue of the activity, the head event first.
+    pub fn events_on(&self, activity: ActivityId) -> Run<'_, Queued>
+        ensures { result ≡ filter (λ q. q.activity.0 == activity.0) self.now.events }
+    {
+        self.events.rows_of(activity.0)
+    }
+
     /// Whether an event waits on the activity.
     pub fn is_waiting(&self, activity: ActivityId) -> bool
         ensures { result ≡ is_waiting self.now.events activity.0 }

@@ -13,4 +13,5 @@ mod timers;
 mod words;
 
 pub use byte_order::{names_in_order, rows_in_order};
+pub use keys::{block_key, service_key, table_name};
 pub use text::show;
