@@ -23,7 +23,7 @@ use Rattle.slee_run.specs.Headline.{ComesOn, EndsOn, IsBefore, IsLegalRun, IsPla
 use Rattle.slee_run.specs.Opening.{IsEarly, found}
 use Rattle.slee_run.specs.Status.{status_line}
 use Rattle.slee_run.specs.Stops.{IsSettled, KeepsJournal}
-use Rattle.slee_run.specs.Text.{IsReported, IsTextOf, output_text, short_text}
+use Rattle.slee_run.specs.Text.{IsTextOf, output_text, short_text}
 use Rattle.slee_run.specs.Twice.{IsOneHistory, IsUnbroken}
 use Rattle.slee_run.specs.declared.finishing.Report.TheVariants as reports
 use Rattle.slee_run.specs.declared.status.Status.{Status}
@@ -70,6 +70,7 @@ early_ends base other steps lines more statuses.WriteFault early found ends = ab
 early_ends base other steps lines more statuses.DiskFault early found ends = absurd early
 early_ends base other steps lines more (statuses.BadJournal side at kind) early found ends = absurd early
 early_ends base other steps lines more (statuses.OtherDeployment kept_len place) early found ends = absurd early
+early_ends base other steps lines more statuses.FirstFormat early found ends = absurd early
 early_ends base other steps lines more (statuses.Full size adding) early found ends = absurd early
 early_ends base other steps lines more (statuses.StepsSpent entries) early found ends = absurd early
 early_ends base other steps lines more statuses.NoMemory early found ends = absurd (found refl)

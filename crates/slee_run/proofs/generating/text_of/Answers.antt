@@ -1,5 +1,4 @@
-use Rattle.std.proofs.Common.{List, ap, rules, ◌∙◌, ◌≡◌, ◌++◌}
-use Rattle.signal_script.specs.declared.signal.Signal.{Signal}
+use Rattle.std.proofs.Common.{ap, rules, ◌∙◌, ◌≡◌}
 use Rattle.slee_run.specs.Text.{lines_text}
 use Rattle.slee_run.proofs.generating.text_of.Goals as goal
 

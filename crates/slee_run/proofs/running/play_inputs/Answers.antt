@@ -1,5 +1,4 @@
 use Rattle.std.proofs.Common.{List, subst, sym, ℕ}
-use Rattle.script_types.specs.ProgramOf.{IsChecked}
 use Rattle.slee_descriptor.specs.declared.deployment.Deployment.{Deployment}
 use Rattle.slee_run.specs.Answers.{IsPlayedOn, document_on}
 use Rattle.slee_run.specs.Given.{IsDeployment}

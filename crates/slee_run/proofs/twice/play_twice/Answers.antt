@@ -1,4 +1,4 @@
-use Rattle.std.proofs.Common.{List, Option, Some, subst, ℕ}
+use Rattle.std.proofs.Common.{List, Some, subst, ℕ}
 use Rattle.slee_disk.specs.MemoryDisk.{state_of}
 use Rattle.slee_run.specs.Headline.{IsLegalRun}
 use Rattle.slee_run.specs.Words.{texts}
