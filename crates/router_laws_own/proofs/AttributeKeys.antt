@@ -1,8 +1,7 @@
 -- What a run reads of an attribute after effects of its own.
-use Rattle.std.proofs.Common.{◌≡◌, ℕ, ◌+◌, ◌<◌, ◌≤◌, ◌==◌, ◌&&◌, List, [], ◌∷◌, ◌++◌, refl, ◌∙◌, ap, arith, true, false, None}
+use Rattle.std.proofs.Common.{◌≡◌, ℕ, ◌+◌, ◌<◌, ◌≤◌, ◌==◌, List, [], ◌∷◌, ◌++◌, refl, ◌∙◌, ap, arith, true, false, None}
 use Rattle.std.specs.Prelude.{find, is_some, nat_lt, option_map}
 use Rattle.std.specs.List.{AllByRecursion, list_all}
-use Rattle.std.specs.Str.{bytes_eq}
 use Rattle.std.proofs.lemmas.Bool.{and_parts, eqb-true, false_from_ne_true, ltb-true}
 use Rattle.slee_value.specs.declared.kind.Kind.{Kind}
 use Rattle.slee_effect.specs.Resolving.{resolved_val}

@@ -1,6 +1,5 @@
 -- What a run reads at each key after effects of its own.
-use Rattle.std.proofs.Common.{◌≡◌, ℕ, ℤ, ◌<◌, List, [], ◌∷◌, refl, sym, ◌∙◌, ap, inl, Some, None, Option}
-use Rattle.std.specs.List.{AllByRecursion}
+use Rattle.std.proofs.Common.{◌≡◌, ℕ, ℤ, List, [], ◌∷◌, refl, sym, ◌∙◌, ap, inl, Some, None, Option}
 use Rattle.std.specs.Option.{option_map_or}
 use Rattle.std.proofs.lemmas.Bool.{cond_both}
 use Rattle.slee_effect.specs.Resolving.{resolved_ref}
@@ -25,7 +24,7 @@ use Rattle.router_state.specs.State.{State}
 use Rattle.router_state.specs.Trees.{entity_at, tree_of}
 use Rattle.router_state.specs.declared.rows.Activity.{Activity}
 use Rattle.router_steps.specs.Creating.{with_child}
-use Rattle.router_steps.specs.Effects.{after_effect, after_effects, next_in, number_in, relation_at, resolved_in}
+use Rattle.router_steps.specs.Effects.{after_effect, after_effects, number_in, relation_at, resolved_in}
 use Rattle.router_steps.specs.Going.{all_removed}
 use Rattle.router_steps.specs.Moves.{attached}
 use Rattle.router_steps.specs.Steps.{Receipt, marked_entity}

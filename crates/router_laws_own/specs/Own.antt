@@ -1,5 +1,5 @@
 -- That what a run reads is what is there once its own effects are done, key by key.
-use Rattle.std.specs.Prelude.{◌≡◌, ℕ, true, List, ◌++◌, Option, Some}
+use Rattle.std.specs.Prelude.{◌≡◌, ℕ, List, Option, Some}
 use Rattle.slee_value.specs.declared.kind.Kind.{Kind}
 use Rattle.slee_effect.specs.Resolving.{resolved_ref, resolved_val}
 use Rattle.slee_effect.specs.declared.effect.Effect.{Effect}
