@@ -1,9 +1,9 @@
 -- A deployment without fault whose names are names is named.
-use Rattle.std.proofs.Common.{◌≡◌, ℕ, zero, suc, ◌+◌, ◌^◌, ◌<◌, ◌≤◌, Bool, true, false, List, [], ◌∷◌, ◌++◌, length, map, refl, sym, ap, ◌∙◌, subst, inl, inr, arith}
+use Rattle.std.proofs.Common.{◌≡◌, ℕ, ◌+◌, ◌^◌, ◌<◌, ◌≤◌, true, List, [], ◌∷◌, ◌++◌, length, map, refl, sym, ap, subst, arith}
 use Rattle.std.specs.Prelude.{◌&&◌, Option, Some, None, bytes_eq, codes, find, flat_map, is_some, option_and_then, option_map, slice_get}
 use Rattle.std.specs.Option.{option_map_or, unwrap_or}
 use Rattle.std.specs.List.{AllByRecursion, list_all}
-use Rattle.std.proofs.lemmas.Bool.{and_from, and_parts, cases_Bool}
+use Rattle.std.proofs.lemmas.Bool.{and_from, and_parts}
 use Rattle.std.proofs.lemmas.List.{length-map}
 use Rattle.std.proofs.lemmas.Option.{same_Some}
 use Rattle.std.proofs.lemmas.Slice.Eq.{bytes_eq-Decides}
@@ -16,15 +16,13 @@ use Rattle.script_types.specs.declared.codes.EventCode.{EventCode}
 use Rattle.script_types.specs.declared.codes.FieldCode.{FieldCode}
 use Rattle.script_types.specs.declared.codes.RelationCode.{RelationCode}
 use Rattle.deploy_model.proofs.Faultless.{blocks_none, each_rule, under_none, unless_none}
-use Rattle.deploy_model.specs.Deployed.{Deployed, DeployedBlock, DeployedProfile, DeployedService, DeployedTable, attribute_kind, block_fields, event_fields, profile_of, relation_of, service_at, table_at, table_attributes}
+use Rattle.deploy_model.specs.Deployed.{DeployedBlock, DeployedProfile, DeployedService, DeployedTable, attribute_kind, block_fields, event_fields, relation_of, service_at, table_at, table_attributes}
 use Rattle.deploy_model.specs.Resolving as resolving
 use Rattle.deploy_model.specs.Resolving.{deployed_of, number_of}
 use Rattle.deploy_model.specs.Rules.{Numbering, alias, entries, fresh, is_number, items, known, member}
-use Rattle.deploy_model.specs.Tables as walk
 use Rattle.deploy_model.specs.Tables.{IdNumbering, Known, block, block_event, block_members, component, event_type, id_number, identity, key_number, kind_of, known_in, method, parts_fault, profile_spec, relation, service, tables}
 use Rattle.deploy_model.specs.declared.fault.DeployBad.TheVariants as bad
 use Rattle.deploy_model.specs.declared.parts.Block.{Block}
-use Rattle.deploy_model.specs.declared.parts.EventType.{EventType}
 use Rattle.deploy_model.specs.declared.parts.Parts.{Parts}
 use Rattle.deploy_model.specs.declared.parts.ProfileSpec.{ProfileSpec}
 use Rattle.deploy_model.specs.declared.parts.Relation.{Relation}
@@ -33,7 +31,7 @@ use Rattle.deploy_model.specs.declared.parts.Table.{Table}
 use Rattle.router_state.specs.Fits.{is_text}
 use Rattle.router_laws_named.specs.Names.{AreNames, IsNamedBlock, IsNamedEvent, have_names}
 use Rattle.router_laws_named.proofs.Places.{dotted_text, each_entry, is_plain, item_rule, leads_back, made_there, name_text, number_is, number_within, place_holds, plain_text, table_number}
-use Rattle.router_laws_snapshots.specs.Named.{IsNamed, LeadsTo, has_text}
+use Rattle.router_laws_snapshots.specs.Named.{IsNamed, has_text}
 use Rattle.router_laws_snapshots.proofs.Gathering.{all_weaker}
 use Rattle.router_laws_snapshots.proofs.Fitting.{all_both, all_tests, found_holds, option_there}
 

@@ -1,6 +1,6 @@
 -- Places in lists, and the texts that names are.
-use Rattle.std.proofs.Common.{◌≡◌, ℕ, zero, suc, ◌+◌, ◌^◌, ◌<◌, ◌≤◌, Bool, true, false, List, [], ◌∷◌, ◌++◌, cond, length, map, position, bytes_eq, refl, sym, ap, ◌∙◌, subst, inl, inr, arith, nat_lt, IsAscii, IsUtf8}
-use Rattle.std.specs.Prelude.{◌==◌, ◌&&◌, Option, Some, None, codes, decimal, is_some, option_map, slice_get, if◌then◌else◌}
+use Rattle.std.proofs.Common.{◌≡◌, ℕ, zero, suc, ◌+◌, ◌^◌, ◌<◌, ◌≤◌, Bool, true, false, List, [], ◌∷◌, ◌++◌, length, map, position, bytes_eq, refl, sym, ap, ◌∙◌, subst, inl, inr, arith, nat_lt, IsAscii, IsUtf8}
+use Rattle.std.specs.Prelude.{◌&&◌, Option, Some, None, codes, decimal, option_map, slice_get}
 use Rattle.std.specs.Option.{option_map_or}
 use Rattle.std.specs.List.{AllByRecursion, list_all, position_from}
 use Rattle.std.specs.Str.{is_utf8}
