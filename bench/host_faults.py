@@ -16,6 +16,7 @@ import argparse
 import contextlib
 import fcntl
 import os
+import random
 import re
 import shutil
 import signal
@@ -32,7 +33,7 @@ MANY = b"".join(b"start c%d\n" % i for i in range(1, 20_001))
 BATCH = 131_072
 # The most bytes of a side.
 SIDE = 268_435_456
-# Calls of the system that a signal may interrupt. The first of each is left alone, since the start-up of a process makes some.
+# Calls of the system that a signal may interrupt.
 CALLED = ("openat", "read", "write", "pread64", "pwrite64", "fsync", "ftruncate", "flock", "statx")
 # A record of a `start` line: its gate, its length, the clock, the tag and the length of the line, which follows them.
 RECORD = 1 + 4 + 8 + 1 + 4
@@ -245,6 +246,33 @@ def two_programs(command):
         say(f"{what}, killed, resume", status, shown_fault(shown_in_copy(command, folder), len(MANY.splitlines())))
 
 
+def written_meanwhile(command):
+    """A program that asks for no lock writes the files while they are read: each run ends, with a status of the journal."""
+    what, seen = "a journal that is written while it is read", {}
+    with fresh() as folder:
+        run(command, ["play", "1", "1000000"], MANY, folder)
+        whole = files_of(folder)["journal.a"]
+        writer = os.fork()
+        if writer == 0:
+            chance = random.Random(7)
+            while True:
+                with open(os.path.join(folder, "journal.a"), "r+b") as f:
+                    f.truncate(chance.randrange(len(whole)))
+                    f.seek(chance.randrange(len(whole)))
+                    f.write(whole[: chance.randrange(1, BATCH)])
+                    f.seek(0)
+                    f.write(whole)
+        for number in range(100):
+            words = ["show"] if number % 2 else ["play", "1", "10"]
+            status, text = run(command, words, b"start d1\n", folder)
+            seen[status] = seen.get(status, 0) + 1
+            if status not in (0, 7, 8, 9, 11) or not text.splitlines()[-1].startswith(f"status {status} "):
+                say(f"{what}, {words[0]}", status, f"printed {text[-100:]!r}")
+        os.kill(writer, signal.SIGKILL)
+        os.waitpid(writer, 0)
+    say(f"{what}, 100 runs, statuses {seen}", 0, None)
+
+
 def long_file(command):
     """A file that is longer than a side may be isn't read."""
     for name in ("journal.a", "journal.b"):
@@ -252,34 +280,48 @@ def long_file(command):
             run(command, ["play", "1", "100"], b"start c1\n", folder)
             path = os.path.join(folder, name)
             os.truncate(path, 3_000_000_000)
-            words = ["bash", "-c", 'ulimit -v 200000; exec "$@"', "bash", command, "show"]
-            done = subprocess.run(words, cwd=folder, timeout=120, stdout=subprocess.PIPE, check=False)
-            wrong = done.returncode != 12 or done.stdout != b"status 12 no-memory\n" or os.path.getsize(path) != 3_000_000_000
-            say(f"3 GB of {name}", done.returncode, f"printed {done.stdout!r}" if wrong else None)
+            child = subprocess.Popen([command, "show"], cwd=folder, stdout=subprocess.PIPE)
+            text = child.stdout.read()
+            _, ended, usage = os.wait4(child.pid, 0)
+            status = os.waitstatus_to_exitcode(ended)
+            wrong = status != 12 or text != b"status 12 no-memory\n" or os.path.getsize(path) != 3_000_000_000
+            what = f"3 GB of {name}, {usage.ru_maxrss // 1024} MiB of memory"
+            say(what, status, f"printed {text!r}" if wrong else None if usage.ru_maxrss * 1024 < SIDE else "the file was read")
             os.truncate(path, SIDE)
             status, text = run(command, ["show"], b"", folder)
             wrong = status != 0 or "inputs 1\n" not in text
             say(f"the most bytes of {name}", status, f"printed {text!r}" if wrong else None)
 
 
+def traced(command, words, lines, folder, call, *more):
+    """Runs the program by `strace`; the status, the text and the lines that it traced of one kind of call."""
+    log = os.path.join(folder, "calls")
+    given = ["strace", "-qq", "-o", log, "-e", f"trace={call}", *more, command, *words]
+    done = subprocess.run(given, input=lines, cwd=folder, timeout=120, stdout=subprocess.PIPE, check=False)
+    with open(log, encoding="utf-8") as f:
+        return done.returncode, done.stdout.decode(), f.read().splitlines()
+
+
 def interrupted_calls(command):
-    """Each other call of one kind is interrupted by a signal, and the run ends as it does without."""
+    """Each other call of one kind is interrupted by a signal, and the run ends as it does without. The calls that a process
+    makes before its program begins are left alone."""
     if shutil.which("strace") is None:
         print("interrupted calls: skipped, strace isn't here")
         return
     for call in CALLED:
         with fresh() as folder:
-            text = ""
+            before = len(traced(command, ["--version"], b"", folder, call)[2])
+            text, times, statuses = "", 0, []
             for lines in (b"start c1\nfire c1 invite addr=tel:5551\n", b"end c1\n"):
-                words = ["strace", "-f", "-qq", "-o", "calls", "-e", f"trace={call}", "-e", f"inject={call}:error=EINTR:when=2+2"]
-                words += [command, "play", "1", "100"]
-                done = subprocess.run(words, input=lines, cwd=folder, timeout=120, stdout=subprocess.PIPE, check=False)
-                text += done.stdout.decode()
-            with open(os.path.join(folder, "calls"), encoding="utf-8") as f:
-                times = f.read().count("(INJECTED)")
+                often = f"inject={call}:error=EINTR:when={before + 1}+2"
+                status, printed, calls = traced(command, ["play", "1", "100"], lines, folder, call, "-e", often)
+                text, times = text + printed, times + sum("(INJECTED)" in line for line in calls)
+                statuses.append(status)
+                with open(os.path.join(folder, "journal.a"), "ab") as f:
+                    f.write(b"left behind by a stop, and cut off by the next run")
             status, shown = run(command, ["show"], b"", folder)
-            wrong = done.returncode != 0 or entries_of(text) != 8 or (status, "inputs 3\n" in shown) != (0, True)
-            say(f"interrupted {call}, {times} times", done.returncode, f"printed {text!r}" if wrong else None)
+            wrong = statuses != [0, 0] or entries_of(text) != 8 or (status, "inputs 3\n" in shown) != (0, True)
+            say(f"interrupted {call}, {times} times", statuses[-1], f"statuses {statuses}, printed {text!r}" if wrong else None)
 
 
 def main():
@@ -293,6 +335,7 @@ def main():
     full_output(command)
     locked_journal(command)
     two_programs(command)
+    written_meanwhile(command)
     long_file(command)
     interrupted_calls(command)
     read_only_folder(command)

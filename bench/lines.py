@@ -2,6 +2,7 @@
 """Times the built program on signal lines, in a fresh folder each time. Outside the gate.
 
     python3 bench/lines.py                  all tables, with ./slee
+    python3 bench/lines.py full             one of them
     python3 bench/lines.py --cmd PROGRAM    with another program
     python3 bench/lines.py --small          a tenth of the lines
 
@@ -10,7 +11,8 @@ another; `trial`, 100,000 generated lines of examples/prepaid; `reading`, megaby
 cd crates/bench_lines && rt run -- 1 < stdin), and in wall time by runs of one entry; `memory`, the memory and the user time of 180,000
 lines with 480,000 entries; `alive`, the cost of a step while 10, 1,000 and 10,000 calls are alive; `files`, entries a second over real files
 in the current folder, and how much of that is waiting for the disk; `bare`, playing 180,000 lines and a trial over real files in the current
-folder, beside writing the same bytes of journal and trace there and syncing them; `opening`, the time of `show` as the journal grows.
+folder, beside writing the same bytes of journal and trace there and syncing them; `opening`, the time of `show` as the journal grows; `full`, the memory of opening a journal that has nearly as many bytes as
+a side may have.
 Times are the least of three runs. All but `files` run in a folder in memory where there is one, so that the journal's
 syncs cost nothing there.
 """
@@ -243,7 +245,27 @@ def opening(command, small):
         print(f"{8 * n:>9} {min(took) * 1e3:>9.1f} {min(took) / (8 * n) * 1e6:>9.2f}")
 
 
-TABLES = {"starts": starts, "calls": calls, "trial": trial, "reading": reading, "memory": memory, "alive": alive, "files": files, "bare": bare, "opening": opening}
+def full(command, small):
+    """Calls whose numbers go on from run to run, until the next run might not have room; then the journal is opened."""
+    print("full: a journal of many runs, shown, and played on by one call")
+    print(f"{'bytes':>11} {'entries':>9} {'word':>5} {'s':>7} {'KiB':>9}  last line")
+    with fresh(where=MEMORY) as folder:
+        side, once, done, size = os.path.join(folder, "journal.a"), 3_000 if small else 120_000, 0, 0
+        while size < (3_000_000 if small else 230_000_000):
+            subprocess.run([command, *PLAY], input=calls_of(once), cwd=folder, stdout=subprocess.DEVNULL, check=True)
+            done, size = done + once, os.path.getsize(side)
+        for words, lines in ((["show"], b""), (PLAY, calls_of(1))):
+            begun = time.perf_counter()
+            child = subprocess.Popen([command, *words], stdin=subprocess.PIPE, stdout=subprocess.PIPE, cwd=folder)
+            child.stdin.write(lines)
+            child.stdin.close()
+            text = child.stdout.read()
+            _, _, usage = os.wait4(child.pid, 0)
+            took, last = time.perf_counter() - begun, text.decode().splitlines()[-1]
+            print(f"{size:>11} {8 * done:>9} {words[0]:>5} {took:>7.1f} {usage.ru_maxrss:>9}  {last}", flush=True)
+
+
+TABLES = {"starts": starts, "calls": calls, "trial": trial, "reading": reading, "memory": memory, "alive": alive, "files": files, "bare": bare, "opening": opening, "full": full}
 
 
 def main():

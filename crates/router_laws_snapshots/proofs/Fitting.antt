@@ -55,15 +55,17 @@ value_fits activity timer a t (values.Bool flag) is = tt
 value_fits activity timer a t (values.Activity x) is = omega (arith, a, ltb-true x.0 activity is)
 value_fits activity timer a t (values.Timer x) is = omega (arith, t, ltb-true x.0 timer is)
 
+-- a name has 64 bytes at most
+pub short_name : (name : List ℕ) → is_name name ≡ true → length name ≤ 64
+short_name [] is = absurd (cc)
+short_name (b ∷ bs) is =
+    leb-true (length (b ∷ bs)) 64 (and_parts (list_all is_byte_of_name bs) (nat_le (length (b ∷ bs)) NAME_LIMIT) (and_parts (is_letter b) (list_all is_byte_of_name bs && nat_le (length (b ∷ bs)) NAME_LIMIT) is).1).1
+
 pub name_fits : (name : List ℕ) → is_name name ≡ true → FitsText name
-name_fits name is = record { utf8 = name_is_utf8 name is; short = name_short name is }
+name_fits name is = record { utf8 = name_is_utf8 name is; short = small (length name) (short_name name is) }
   where
-    name_short : (name : List ℕ) → is_name name ≡ true → length name < 2 ^ 32
-    name_short [] is = absurd (cc)
-    name_short (b ∷ bs) is = small (length (b ∷ bs)) (and_parts (list_all is_byte_of_name bs) (nat_le (length (b ∷ bs)) NAME_LIMIT) (and_parts (is_letter b) (list_all is_byte_of_name bs && nat_le (length (b ∷ bs)) NAME_LIMIT) is).1).1
-      where
-        small : (n : ℕ) → nat_le n 64 ≡ true → n < 2 ^ 32
-        small n le = omega (arith, leb-true n 64 le)
+    small : (n : ℕ) → n ≤ 64 → n < 2 ^ 32
+    small n le = omega (arith, le)
 
 pub option_fits : {A : Type 0} (F : A → Type 0) (p : A → Bool) → ((x : A) → p x ≡ true → F x) → (o : Option A) → none_or p o ≡ true → FitsOption F o
 option_fits F p fits None is = tt

@@ -65,7 +65,8 @@ Statuses, printed last but by --help and --version, and the exit status:
                    this line, from 1, is the first that is of no form: long,
                    control, utf8, empty, verb, count, name, number, field, escape
   6 (none)         standard output failed; a prefix of the text is out
-  7 disk-fault     a file of the journal failed; what it has, show tells
+  7 disk-fault     a file of the journal failed, or another program has the
+                   journal open; what it has, show tells
   8 bad-journal SIDE AT KIND
                    the journal is damaged: in file a or b, at this byte, by its
                    header, length, sides, snapshot, record or replay

@@ -1,4 +1,5 @@
-//! Sources, sinks and disks over the host: files, the lock on them, and calls that a signal interrupts.
+//! Sources, sinks and disks over the host: files, the lock on them, and calls that a signal interrupts. The tests share a folder, so
+//! each has files of its own.
 ghost use Rattle.std.specs.Prelude.{None};
 
 use crate::objects::{Step, taken};
@@ -49,8 +50,8 @@ fn a_file_is_opened_at_its_first_read(rt: HostRuntime) -> Result<(), Fail> {
 // nothing; after that it serves.
 #[test]
 fn a_second_disk_on_the_same_files_fails(rt: HostRuntime) -> Result<(), Fail> {
-    let mut second = HostDisk::new(rt, ".", "journal.a", "journal.b");
-    let mut first = HostDisk::new(rt, ".", "journal.a", "journal.b");
+    let mut second = HostDisk::new(rt, ".", "locked.a", "locked.b");
+    let mut first = HostDisk::new(rt, ".", "locked.a", "locked.b");
     let kept = Step::Read(Side::A, 0, b"abc");
     for step in [Step::Write(Side::A, 0, b"abc"), Step::Sync(Side::A), kept] {
         assert_eq!(rt; taken(&mut first, step), Ok(true));
@@ -70,7 +71,7 @@ fn a_second_disk_on_the_same_files_fails(rt: HostRuntime) -> Result<(), Fail> {
         assert_eq!(rt; taken(&mut second, step), Err(Failed));
     }
     assert_eq!(rt; taken(&mut first, kept), Ok(true));
-    assert_eq!(rt; fs::exists(&rt, "journal.b")?, false);
+    assert_eq!(rt; fs::exists(&rt, "locked.b")?, false);
     drop(first);
     for step in [kept, Step::Write(Side::B, 0, b"XY"), Step::Len(Side::B, 2)] {
         assert_eq!(rt; taken(&mut second, step), Ok(true));
@@ -132,10 +133,13 @@ fn an_interrupted_call_is_no_fault(rt: HostRuntime) -> Result<(), Fail> {
             Ok(read) => assert_eq!(rt; read.as_slice(), b"text".as_slice()),
             Err(fault) => assert!(rt; false, "{fault}"),
         }
-        let file = fs::File::create(&rt, "written")?;
+        let file = fs::File::create(&rt, "interrupted")?;
         let mut sink = HostSink::new(Interrupted::new(file, times));
         assert_eq!(rt; write_whole(&mut sink, b"text"), Ok(()));
-        assert_eq!(rt; fs::read(&rt, "written")?.as_slice(), b"text".as_slice());
+        assert_eq!(rt;
+            fs::read(&rt, "interrupted")?.as_slice(),
+            b"text".as_slice()
+        );
     }
     Ok(())
 }

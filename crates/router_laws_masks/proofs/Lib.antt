@@ -1,0 +1,2 @@
+pub mod MaskCodes
+pub mod ReadMasks
