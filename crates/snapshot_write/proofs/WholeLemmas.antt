@@ -1,0 +1,156 @@
+-- Parts that are written one after another are the whole.
+use Rattle.std.proofs.Common.{◌≡◌, ◌==◌, ℕ, List, ◌++◌, map, refl, sym, ap, ◌∙◌}
+use Rattle.std.specs.Prelude.{Option, filter}
+use Rattle.std.proofs.lemmas.List.{append_assoc}
+use Rattle.slee_value.specs.Bytes.{spelled_flag, spelled_i8, spelled_option, spelled_text, spelled_u32, spelled_u64}
+use Rattle.slee_value.specs.declared.ids.ActivityId.{ActivityId}
+use Rattle.slee_value.specs.declared.value.Value.{Value}
+use Rattle.deploy_model.specs.Deployed.{Deployed, block_key}
+use Rattle.activity_context.specs.Views.{parts_of_name}
+use Rattle.router_state.specs.Contexts.{attributes_of}
+use Rattle.router_state.specs.Fields.{fields_of}
+use Rattle.router_state.specs.Queues.{queue, done_on, delivered_on, suspended_until}
+use Rattle.router_state.specs.Snapshot.{listed, spelled_activity_2, spelled_behind, spelled_entity, spelled_event, spelled_kind, spelled_link, spelled_name, spelled_name_of, spelled_pair, spelled_row, spelled_stem, spelled_timer}
+use Rattle.router_state.specs.State.{State}
+use Rattle.router_state.specs.declared.rows.Activity.{Activity}
+use Rattle.router_state.specs.declared.rows.Attribute.{Attribute}
+use Rattle.router_state.specs.declared.rows.Entity.{Entity}
+use Rattle.router_state.specs.declared.rows.EntityMark.{EntityMark}
+use Rattle.router_state.specs.declared.rows.Event.{Event}
+use Rattle.router_state.specs.declared.rows.Field.{Field}
+use Rattle.router_state.specs.declared.rows.ProfileRow.{ProfileRow}
+use Rattle.router_state.specs.declared.rows.Queued.{Queued}
+use Rattle.router_state.specs.declared.rows.ServiceMark.{ServiceMark}
+use Rattle.router_state.specs.declared.rows.Timer.{Timer}
+use Rattle.snapshot_write.specs.Parts.{spelled_activity_row, spelled_entity_row, spelled_waiting}
+use Rattle.snapshot_write.proofs.ListLemmas.{listed_seen}
+
+-- four parts in front of others
+four_in_front : (a b c d more : List ℕ) → (a ++ (b ++ (c ++ d))) ++ more ≡ a ++ (b ++ (c ++ (d ++ more)))
+four_in_front a b c d more =
+    append_assoc a (b ++ (c ++ d)) more ∙ ap (λ x. a ++ x) (append_assoc b (c ++ d) more ∙ ap (λ x. b ++ x) (append_assoc c d more))
+
+-- the fields of an entity are written as the pairs that they are seen as
+fields_put : (rows own : List Field) (e : ℕ) → own ≡ filter (λ f. f.entity.0 == e) rows → listed (λ (f : Field). spelled_pair (f.name, f.value)) own ≡ listed spelled_pair (fields_of rows e)
+fields_put rows own e is =
+    ap (λ (fs : List Field). listed (λ (f : Field). spelled_pair (f.name, f.value)) fs) is
+    ∙ listed_seen {Y = List ℕ × Value} spelled_pair (λ (f : Field). (f.name, f.value)) (filter (λ f. f.entity.0 == e) rows)
+
+-- an entity, its convergence name, and then its fields
+pub entity_put : (s : State) (d : Deployed) (row : Entity) (own : List Field) (start a b c : List ℕ) → d ≡ s.deployment → own ≡ filter (λ f. f.entity.0 == row.number.0) s.fields
+    → a ≡ start ++ spelled_entity_row d row → b ≡ a ++ spelled_name_of s row row.stem → c ≡ b ++ listed (λ f. spelled_pair (f.name, f.value)) own → c ≡ start ++ spelled_entity s row
+entity_put s d row own start a b c is fields one two three =
+    three ∙ ap (λ x. x ++ listed (λ (f : Field). spelled_pair (f.name, f.value)) own) (two ∙ ap (λ x. x ++ spelled_name_of s row row.stem) one)
+    ∙ append_assoc (start ++ spelled_entity_row d row) (spelled_name_of s row row.stem) (listed (λ (f : Field). spelled_pair (f.name, f.value)) own)
+    ∙ append_assoc start (spelled_entity_row d row) (spelled_name_of s row row.stem ++ listed (λ (f : Field). spelled_pair (f.name, f.value)) own)
+    ∙ ap (λ bytes. start ++ (spelled_entity_row d row ++ (spelled_name_of s row row.stem ++ bytes))) (fields_put s.fields own row.number.0 fields)
+    ∙ ap (λ (x : Deployed). start ++ (spelled_entity_row x row ++ (spelled_name_of s row row.stem ++ listed spelled_pair (fields_of s.fields row.number.0)))) is
+    ∙ ap (λ bytes. start ++ bytes) (four_in_front (spelled_u64 row.number.0) (spelled_text (block_key s.deployment row.block)) (spelled_stem s.deployment row.stem) (spelled_i8 row.priority) _)
+
+-- four parts, one after another
+four_behind : (start a b c d : List ℕ) → (((start ++ a) ++ b) ++ c) ++ d ≡ start ++ (a ++ (b ++ (c ++ d)))
+four_behind start a b c d = append_assoc ((start ++ a) ++ b) c d ∙ append_assoc (start ++ a) b (c ++ d) ∙ append_assoc start a (b ++ (c ++ d))
+
+-- the queue of an activity, its marks, and then its suspension
+pub waiting_put : (s : State) (d : Deployed) (activity : ℕ) (events : List Queued) (done : List ServiceMark) (delivered : List EntityMark) (until : Option ℕ) (start a b c e : List ℕ) → d ≡ s.deployment
+    → events ≡ filter (λ q. q.activity.0 == activity) s.events → done ≡ filter (λ m. m.activity.0 == activity) s.services_done → delivered ≡ filter (λ m. m.activity.0 == activity) s.delivered → until ≡ suspended_until s.suspensions activity
+    → a ≡ start ++ listed (λ q. spelled_event d q.event) events → b ≡ a ++ listed (λ m. spelled_u32 m.service) done → c ≡ b ++ listed (λ m. spelled_u64 m.entity.0) delivered → e ≡ c ++ spelled_option spelled_u64 until
+    → e ≡ start ++ spelled_waiting s activity
+waiting_put s d activity events done delivered until start a b c e is own_events own_done own_delivered own_until one two three four =
+    four
+    ∙ ap (λ x. x ++ spelled_option spelled_u64 until) (three ∙ ap (λ x. x ++ listed (λ (m : EntityMark). spelled_u64 m.entity.0) delivered) (two ∙ ap (λ x. x ++ listed (λ (m : ServiceMark). spelled_u32 m.service) done) one))
+    ∙ four_behind start (listed (λ (q : Queued). spelled_event d q.event) events) (listed (λ (m : ServiceMark). spelled_u32 m.service) done) (listed (λ (m : EntityMark). spelled_u64 m.entity.0) delivered) (spelled_option spelled_u64 until)
+    ∙ ap (λ x. start ++ (x ++ (listed (λ (m : ServiceMark). spelled_u32 m.service) done ++ (listed (λ (m : EntityMark). spelled_u64 m.entity.0) delivered ++ spelled_option spelled_u64 until)))) waits
+    ∙ ap (λ x. start ++ (listed (spelled_event s.deployment) (queue s.events activity) ++ (x ++ (listed (λ (m : EntityMark). spelled_u64 m.entity.0) delivered ++ spelled_option spelled_u64 until)))) marked
+    ∙ ap (λ x. start ++ (listed (spelled_event s.deployment) (queue s.events activity) ++ (listed spelled_u32 (done_on s.services_done activity) ++ (x ++ spelled_option spelled_u64 until)))) received
+    ∙ ap (λ x. start ++ (listed (spelled_event s.deployment) (queue s.events activity) ++ (listed spelled_u32 (done_on s.services_done activity) ++ (listed spelled_u64 (delivered_on s.delivered activity) ++ spelled_option spelled_u64 x)))) own_until
+  where
+    waits : listed (λ (q : Queued). spelled_event d q.event) events ≡ listed (spelled_event s.deployment) (queue s.events activity)
+    waits =
+        ap (λ (x : Deployed). listed (λ (q : Queued). spelled_event x q.event) events) is
+        ∙ ap (λ (qs : List Queued). listed (λ (q : Queued). spelled_event s.deployment q.event) qs) own_events
+        ∙ listed_seen {Y = Event} (spelled_event s.deployment) (λ (q : Queued). q.event) (filter (λ q. q.activity.0 == activity) s.events)
+
+    marked : listed (λ (m : ServiceMark). spelled_u32 m.service) done ≡ listed spelled_u32 (done_on s.services_done activity)
+    marked =
+        ap (λ (ms : List ServiceMark). listed (λ (m : ServiceMark). spelled_u32 m.service) ms) own_done
+        ∙ listed_seen spelled_u32 (λ (m : ServiceMark). m.service) (filter (λ m. m.activity.0 == activity) s.services_done)
+
+    received : listed (λ (m : EntityMark). spelled_u64 m.entity.0) delivered ≡ listed spelled_u64 (delivered_on s.delivered activity)
+    received =
+        ap (λ (ms : List EntityMark). listed (λ (m : EntityMark). spelled_u64 m.entity.0) ms) own_delivered
+        ∙ listed_seen spelled_u64 (λ (m : EntityMark). m.entity.0) (filter (λ m. m.activity.0 == activity) s.delivered)
+
+-- the attributes of an activity are written as the pairs that they are seen as
+attributes_put : (rows own : List Attribute) (a : ℕ) → own ≡ filter (λ r. r.activity.0 == a) rows → listed (λ (r : Attribute). spelled_pair (r.key, r.value)) own ≡ listed spelled_pair (attributes_of rows a)
+attributes_put rows own a is =
+    ap (λ (rs : List Attribute). listed (λ (r : Attribute). spelled_pair (r.key, r.value)) rs) is
+    ∙ listed_seen {Y = List ℕ × Value} spelled_pair (λ (r : Attribute). (r.key, r.value)) (filter (λ r. r.activity.0 == a) rows)
+
+-- the parts of an activity that are written, as the definition has them
+activity_whole : (s : State) (row : Activity) → spelled_activity_row s.deployment row ++ (listed spelled_pair (attributes_of s.attributes row.number.0) ++ spelled_waiting s row.number.0) ≡ spelled_activity_2 s row
+activity_whole s row =
+    three_in_front number kind ending (attributes ++ (events ++ (done ++ (delivered ++ until))))
+    ∙ sym (append_assoc number (kind ++ (ending ++ (attributes ++ (events ++ (done ++ delivered))))) until
+    ∙ ap (λ x. number ++ x) (append_assoc kind (ending ++ (attributes ++ (events ++ (done ++ delivered)))) until
+    ∙ ap (λ x. kind ++ x) (append_assoc ending (attributes ++ (events ++ (done ++ delivered))) until
+    ∙ ap (λ x. ending ++ x) (append_assoc attributes (events ++ (done ++ delivered)) until
+    ∙ ap (λ x. attributes ++ x) (append_assoc events (done ++ delivered) until
+    ∙ ap (λ x. events ++ x) (append_assoc done delivered until))))))
+  where
+    number : List ℕ
+    number = spelled_u64 row.number.0
+
+    kind : List ℕ
+    kind = spelled_kind s.deployment row.kind
+
+    ending : List ℕ
+    ending = spelled_flag row.ending
+
+    attributes : List ℕ
+    attributes = listed spelled_pair (attributes_of s.attributes row.number.0)
+
+    events : List ℕ
+    events = listed (spelled_event s.deployment) (queue s.events row.number.0)
+
+    done : List ℕ
+    done = listed spelled_u32 (done_on s.services_done row.number.0)
+
+    delivered : List ℕ
+    delivered = listed spelled_u64 (delivered_on s.delivered row.number.0)
+
+    until : List ℕ
+    until = spelled_option spelled_u64 (suspended_until s.suspensions row.number.0)
+
+    three_in_front : (a b c more : List ℕ) → (a ++ (b ++ c)) ++ more ≡ a ++ (b ++ (c ++ more))
+    three_in_front a b c more = append_assoc a (b ++ c) more ∙ ap (λ x. a ++ x) (append_assoc b c more)
+
+-- an activity, its attributes, and then what waits on it
+pub activity_put : (s : State) (d : Deployed) (row : Activity) (own : List Attribute) (start a b c : List ℕ) → d ≡ s.deployment → own ≡ filter (λ r. r.activity.0 == row.number.0) s.attributes
+    → a ≡ start ++ spelled_activity_row d row → b ≡ a ++ listed (λ r. spelled_pair (r.key, r.value)) own → c ≡ b ++ spelled_waiting s row.number.0 → c ≡ start ++ spelled_activity_2 s row
+activity_put s d row own start a b c is attributes one two three =
+    three ∙ ap (λ x. x ++ spelled_waiting s row.number.0) (two ∙ ap (λ x. x ++ listed (λ (r : Attribute). spelled_pair (r.key, r.value)) own) one)
+    ∙ append_assoc (start ++ spelled_activity_row d row) (listed (λ (r : Attribute). spelled_pair (r.key, r.value)) own) (spelled_waiting s row.number.0)
+    ∙ append_assoc start (spelled_activity_row d row) (listed (λ (r : Attribute). spelled_pair (r.key, r.value)) own ++ spelled_waiting s row.number.0)
+    ∙ ap (λ bytes. start ++ (spelled_activity_row d row ++ (bytes ++ spelled_waiting s row.number.0))) (attributes_put s.attributes own row.number.0 attributes)
+    ∙ ap (λ (x : Deployed). start ++ (spelled_activity_row x row ++ (listed spelled_pair (attributes_of s.attributes row.number.0) ++ spelled_waiting s row.number.0))) is
+    ∙ ap (λ bytes. start ++ bytes) (activity_whole s row)
+
+-- a name that is written in parts
+abbrev spelled_parts : List ℕ × ActivityId → List ℕ
+spelled_parts parts = spelled_name (record { name = parts.0; activity = parts.1 })
+
+-- attachments, names, timers, and then rows
+pub behind_put : (s : State) (d : Deployed) (names : List (List ℕ × ActivityId)) (timers : List Timer) (rows : List ProfileRow) (start a b c e : List ℕ) → d ≡ s.deployment → names ≡ map parts_of_name s.names → timers ≡ s.timers → rows ≡ s.rows
+    → a ≡ start ++ listed (spelled_link s) s.links → b ≡ a ++ listed (λ parts. spelled_name (record { name = parts.0; activity = parts.1 })) names → c ≡ b ++ listed spelled_timer timers → e ≡ c ++ listed (spelled_row d) rows
+    → e ≡ start ++ spelled_behind s
+behind_put s d names timers rows start a b c e is own_names own_timers own_rows one two three four =
+    four ∙ ap (λ x. x ++ listed (spelled_row d) rows) (three ∙ ap (λ x. x ++ listed spelled_timer timers) (two ∙ ap (λ x. x ++ listed spelled_parts names) one))
+    ∙ four_behind start (listed (spelled_link s) s.links) (listed spelled_parts names) (listed spelled_timer timers) (listed (spelled_row d) rows)
+    ∙ ap (λ x. start ++ (listed (spelled_link s) s.links ++ (x ++ (listed spelled_timer timers ++ listed (spelled_row d) rows)))) named
+    ∙ ap (λ (x : List Timer). start ++ (listed (spelled_link s) s.links ++ (listed spelled_name s.names ++ (listed spelled_timer x ++ listed (spelled_row d) rows)))) own_timers
+    ∙ ap (λ (x : List ProfileRow). start ++ (listed (spelled_link s) s.links ++ (listed spelled_name s.names ++ (listed spelled_timer s.timers ++ listed (spelled_row d) x)))) own_rows
+    ∙ ap (λ (x : Deployed). start ++ (listed (spelled_link s) s.links ++ (listed spelled_name s.names ++ (listed spelled_timer s.timers ++ listed (spelled_row x) s.rows)))) is
+  where
+    named : listed spelled_parts names ≡ listed spelled_name s.names
+    named = ap (λ (ns : List (List ℕ × ActivityId)). listed spelled_parts ns) own_names ∙ sym (listed_seen {Y = List ℕ × ActivityId} spelled_parts parts_of_name s.names)
