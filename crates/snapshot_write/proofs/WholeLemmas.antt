@@ -1,16 +1,20 @@
 -- Parts that are written one after another are the whole.
 use Rattle.std.proofs.Common.{◌≡◌, ◌==◌, ℕ, List, ◌++◌, map, refl, sym, ap, ◌∙◌}
-use Rattle.std.specs.Prelude.{Option, filter}
+use Rattle.std.specs.Prelude.{Option, [], filter, if◌then◌else◌}
+use Rattle.std.specs.Str.{bytes_eq}
 use Rattle.std.proofs.lemmas.List.{append_assoc}
 use Rattle.slee_value.specs.Bytes.{spelled_flag, spelled_i8, spelled_option, spelled_text, spelled_u32, spelled_u64}
 use Rattle.slee_value.specs.declared.ids.ActivityId.{ActivityId}
 use Rattle.slee_value.specs.declared.value.Value.{Value}
+use Rattle.script_types.specs.Program.{Program}
 use Rattle.deploy_model.specs.Deployed.{Deployed, block_key}
 use Rattle.activity_context.specs.Views.{parts_of_name}
 use Rattle.router_state.specs.Contexts.{attributes_of}
 use Rattle.router_state.specs.Fields.{fields_of}
+use Rattle.router_state.specs.Initial.{initial}
 use Rattle.router_state.specs.Queues.{queue, done_on, delivered_on, suspended_until}
-use Rattle.router_state.specs.Snapshot.{listed, spelled_activity_2, spelled_behind, spelled_entity, spelled_event, spelled_kind, spelled_link, spelled_name, spelled_name_of, spelled_pair, spelled_row, spelled_stem, spelled_timer}
+use Rattle.router_state.specs.Restoring.{snapshot_text}
+use Rattle.router_state.specs.Snapshot.{listed, spelled_activity_2, spelled_behind, spelled_entity, spelled_event, spelled_kind, spelled_link, spelled_name, spelled_name_of, spelled_pair, spelled_row, spelled_state, spelled_stem, spelled_timer}
 use Rattle.router_state.specs.State.{State}
 use Rattle.router_state.specs.declared.rows.Activity.{Activity}
 use Rattle.router_state.specs.declared.rows.Attribute.{Attribute}
@@ -154,3 +158,14 @@ behind_put s d names timers rows start a b c e is own_names own_timers own_rows 
   where
     named : listed spelled_parts names ≡ listed spelled_name s.names
     named = ap (λ (ns : List (List ℕ × ActivityId)). listed spelled_parts ns) own_names ∙ sym (listed_seen {Y = List ℕ × ActivityId} spelled_parts parts_of_name s.names)
+
+-- the bytes of the first state of a deployment are the same whatever its scripts are
+first_alike : (d : Deployed) (p q : Program) → spelled_state 2 (initial d p) ≡ spelled_state 2 (initial d q)
+first_alike d p q = refl
+
+-- what stands for a state in a journal, by its bytes and those of the first state
+pub snapshot_is : (s first : State) (d : Deployed) (p : Program) (bytes initials : List ℕ) → d ≡ s.deployment → first ≡ initial d p → bytes ≡ spelled_state 2 s → initials ≡ spelled_state 2 first
+    → (if bytes_eq bytes initials then [] else bytes) ≡ snapshot_text 2 s
+snapshot_is s first d p bytes initials is begun own others =
+    ap (λ (x : List ℕ). if bytes_eq bytes x then [] else bytes) (others ∙ ap (spelled_state 2) begun ∙ first_alike d p s.program ∙ ap (λ (x : Deployed). spelled_state 2 (initial x s.program)) is)
+    ∙ ap (λ (x : List ℕ). if bytes_eq x (spelled_state 2 (initial s.deployment s.program)) then [] else x) own

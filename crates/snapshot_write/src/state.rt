@@ -1,5 +1,6 @@
 //! The whole state.
-ghost use Rattle.std.specs.Prelude.{◌≡◌, ◌++◌, IfOk, OnErr, OnOk};
+ghost use Rattle.std.specs.Prelude.{◌≡◌, ◌++◌, [], IfOk, OnErr, OnOk, if◌then◌else◌};
+ghost use Rattle.std.specs.Str.{bytes_eq};
 ghost use Rattle.deploy_model.specs.Resolving.{deployed_of};
 ghost use Rattle.router_state.specs.Restoring.{snapshot_text};
 ghost use Rattle.router_state.specs.Snapshot.{spelled_before, spelled_behind, spelled_counts, spelled_state};
@@ -81,6 +82,17 @@ pub fn write_state(
     Ok(())
 }
 
+/// The bytes, but none where they are those of the initial state.
+fn unless_initial(alloc: Global, bytes: Vec<u8>, initial: &[u8]) -> Vec<u8>
+    ensures { result.items ≡ (if bytes_eq bytes.items initial.now then [] else bytes.items) }
+{
+    if bytes.as_slice() == initial {
+        Vec::new(alloc)
+    } else {
+        bytes
+    }
+}
+
 /// The snapshot of the state for a journal: its bytes in format 2, and none where it is the initial state of the deployment.
 pub fn snapshot_text(
     alloc: Global,
@@ -92,8 +104,5 @@ pub fn snapshot_text(
 {
     let bytes = bytes_of(alloc, stores, deployment)?;
     let initial = bytes_of(alloc, &Stores::initial(alloc, deployment)?, deployment)?;
-    if bytes.as_slice() == initial.as_slice() {
-        return Ok(Vec::new(alloc));
-    }
-    Ok(bytes)
+    Ok(unless_initial(alloc, bytes, &initial))
 }
