@@ -164,8 +164,8 @@ first_alike : (d : Deployed) (p q : Program) → spelled_state 2 (initial d p) �
 first_alike d p q = refl
 
 -- what stands for a state in a journal, by its bytes and those of the first state
-pub snapshot_is : (s first : State) (d : Deployed) (p : Program) (bytes initials : List ℕ) → d ≡ s.deployment → first ≡ initial d p → bytes ≡ spelled_state 2 s → initials ≡ spelled_state 2 first
+pub snapshot_is : (s : State) (d : Deployed) (p : Program) (bytes initials : List ℕ) → d ≡ s.deployment → bytes ≡ spelled_state 2 s → initials ≡ spelled_state 2 (initial d p)
     → (if bytes_eq bytes initials then [] else bytes) ≡ snapshot_text 2 s
-snapshot_is s first d p bytes initials is begun own others =
-    ap (λ (x : List ℕ). if bytes_eq bytes x then [] else bytes) (others ∙ ap (spelled_state 2) begun ∙ first_alike d p s.program ∙ ap (λ (x : Deployed). spelled_state 2 (initial x s.program)) is)
+snapshot_is s d p bytes initials is own others =
+    ap (λ (x : List ℕ). if bytes_eq bytes x then [] else bytes) (others ∙ first_alike d p s.program ∙ ap (λ (x : Deployed). spelled_state 2 (initial x s.program)) is)
     ∙ ap (λ (x : List ℕ). if bytes_eq x (spelled_state 2 (initial s.deployment s.program)) then [] else x) own

@@ -55,7 +55,7 @@ fn put_name(name: &ConvName, into: &mut Vec<u8>) -> Result<(), NoMemory>
 
 /// Adds a convergence name, and nothing where there is none.
 pub fn put_found_name(name: Option<&ConvName>, into: &mut Vec<u8>) -> Result<(), NoMemory>
-    ensures { OnOk result (into.new.items ≡ into.old.items ++ option_map_or spelled_conv (option_copied name) []) }
+    ensures { OnOk result (into.new.items ≡ into.old.items ++ option_map_or spelled_conv (option_copied name.entry) []) }
 {
     match name {
         None => Ok(()),

@@ -1,7 +1,9 @@
 //! The whole state.
 ghost use Rattle.std.specs.Prelude.{◌≡◌, ◌++◌, [], IfOk, OnErr, OnOk, if◌then◌else◌};
 ghost use Rattle.std.specs.Str.{bytes_eq};
+ghost use Rattle.script_types.specs.ProgramOf.{kept_program};
 ghost use Rattle.deploy_model.specs.Resolving.{deployed_of};
+ghost use Rattle.router_state.specs.Initial.{initial};
 ghost use Rattle.router_state.specs.Restoring.{snapshot_text};
 ghost use Rattle.router_state.specs.Snapshot.{spelled_before, spelled_behind, spelled_counts, spelled_state};
 
@@ -82,6 +84,14 @@ pub fn write_state(
     Ok(())
 }
 
+/// The bytes of the initial state of the deployment.
+fn initial_bytes(alloc: Global, deployment: &Deployment) -> Result<Vec<u8>, NoMemory>
+    ensures { IfOk result (λ bytes. bytes.items ≡ spelled_state 2 (initial (deployed_of deployment.now.parts) (kept_program deployment.now.codes))) }
+{
+    let first = Stores::initial(alloc, deployment)?;
+    bytes_of(alloc, &first, deployment)
+}
+
 /// The bytes, but none where they are those of the initial state.
 fn unless_initial(alloc: Global, bytes: Vec<u8>, initial: &[u8]) -> Vec<u8>
     ensures { result.items ≡ (if bytes_eq bytes.items initial.now then [] else bytes.items) }
@@ -103,6 +113,6 @@ pub fn snapshot_text(
     ensures { IfOk result (λ bytes. bytes.items ≡ snapshot_text 2 stores.now.state) }
 {
     let bytes = bytes_of(alloc, stores, deployment)?;
-    let initial = bytes_of(alloc, &Stores::initial(alloc, deployment)?, deployment)?;
+    let initial = initial_bytes(alloc, deployment)?;
     Ok(unless_initial(alloc, bytes, &initial))
 }
