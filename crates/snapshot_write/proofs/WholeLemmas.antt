@@ -1,6 +1,6 @@
 -- Parts that are written one after another are the whole.
-use Rattle.std.proofs.Common.{◌≡◌, ◌==◌, ℕ, List, ◌++◌, map, refl, sym, ap, ◌∙◌}
-use Rattle.std.specs.Prelude.{Option, [], filter, if◌then◌else◌}
+use Rattle.std.proofs.Common.{Bor, ◌≡◌, ◌==◌, ℕ, List, [], ◌∷◌, ◌++◌, length, map, refl, sym, ap, ◌∙◌}
+use Rattle.std.specs.Prelude.{Option, filter, flat_map, if◌then◌else◌}
 use Rattle.std.specs.Str.{bytes_eq}
 use Rattle.std.proofs.lemmas.List.{append_assoc}
 use Rattle.slee_value.specs.Bytes.{spelled_flag, spelled_i8, spelled_option, spelled_text, spelled_u32, spelled_u64}
@@ -14,7 +14,7 @@ use Rattle.router_state.specs.Fields.{fields_of}
 use Rattle.router_state.specs.Initial.{initial}
 use Rattle.router_state.specs.Queues.{queue, done_on, delivered_on, suspended_until}
 use Rattle.router_state.specs.Restoring.{snapshot_text}
-use Rattle.router_state.specs.Snapshot.{listed, spelled_activity_2, spelled_behind, spelled_entity, spelled_event, spelled_kind, spelled_link, spelled_name, spelled_name_of, spelled_pair, spelled_row, spelled_state, spelled_stem, spelled_timer}
+use Rattle.router_state.specs.Snapshot.{listed, spelled_activity_2, spelled_before, spelled_behind, spelled_entity, spelled_event, spelled_kind, spelled_link, spelled_name, spelled_name_of, spelled_pair, spelled_row, spelled_state, spelled_stem, spelled_timer}
 use Rattle.router_state.specs.State.{State}
 use Rattle.router_state.specs.declared.rows.Activity.{Activity}
 use Rattle.router_state.specs.declared.rows.Attribute.{Attribute}
@@ -26,6 +26,7 @@ use Rattle.router_state.specs.declared.rows.ProfileRow.{ProfileRow}
 use Rattle.router_state.specs.declared.rows.Queued.{Queued}
 use Rattle.router_state.specs.declared.rows.ServiceMark.{ServiceMark}
 use Rattle.router_state.specs.declared.rows.Timer.{Timer}
+use Rattle.router_show.specs.Names.{name_seen, names_seen}
 use Rattle.snapshot_write.specs.Parts.{spelled_activity_row, spelled_entity_row, spelled_waiting}
 use Rattle.snapshot_write.proofs.ListLemmas.{listed_seen}
 
@@ -140,28 +141,42 @@ activity_put s d row own start a b c is attributes one two three =
     ∙ ap (λ (x : Deployed). start ++ (spelled_activity_row x row ++ (listed spelled_pair (attributes_of s.attributes row.number.0) ++ spelled_waiting s row.number.0))) is
     ∙ ap (λ bytes. start ++ bytes) (activity_whole s row)
 
--- a name that is written in parts
-abbrev spelled_parts : List ℕ × ActivityId → List ℕ
-spelled_parts parts = spelled_name (record { name = parts.0; activity = parts.1 })
+-- a borrowed name that is written with its activity, and a borrowed row
+abbrev spelled_seen : Bor (List ℕ) × ActivityId → List ℕ
+spelled_seen parts = spelled_name (record { name = parts.0.now; activity = parts.1 })
 
 -- attachments, names, timers, and then rows
-pub behind_put : (s : State) (d : Deployed) (names : List (List ℕ × ActivityId)) (timers : List Timer) (rows : List ProfileRow) (start a b c e : List ℕ) → d ≡ s.deployment → names ≡ map parts_of_name s.names → timers ≡ s.timers → rows ≡ s.rows
-    → a ≡ start ++ listed (spelled_link s) s.links → b ≡ a ++ listed (λ parts. spelled_name (record { name = parts.0; activity = parts.1 })) names → c ≡ b ++ listed spelled_timer timers → e ≡ c ++ listed (spelled_row d) rows
+pub behind_put : (s : State) (d : Deployed) (names : List (Bor (List ℕ) × ActivityId)) (timers : List Timer) (rows : List (Bor ProfileRow)) (start a b c e : List ℕ) → d ≡ s.deployment → names_seen names ≡ map parts_of_name s.names → timers ≡ s.timers → map (λ row. row.now) rows ≡ s.rows
+    → a ≡ start ++ listed (spelled_link s) s.links → b ≡ a ++ listed (λ parts. spelled_name (record { name = parts.0.now; activity = parts.1 })) names → c ≡ b ++ listed spelled_timer timers → e ≡ c ++ listed (λ row. spelled_row d row.now) rows
     → e ≡ start ++ spelled_behind s
 behind_put s d names timers rows start a b c e is own_names own_timers own_rows one two three four =
-    four ∙ ap (λ x. x ++ listed (spelled_row d) rows) (three ∙ ap (λ x. x ++ listed spelled_timer timers) (two ∙ ap (λ x. x ++ listed spelled_parts names) one))
-    ∙ four_behind start (listed (spelled_link s) s.links) (listed spelled_parts names) (listed spelled_timer timers) (listed (spelled_row d) rows)
-    ∙ ap (λ x. start ++ (listed (spelled_link s) s.links ++ (x ++ (listed spelled_timer timers ++ listed (spelled_row d) rows)))) named
-    ∙ ap (λ (x : List Timer). start ++ (listed (spelled_link s) s.links ++ (listed spelled_name s.names ++ (listed spelled_timer x ++ listed (spelled_row d) rows)))) own_timers
-    ∙ ap (λ (x : List ProfileRow). start ++ (listed (spelled_link s) s.links ++ (listed spelled_name s.names ++ (listed spelled_timer s.timers ++ listed (spelled_row d) x)))) own_rows
-    ∙ ap (λ (x : Deployed). start ++ (listed (spelled_link s) s.links ++ (listed spelled_name s.names ++ (listed spelled_timer s.timers ++ listed (spelled_row x) s.rows)))) is
+    four ∙ ap (λ x. x ++ listed (λ (row : Bor ProfileRow). spelled_row d row.now) rows) (three ∙ ap (λ x. x ++ listed spelled_timer timers) (two ∙ ap (λ x. x ++ listed spelled_seen names) one))
+    ∙ four_behind start (listed (spelled_link s) s.links) (listed spelled_seen names) (listed spelled_timer timers) (listed (λ (row : Bor ProfileRow). spelled_row d row.now) rows)
+    ∙ ap (λ x. start ++ (listed (spelled_link s) s.links ++ (x ++ (listed spelled_timer timers ++ listed (λ (row : Bor ProfileRow). spelled_row d row.now) rows)))) named
+    ∙ ap (λ (x : List Timer). start ++ (listed (spelled_link s) s.links ++ (listed spelled_name s.names ++ (listed spelled_timer x ++ listed (λ (row : Bor ProfileRow). spelled_row d row.now) rows)))) own_timers
+    ∙ ap (λ x. start ++ (listed (spelled_link s) s.links ++ (listed spelled_name s.names ++ (listed spelled_timer s.timers ++ x)))) kept
   where
-    named : listed spelled_parts names ≡ listed spelled_name s.names
-    named = ap (λ (ns : List (List ℕ × ActivityId)). listed spelled_parts ns) own_names ∙ sym (listed_seen {Y = List ℕ × ActivityId} spelled_parts parts_of_name s.names)
+    named : listed spelled_seen names ≡ listed spelled_name s.names
+    named =
+        listed_seen {Y = List ℕ × ActivityId} (λ parts. spelled_name (record { name = parts.0; activity = parts.1 })) name_seen names
+        ∙ ap (λ (ns : List (List ℕ × ActivityId)). listed (λ (parts : List ℕ × ActivityId). spelled_name (record { name = parts.0; activity = parts.1 })) ns) own_names
+        ∙ sym (listed_seen {Y = List ℕ × ActivityId} (λ parts. spelled_name (record { name = parts.0; activity = parts.1 })) parts_of_name s.names)
 
--- the bytes of the first state of a deployment are the same whatever its scripts are
+    kept : listed (λ (row : Bor ProfileRow). spelled_row d row.now) rows ≡ listed (spelled_row s.deployment) s.rows
+    kept =
+        listed_seen {Y = ProfileRow} (spelled_row d) (λ (row : Bor ProfileRow). row.now) rows
+        ∙ ap (λ (rs : List ProfileRow). listed (spelled_row d) rs) own_rows
+        ∙ ap (λ (x : Deployed). listed (spelled_row x) s.rows) is
+
+-- activities are written alike, whatever the scripts of the first state are
+each_alike : (d : Deployed) (p q : Program) (rows : List Activity) → flat_map (spelled_activity_2 (initial d p)) rows ≡ flat_map (spelled_activity_2 (initial d q)) rows
+each_alike d p q [] = refl
+each_alike d p q (row ∷ rows) = ap (λ more. spelled_activity_2 (initial d q) row ++ more) (each_alike d p q rows)
+
+-- so are the bytes of the first state of a deployment
 first_alike : (d : Deployed) (p q : Program) → spelled_state 2 (initial d p) ≡ spelled_state 2 (initial d q)
-first_alike d p q = refl
+first_alike d p q =
+    ap (λ more. spelled_before (initial d q) ++ ((spelled_u64 (length (initial d q).activities) ++ more) ++ spelled_behind (initial d q))) (each_alike d p q (initial d q).activities)
 
 -- what stands for a state in a journal, by its bytes and those of the first state
 pub snapshot_is : (s : State) (d : Deployed) (p : Program) (bytes initials : List ℕ) → d ≡ s.deployment → bytes ≡ spelled_state 2 s → initials ≡ spelled_state 2 (initial d p)

@@ -1,7 +1,6 @@
 //! Names of the naming facility.
 ghost use Rattle.std.specs.Prelude.{◌≡◌, ◌++◌, OnOk};
 ghost use Rattle.router_state.specs.Snapshot.{listed, spelled_name};
-ghost use Rattle.router_show.specs.Names.{names_seen};
 
 use crate::values::put_text;
 use slee_value::{ActivityId, NoMemory, Text, write_u64};
@@ -15,7 +14,7 @@ fn put_name(name: &Text, activity: ActivityId, into: &mut Vec<u8>) -> Result<(),
 
 /// Adds these names.
 pub fn put_names(names: &[(&Text, ActivityId)], into: &mut Vec<u8>) -> Result<(), NoMemory>
-    ensures { OnOk result (into.new.items ≡ into.old.items ++ listed (λ parts. spelled_name (record { name = parts.0; activity = parts.1 })) (names_seen names.now)) }
+    ensures { OnOk result (into.new.items ≡ into.old.items ++ listed (λ parts. spelled_name (record { name = parts.0.now; activity = parts.1 })) names.now) }
 {
     write_u64(names.len() as u64, into)?;
     'names: for (name, activity) in names {

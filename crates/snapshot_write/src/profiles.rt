@@ -1,5 +1,5 @@
 //! Rows of profile tables.
-ghost use Rattle.std.specs.Prelude.{◌≡◌, ◌++◌, OnOk, map};
+ghost use Rattle.std.specs.Prelude.{◌≡◌, ◌++◌, OnOk};
 ghost use Rattle.deploy_model.specs.Resolving.{deployed_of};
 ghost use Rattle.router_state.specs.Snapshot.{listed, spelled_row};
 
@@ -23,7 +23,7 @@ pub fn put_rows(
     rows: &[&ProfileRow],
     into: &mut Vec<u8>,
 ) -> Result<(), NoMemory>
-    ensures { OnOk result (into.new.items ≡ into.old.items ++ listed (spelled_row (deployed_of deployment.now.parts)) (map (λ row. row.now) rows.now)) }
+    ensures { OnOk result (into.new.items ≡ into.old.items ++ listed (λ row. spelled_row (deployed_of deployment.now.parts) row.now) rows.now) }
 {
     write_u64(rows.len() as u64, into)?;
     'rows: for row in rows {
