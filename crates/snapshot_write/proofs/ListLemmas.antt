@@ -52,3 +52,17 @@ all_seen see (x ∷ xs) = ap (λ n. suc n) (all_seen see xs)
 
 pub listed_seen : {X Y : Type 0} (spelled : Y → List ℕ) (see : X → Y) (xs : List X) → listed (λ x. spelled (see x)) xs ≡ listed spelled (map see xs)
 listed_seen spelled see xs = ap (λ n. spelled_u64 n ++ flat_map (λ x. spelled (see x)) xs) (all_seen see xs) ∙ ap (λ bytes. spelled_u64 (length (map see xs)) ++ bytes) (each_seen spelled see xs)
+
+-- parts that are written one after another, two to six of them
+pub two_put : (start a b x y : List ℕ) → x ≡ start ++ a → y ≡ x ++ b → y ≡ start ++ (a ++ b)
+two_put start a b x y one two = two ∙ ap (λ z. z ++ b) one ∙ append_assoc start a b
+
+pub three_put : (start a b c x y z : List ℕ) → x ≡ start ++ a → y ≡ x ++ b → z ≡ y ++ c → z ≡ start ++ (a ++ (b ++ c))
+three_put start a b c x y z one two three = two_put start a (b ++ c) x z one (two_put x b c y z two three)
+
+pub four_put : (start a b c d w x y z : List ℕ) → w ≡ start ++ a → x ≡ w ++ b → y ≡ x ++ c → z ≡ y ++ d → z ≡ start ++ (a ++ (b ++ (c ++ d)))
+four_put start a b c d w x y z one two three four = two_put start a (b ++ (c ++ d)) w z one (three_put w b c d x y z two three four)
+
+pub six_put : (start a b c d e f u v w x y z : List ℕ) → u ≡ start ++ a → v ≡ u ++ b → w ≡ v ++ c → x ≡ w ++ d → y ≡ x ++ e → z ≡ y ++ f → z ≡ start ++ (a ++ (b ++ (c ++ (d ++ (e ++ f)))))
+six_put start a b c d e f u v w x y z one two three four five six =
+    two_put start a (b ++ (c ++ (d ++ (e ++ f)))) u z one (two_put u b (c ++ (d ++ (e ++ f))) v z two (four_put v c d e f w x y z three four five six))

@@ -2,19 +2,22 @@
 use Rattle.std.proofs.Common.{Bor, ◌≡◌, ◌==◌, ℕ, List, [], ◌∷◌, ◌++◌, length, map, refl, sym, ap, ◌∙◌}
 use Rattle.std.specs.Prelude.{Option, filter, flat_map, if◌then◌else◌}
 use Rattle.std.specs.Str.{bytes_eq}
-use Rattle.std.proofs.lemmas.List.{append_assoc}
+use Rattle.std.proofs.lemmas.List.{append-nil, append_assoc}
 use Rattle.slee_value.specs.Bytes.{spelled_flag, spelled_i8, spelled_option, spelled_text, spelled_u32, spelled_u64}
 use Rattle.slee_value.specs.declared.ids.ActivityId.{ActivityId}
+use Rattle.slee_value.specs.declared.ids.EntityId.{EntityId}
 use Rattle.slee_value.specs.declared.value.Value.{Value}
+use Rattle.slee_effect.specs.Bytes.{spelled_keep}
 use Rattle.script_types.specs.Program.{Program}
-use Rattle.deploy_model.specs.Deployed.{Deployed, block_key}
+use Rattle.deploy_model.specs.Deployed.{Deployed, block_key, service_key}
 use Rattle.activity_context.specs.Views.{parts_of_name}
 use Rattle.router_state.specs.Contexts.{attributes_of}
 use Rattle.router_state.specs.Fields.{fields_of}
 use Rattle.router_state.specs.Initial.{initial}
+use Rattle.router_state.specs.Masks.{is_mask_of}
 use Rattle.router_state.specs.Queues.{queue, done_on, delivered_on, suspended_until}
 use Rattle.router_state.specs.Restoring.{snapshot_text}
-use Rattle.router_state.specs.Snapshot.{listed, spelled_activity_2, spelled_before, spelled_behind, spelled_entity, spelled_event, spelled_kind, spelled_link, spelled_name, spelled_name_of, spelled_pair, spelled_row, spelled_state, spelled_stem, spelled_timer}
+use Rattle.router_state.specs.Snapshot.{listed, spelled_activity_2, spelled_before, spelled_behind, spelled_counts, spelled_entity, spelled_event, spelled_kind, spelled_link, spelled_name, spelled_name_of, spelled_pair, spelled_row, spelled_service, spelled_state, spelled_stem, spelled_timer}
 use Rattle.router_state.specs.State.{State}
 use Rattle.router_state.specs.declared.rows.Activity.{Activity}
 use Rattle.router_state.specs.declared.rows.Attribute.{Attribute}
@@ -22,13 +25,80 @@ use Rattle.router_state.specs.declared.rows.Entity.{Entity}
 use Rattle.router_state.specs.declared.rows.EntityMark.{EntityMark}
 use Rattle.router_state.specs.declared.rows.Event.{Event}
 use Rattle.router_state.specs.declared.rows.Field.{Field}
+use Rattle.router_state.specs.declared.rows.Mask.{Mask}
 use Rattle.router_state.specs.declared.rows.ProfileRow.{ProfileRow}
 use Rattle.router_state.specs.declared.rows.Queued.{Queued}
 use Rattle.router_state.specs.declared.rows.ServiceMark.{ServiceMark}
+use Rattle.router_state.specs.declared.rows.Service.{Service}
+use Rattle.router_state.specs.declared.rows.Stem.{Stem}
+use Rattle.router_state.specs.declared.rows.Stem.TheVariants as stems
 use Rattle.router_state.specs.declared.rows.Timer.{Timer}
 use Rattle.router_show.specs.Names.{name_seen, names_seen}
 use Rattle.snapshot_write.specs.Parts.{spelled_activity_row, spelled_entity_row, spelled_waiting}
-use Rattle.snapshot_write.proofs.ListLemmas.{listed_seen}
+use Rattle.snapshot_write.proofs.ListLemmas.{four_put, listed_seen, six_put, three_put, two_put}
+
+-- the stem of a root
+pub root_put : (d : Deployed) (stem : Stem) (service : ℕ) (text start a b : List ℕ) → stem ≡ stems.Root service → text ≡ service_key d service
+    → a ≡ start ++ spelled_u64 0 → b ≡ a ++ spelled_text text → b ≡ start ++ spelled_stem d stem
+root_put d stem service text start a b is key one two =
+    two_put start (spelled_u64 0) (spelled_text text) a b one two
+    ∙ ap (λ x. start ++ (spelled_u64 0 ++ spelled_text x)) key
+    ∙ ap (λ x. start ++ spelled_stem d x) (sym is)
+
+-- the stem of a child
+pub child_put : (d : Deployed) (stem : Stem) (parent : EntityId) (relation text start a b : List ℕ) → stem ≡ stems.Child parent relation → text ≡ relation
+    → a ≡ start ++ spelled_u64 parent.0 → b ≡ a ++ spelled_text text → b ≡ start ++ spelled_stem d stem
+child_put d stem parent relation text start a b is same one two =
+    two_put start (spelled_u64 parent.0) (spelled_text text) a b one two
+    ∙ ap (λ x. start ++ (spelled_u64 parent.0 ++ spelled_text x)) same
+    ∙ ap (λ x. start ++ spelled_stem d x) (sym is)
+
+-- an entity up to its priority
+pub entity_row_put : (d : Deployed) (row : Entity) (text start w x y z : List ℕ) → text ≡ block_key d row.block
+    → w ≡ start ++ spelled_u64 row.number.0 → x ≡ w ++ spelled_text text → y ≡ x ++ spelled_stem d row.stem → z ≡ y ++ spelled_i8 row.priority → z ≡ start ++ spelled_entity_row d row
+entity_row_put d row text start w x y z key one two three four =
+    four_put start (spelled_u64 row.number.0) (spelled_text text) (spelled_stem d row.stem) (spelled_i8 row.priority) w x y z one two three four
+    ∙ ap (λ t. start ++ (spelled_u64 row.number.0 ++ (spelled_text t ++ (spelled_stem d row.stem ++ spelled_i8 row.priority)))) key
+
+-- an attachment, and then its masks
+pub link_put : (s : State) (entity : EntityId) (activity : ActivityId) (own : List Mask) (start a b c : List ℕ) → own ≡ filter (is_mask_of entity.0 activity.0) s.masks
+    → a ≡ start ++ spelled_u64 activity.0 → b ≡ a ++ spelled_u64 entity.0 → c ≡ b ++ listed (λ m. spelled_text m.event) own → c ≡ start ++ spelled_link s (record { entity = entity; activity = activity })
+link_put s entity activity own start a b c is one two three =
+    three_put start (spelled_u64 activity.0) (spelled_u64 entity.0) (listed (λ (m : Mask). spelled_text m.event) own) a b c one two three
+    ∙ ap (λ x. start ++ (spelled_u64 activity.0 ++ (spelled_u64 entity.0 ++ x)))
+    (ap (λ (ms : List Mask). listed (λ (m : Mask). spelled_text m.event) ms) is ∙ listed_seen spelled_text (λ (m : Mask). m.event) (filter (is_mask_of entity.0 activity.0) s.masks))
+
+-- an event up to its fields
+pub event_put : (d : Deployed) (event : Event) (text : List ℕ) (fields : List (List ℕ × Value)) (start w x y z : List ℕ) → text ≡ event.name → fields ≡ event.fields
+    → w ≡ start ++ spelled_u64 event.id.0 → x ≡ w ++ spelled_text text → y ≡ x ++ spelled_option (λ service. spelled_text (service_key d service)) event.target → z ≡ y ++ listed spelled_pair fields
+    → z ≡ start ++ spelled_event d event
+event_put d event text fields start w x y z name own one two three four =
+    four_put start (spelled_u64 event.id.0) (spelled_text text) (spelled_option (λ service. spelled_text (service_key d service)) event.target) (listed spelled_pair fields) w x y z one two three four
+    ∙ ap (λ t. start ++ (spelled_u64 event.id.0 ++ (spelled_text t ++ (spelled_option (λ service. spelled_text (service_key d service)) event.target ++ listed spelled_pair fields)))) name
+    ∙ ap (λ (fs : List (List ℕ × Value)). start ++ (spelled_u64 event.id.0 ++ (spelled_text event.name ++ (spelled_option (λ service. spelled_text (service_key d service)) event.target ++ listed spelled_pair fs)))) own
+
+-- a timer up to what it keeps
+pub timer_put : (row : Timer) (byte : ℕ) (start u v w x y z : List ℕ) → spelled_keep row.keep ≡ byte ∷ []
+    → u ≡ start ++ spelled_u64 row.number.0 → v ≡ u ++ spelled_u64 row.activity.0 → w ≡ v ++ spelled_u64 row.next → x ≡ w ++ spelled_u64 row.period → y ≡ x ++ spelled_u64 row.left → z ≡ y ++ byte ∷ []
+    → z ≡ start ++ spelled_timer row
+timer_put row byte start u v w x y z keep one two three four five six =
+    six_put start (spelled_u64 row.number.0) (spelled_u64 row.activity.0) (spelled_u64 row.next) (spelled_u64 row.period) (spelled_u64 row.left) (byte ∷ []) u v w x y z one two three four five six
+    ∙ ap (λ k. start ++ (spelled_u64 row.number.0 ++ (spelled_u64 row.activity.0 ++ (spelled_u64 row.next ++ (spelled_u64 row.period ++ (spelled_u64 row.left ++ k)))))) (sym keep)
+
+-- the clock, the count of inputs and the next numbers
+pub counts_put : (s : State) (start u v w x y z : List ℕ)
+    → u ≡ start ++ spelled_u64 s.clock → v ≡ u ++ spelled_u64 s.inputs → w ≡ v ++ spelled_u64 s.next_entity → x ≡ w ++ spelled_u64 s.next_activity → y ≡ x ++ spelled_u64 s.next_timer → z ≡ y ++ spelled_u64 s.next_event
+    → z ≡ start ++ spelled_counts s
+counts_put s start u v w x y z one two three four five six =
+    six_put start (spelled_u64 s.clock) (spelled_u64 s.inputs) (spelled_u64 s.next_entity) (spelled_u64 s.next_activity) (spelled_u64 s.next_timer) (spelled_u64 s.next_event) u v w x y z one two three four five six
+    ∙ ap (λ k. start ++ (spelled_u64 s.clock ++ (spelled_u64 s.inputs ++ (spelled_u64 s.next_entity ++ (spelled_u64 s.next_activity ++ (spelled_u64 s.next_timer ++ k)))))) (sym (append-nil (spelled_u64 s.next_event)))
+
+-- counts, services, and then entities
+pub before_put : (s : State) (services : List Service) (start a b c : List ℕ) → services ≡ s.services
+    → a ≡ start ++ spelled_counts s → b ≡ a ++ listed spelled_service services → c ≡ b ++ listed (spelled_entity s) s.entities → c ≡ start ++ spelled_before s
+before_put s services start a b c is one two three =
+    three_put start (spelled_counts s) (listed spelled_service services) (listed (spelled_entity s) s.entities) a b c one two three
+    ∙ ap (λ (x : List Service). start ++ (spelled_counts s ++ (listed spelled_service x ++ listed (spelled_entity s) s.entities))) is
 
 -- four parts in front of others
 four_in_front : (a b c d more : List ℕ) → (a ++ (b ++ (c ++ d))) ++ more ≡ a ++ (b ++ (c ++ (d ++ more)))

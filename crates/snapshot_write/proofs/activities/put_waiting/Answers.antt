@@ -1,5 +1,5 @@
 -- the queue, the marks, and then the suspension
-use Rattle.std.proofs.Common.{◌==◌, ap, ◌∙◌}
+use Rattle.std.proofs.Common.{◌==◌, List, ap, ◌∙◌}
 use Rattle.std.specs.Prelude.{filter}
 use Rattle.std.proofs.lemmas.Result.{on_ok_weaker}
 use Rattle.deploy_model.specs.Resolving.{deployed_of}
