@@ -115,16 +115,10 @@ fields_put rows own e is =
 pub entity_put : (s : State) (d : Deployed) (row : Entity) (own : List Field) (start a b c : List ℕ) → d ≡ s.deployment → own ≡ filter (λ f. f.entity.0 == row.number.0) s.fields
     → a ≡ start ++ spelled_entity_row d row → b ≡ a ++ spelled_name_of s row row.stem → c ≡ b ++ listed (λ f. spelled_pair (f.name, f.value)) own → c ≡ start ++ spelled_entity s row
 entity_put s d row own start a b c is fields one two three =
-    three ∙ ap (λ x. x ++ listed (λ (f : Field). spelled_pair (f.name, f.value)) own) (two ∙ ap (λ x. x ++ spelled_name_of s row row.stem) one)
-    ∙ append_assoc (start ++ spelled_entity_row d row) (spelled_name_of s row row.stem) (listed (λ (f : Field). spelled_pair (f.name, f.value)) own)
-    ∙ append_assoc start (spelled_entity_row d row) (spelled_name_of s row row.stem ++ listed (λ (f : Field). spelled_pair (f.name, f.value)) own)
+    three_put start (spelled_entity_row d row) (spelled_name_of s row row.stem) (listed (λ (f : Field). spelled_pair (f.name, f.value)) own) a b c one two three
     ∙ ap (λ bytes. start ++ (spelled_entity_row d row ++ (spelled_name_of s row row.stem ++ bytes))) (fields_put s.fields own row.number.0 fields)
     ∙ ap (λ (x : Deployed). start ++ (spelled_entity_row x row ++ (spelled_name_of s row row.stem ++ listed spelled_pair (fields_of s.fields row.number.0)))) is
     ∙ ap (λ bytes. start ++ bytes) (four_in_front (spelled_u64 row.number.0) (spelled_text (block_key s.deployment row.block)) (spelled_stem s.deployment row.stem) (spelled_i8 row.priority) _)
-
--- four parts, one after another
-four_behind : (start a b c d : List ℕ) → (((start ++ a) ++ b) ++ c) ++ d ≡ start ++ (a ++ (b ++ (c ++ d)))
-four_behind start a b c d = append_assoc ((start ++ a) ++ b) c d ∙ append_assoc (start ++ a) b (c ++ d) ∙ append_assoc start a (b ++ (c ++ d))
 
 -- the queue of an activity, its marks, and then its suspension
 pub waiting_put : (s : State) (d : Deployed) (activity : ℕ) (events : List Queued) (done : List ServiceMark) (delivered : List EntityMark) (until : Option ℕ) (start a b c e : List ℕ) → d ≡ s.deployment
@@ -132,9 +126,7 @@ pub waiting_put : (s : State) (d : Deployed) (activity : ℕ) (events : List Que
     → a ≡ start ++ listed (λ q. spelled_event d q.event) events → b ≡ a ++ listed (λ m. spelled_u32 m.service) done → c ≡ b ++ listed (λ m. spelled_u64 m.entity.0) delivered → e ≡ c ++ spelled_option spelled_u64 until
     → e ≡ start ++ spelled_waiting s activity
 waiting_put s d activity events done delivered until start a b c e is own_events own_done own_delivered own_until one two three four =
-    four
-    ∙ ap (λ x. x ++ spelled_option spelled_u64 until) (three ∙ ap (λ x. x ++ listed (λ (m : EntityMark). spelled_u64 m.entity.0) delivered) (two ∙ ap (λ x. x ++ listed (λ (m : ServiceMark). spelled_u32 m.service) done) one))
-    ∙ four_behind start (listed (λ (q : Queued). spelled_event d q.event) events) (listed (λ (m : ServiceMark). spelled_u32 m.service) done) (listed (λ (m : EntityMark). spelled_u64 m.entity.0) delivered) (spelled_option spelled_u64 until)
+    four_put start (listed (λ (q : Queued). spelled_event d q.event) events) (listed (λ (m : ServiceMark). spelled_u32 m.service) done) (listed (λ (m : EntityMark). spelled_u64 m.entity.0) delivered) (spelled_option spelled_u64 until) a b c e one two three four
     ∙ ap (λ x. start ++ (x ++ (listed (λ (m : ServiceMark). spelled_u32 m.service) done ++ (listed (λ (m : EntityMark). spelled_u64 m.entity.0) delivered ++ spelled_option spelled_u64 until)))) waits
     ∙ ap (λ x. start ++ (listed (spelled_event s.deployment) (queue s.events activity) ++ (x ++ (listed (λ (m : EntityMark). spelled_u64 m.entity.0) delivered ++ spelled_option spelled_u64 until)))) marked
     ∙ ap (λ x. start ++ (listed (spelled_event s.deployment) (queue s.events activity) ++ (listed spelled_u32 (done_on s.services_done activity) ++ (x ++ spelled_option spelled_u64 until)))) received
@@ -204,9 +196,7 @@ activity_whole s row =
 pub activity_put : (s : State) (d : Deployed) (row : Activity) (own : List Attribute) (start a b c : List ℕ) → d ≡ s.deployment → own ≡ filter (λ r. r.activity.0 == row.number.0) s.attributes
     → a ≡ start ++ spelled_activity_row d row → b ≡ a ++ listed (λ r. spelled_pair (r.key, r.value)) own → c ≡ b ++ spelled_waiting s row.number.0 → c ≡ start ++ spelled_activity_2 s row
 activity_put s d row own start a b c is attributes one two three =
-    three ∙ ap (λ x. x ++ spelled_waiting s row.number.0) (two ∙ ap (λ x. x ++ listed (λ (r : Attribute). spelled_pair (r.key, r.value)) own) one)
-    ∙ append_assoc (start ++ spelled_activity_row d row) (listed (λ (r : Attribute). spelled_pair (r.key, r.value)) own) (spelled_waiting s row.number.0)
-    ∙ append_assoc start (spelled_activity_row d row) (listed (λ (r : Attribute). spelled_pair (r.key, r.value)) own ++ spelled_waiting s row.number.0)
+    three_put start (spelled_activity_row d row) (listed (λ (r : Attribute). spelled_pair (r.key, r.value)) own) (spelled_waiting s row.number.0) a b c one two three
     ∙ ap (λ bytes. start ++ (spelled_activity_row d row ++ (bytes ++ spelled_waiting s row.number.0))) (attributes_put s.attributes own row.number.0 attributes)
     ∙ ap (λ (x : Deployed). start ++ (spelled_activity_row x row ++ (listed spelled_pair (attributes_of s.attributes row.number.0) ++ spelled_waiting s row.number.0))) is
     ∙ ap (λ bytes. start ++ bytes) (activity_whole s row)
@@ -220,8 +210,7 @@ pub behind_put : (s : State) (d : Deployed) (names : List (Bor (List ℕ) × Act
     → a ≡ start ++ listed (spelled_link s) s.links → b ≡ a ++ listed (λ parts. spelled_name (record { name = parts.0.now; activity = parts.1 })) names → c ≡ b ++ listed spelled_timer timers → e ≡ c ++ listed (λ row. spelled_row d row.now) rows
     → e ≡ start ++ spelled_behind s
 behind_put s d names timers rows start a b c e is own_names own_timers own_rows one two three four =
-    four ∙ ap (λ x. x ++ listed (λ (row : Bor ProfileRow). spelled_row d row.now) rows) (three ∙ ap (λ x. x ++ listed spelled_timer timers) (two ∙ ap (λ x. x ++ listed spelled_seen names) one))
-    ∙ four_behind start (listed (spelled_link s) s.links) (listed spelled_seen names) (listed spelled_timer timers) (listed (λ (row : Bor ProfileRow). spelled_row d row.now) rows)
+    four_put start (listed (spelled_link s) s.links) (listed spelled_seen names) (listed spelled_timer timers) (listed (λ (row : Bor ProfileRow). spelled_row d row.now) rows) a b c e one two three four
     ∙ ap (λ x. start ++ (listed (spelled_link s) s.links ++ (x ++ (listed spelled_timer timers ++ listed (λ (row : Bor ProfileRow). spelled_row d row.now) rows)))) named
     ∙ ap (λ (x : List Timer). start ++ (listed (spelled_link s) s.links ++ (listed spelled_name s.names ++ (listed spelled_timer x ++ listed (λ (row : Bor ProfileRow). spelled_row d row.now) rows)))) own_timers
     ∙ ap (λ x. start ++ (listed (spelled_link s) s.links ++ (listed spelled_name s.names ++ (listed spelled_timer s.timers ++ x)))) kept
