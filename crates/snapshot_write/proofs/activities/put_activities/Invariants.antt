@@ -1,0 +1,10 @@
+-- the bytes so far and those of the other rows
+use Rattle.std.proofs.Common.{◌≡◌, ◌++◌, drop, length}
+use Rattle.std.specs.Prelude.{flat_map}
+use Rattle.slee_value.specs.Bytes.{spelled_u64}
+use Rattle.router_state.specs.Snapshot.{spelled_activity_2}
+use Rattle.snapshot_write.proofs.activities.put_activities.Given as goal
+
+abbrev pub invariant-rows : goal.invariant-rows
+invariant-rows l =
+    l.into.items ++ flat_map (spelled_activity_2 l.stores.state) (drop l.place l.stores.state.activities) ≡ l.fn.into.items ++ (spelled_u64 (length l.stores.state.activities) ++ flat_map (spelled_activity_2 l.stores.state) l.stores.state.activities)

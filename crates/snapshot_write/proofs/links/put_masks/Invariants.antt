@@ -1,0 +1,9 @@
+-- the bytes so far and those of the other rows
+use Rattle.std.proofs.Common.{◌≡◌, ◌++◌, length}
+use Rattle.std.specs.Prelude.{flat_map}
+use Rattle.slee_value.specs.Bytes.{spelled_text, spelled_u64}
+use Rattle.snapshot_write.proofs.links.put_masks.Given as goal
+
+abbrev pub invariant-rows : goal.invariant-rows
+invariant-rows l =
+    l.into.items ++ flat_map (λ m. spelled_text m.event) l.row-iterator ≡ l.fn.into.items ++ (spelled_u64 (length l.fn.rows) ++ flat_map (λ m. spelled_text m.event) l.fn.rows)
