@@ -1,0 +1,5 @@
+mod HeldLemmas
+mod LoopLemmas
+mod NameLemmas
+mod TurnLemmas
+mod WholeLemmas

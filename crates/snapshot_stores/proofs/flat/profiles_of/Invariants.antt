@@ -1,0 +1,15 @@
+-- what is put and what is left are all, and what is left has room
+use Rattle.std.proofs.Common.{◌≡◌, ◌≤◌, ◌++◌, length}
+use Rattle.std.specs.Vec.Iter.{into_iter_items}
+use Rattle.deploy_model.specs.Resolving.{deployed_of}
+use Rattle.router_stores.specs.TableSpecs.{specs_of}
+use Rattle.snapshot_stores.proofs.flat.profiles_of.Given as goal
+
+abbrev pub invariant-rows : goal.invariant-rows
+invariant-rows l = record {
+  can_next : (goal.iterator-rows).can_next l.row-iterator;
+  is_finite : (goal.iterator-rows).is_finite l.row-iterator;
+  rows : l.profiles.rows ++ into_iter_items l.row-iterator ≡ l.fn.rows.items;
+  room : length (into_iter_items l.row-iterator) ≤ l.profiles.room;
+  tables : l.profiles.tables ≡ specs_of (deployed_of l.deployment.parts);
+}

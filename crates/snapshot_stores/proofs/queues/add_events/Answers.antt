@@ -1,0 +1,21 @@
+-- one row more comes to the end
+use Rattle.std.proofs.Common.{length, arith, ap}
+use Rattle.router_state.specs.Queues.{queued_before}
+use Rattle.event_queue.specs.Views.{QueuesView}
+use Rattle.router_state.specs.Keys.{queued_key}
+use Rattle.snapshot_stores.proofs.FillLemmas.{turn}
+use Rattle.snapshot_stores.proofs.KeptLemmas.{more_events}
+use Rattle.snapshot_stores.proofs.OrderedLemmas as orders
+use Rattle.snapshot_stores.proofs.queues.add_events.Goals as goal
+
+pub rows-preserved : goal.rows-preserved
+rows-preserved c =
+    let cut = c.in-Some.ensures.steps.0 in
+    let count = ap length cut in
+    record {
+      can_next = tt;
+      is_finite = tt;
+      rows = turn queued_key queued_before orders.events _ _ _ _ _ _ c.requires.rises cut (ap (λ (x : QueuesView). x.events) c.restore.ensures.rows) c.rows.invariant.rows;
+      kept = more_events c.args.queues.now _ _ _ c.rows.invariant.kept c.restore.ensures.rows;
+      room = omega (arith, count, c.rows.invariant.room, c.restore.ensures.room);
+    }

@@ -1,0 +1,14 @@
+-- what is put and what is left are all, and what is left has room
+use Rattle.std.proofs.Common.{◌≡◌, ◌≤◌, ◌++◌, length}
+use Rattle.std.specs.Vec.Iter.{into_iter_items}
+use Rattle.snapshot_stores.proofs.KeptLemmas.{WithEvents}
+use Rattle.snapshot_stores.proofs.queues.add_events.Given as goal
+
+abbrev pub invariant-rows : goal.invariant-rows
+invariant-rows l = record {
+  can_next : (goal.iterator-rows).can_next l.row-iterator;
+  is_finite : (goal.iterator-rows).is_finite l.row-iterator;
+  rows : l.queues.events ++ into_iter_items l.row-iterator ≡ l.fn.rows.items;
+  kept : WithEvents l.fn.queues l.queues;
+  room : length (into_iter_items l.row-iterator) ≤ l.queues.events_room;
+}
