@@ -16,3 +16,4 @@ pub mod RunLemmas
 pub mod DeterminedLemmas
 pub mod TopLemmas
 pub mod TwiceLemmas
+pub mod OrderlyLemmas

@@ -8,6 +8,7 @@ ghost use Rattle.slee_run.specs.Words.{is_in_range, texts};
 ghost use Rattle.slee_run.specs.Given.{deploy_limit, signals_limit};
 ghost use Rattle.slee_run.specs.Headline.{IsComplete, IsCompleteTrial, IsLegalRun, IsShown, IsWholeCheck, Opens, Plays, Reads};
 ghost use Rattle.slee_run.specs.Opening.{IsBeforeOpening};
+ghost use Rattle.slee_run.specs.Orderly.{IsOrderlyRun};
 ghost use Rattle.slee_run.specs.Answers.{IsFormOf};
 
 use crate::checking::check;
@@ -36,9 +37,9 @@ pub fn run_one<S: Source, T: Source, K: Sink, D: Disk>(
     disk: D,
     selectors: &Selectors,
 ) -> (Status, D)
-    // One legal history on the signals, the run of one worker, its text and its journal, or what is said of a deployment; each
-    // status with its cause.
-    ensures headline { IsLegalRun (texts words.now) (S.left deploy.old) (T.left signals.old) (K.contents out.old) (K.contents out.new) (D.disk disk) (D.disk result.1) result.0 }
+    // One legal history on the signals, the run of one worker, which keeps all laws of runs, its text and its journal, or what is
+    // said of a deployment; each status with its cause.
+    ensures headline { IsOrderlyRun (texts words.now) (S.left deploy.old) (T.left signals.old) (K.contents out.old) (K.contents out.new) (D.disk disk) (D.disk result.1) result.0 }
 
     // On a good deployment, good lines and an honest journal, and without a fault, there is no other status than these.
     ensures complete { IsComplete (texts words.now) (S.left deploy.old) (T.left signals.old) (D.disk disk)

@@ -1,7 +1,11 @@
 use Rattle.std.proofs.Common.{inl, inr}
+use Rattle.slee_run.proofs.OrderlyLemmas.{orderly}
 use Rattle.slee_run.proofs.TopLemmas.{of_four}
 use Rattle.slee_run.proofs.RunLemmas.{complete, complete_trial, check_whole, shown_whole}
 use Rattle.slee_run.proofs.top.run_one.Goals as goal
+
+pub returns-clause-headline : goal.returns-clause-headline
+returns-clause-headline g c = orderly _ _ _ _ _ _ _ _ c.answer.ensures.headline
 
 pub returns-clause-complete : goal.returns-clause-complete
 returns-clause-complete g c =

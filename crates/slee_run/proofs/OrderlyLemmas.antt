@@ -11,6 +11,7 @@ use Rattle.router_durable.specs.Recovery.{Unfit, restart}
 use Rattle.slee_run.specs.Given.{Document, IsDocument, deploy_limit, start_of}
 use Rattle.slee_run.specs.Headline.{IsBefore, IsLegalRun, Opens}
 use Rattle.slee_run.specs.Opening.{IsOpened, found}
+use Rattle.slee_run.specs.Orderly.{IsOrderlyRun}
 use Rattle.slee_run.specs.declared.status.Status.{Status}
 
 none_orderly : (s : State) (h : List Entry) → h ≡ [] → IsOrderly s h
@@ -33,9 +34,12 @@ opened_orderly deploy x disk s h status document legal opened = by (found x disk
         let same = opened.from state is in
         subst (λ (t : State). IsOrderly t h) (sym same) (found_orderly deploy x disk state h document is (subst (λ (t : State). Legal t h) same legal))
 
-pub run_orderly : (words : List (List ℕ)) (deploy signals before after : Option (List ℕ)) (old new : DiskState) (status : Status) (run : IsLegalRun words deploy signals before after old new status) → Opens words → IsTrue old.told → IsOrderly run.base run.history
+run_orderly : (words : List (List ℕ)) (deploy signals before after : Option (List ℕ)) (old new : DiskState) (status : Status) (run : IsLegalRun words deploy signals before after old new status) → Opens words → IsTrue old.told → IsOrderly run.base run.history
 run_orderly words deploy signals before after old new status run opens told = by (run.given opens)
   where
     by : IsDocument deploy run.document ⊎ IsBefore run.history old new run.ended → IsOrderly run.base run.history
     by (inl document) = opened_orderly deploy run.document old run.base run.history run.ended document run.run.legal.legal ((run.journal opens).opened told)
     by (inr early) = none_orderly run.base run.history early.none
+
+pub orderly : (words : List (List ℕ)) (deploy signals before after : Option (List ℕ)) (old new : DiskState) (status : Status) → IsLegalRun words deploy signals before after old new status → IsOrderlyRun words deploy signals before after old new status
+orderly words deploy signals before after old new status run = record { run = run; laws = run_orderly words deploy signals before after old new status run }
