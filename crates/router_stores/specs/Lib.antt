@@ -4,3 +4,4 @@ pub mod Ready
 pub mod TableSpecs
 pub mod Begun
 pub mod Held
+pub mod Filled

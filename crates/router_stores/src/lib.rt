@@ -3,6 +3,7 @@
 
 mod changing;
 mod laws;
+mod parts;
 mod ready;
 mod services;
 mod stores;
@@ -12,5 +13,7 @@ mod widths;
 
 pub use changing::change_each;
 pub use laws::fitting_changes_can_be_made;
+pub use parts::StoreParts;
 pub use ready::Ready;
 pub use stores::Stores;
+pub use table_specs::specs_of;

@@ -10,12 +10,14 @@ ghost use Rattle.router_state.specs.Ordered.{IsOrdered};
 ghost use Rattle.router_state.specs.Trees.{root_name_at};
 ghost use Rattle.router_state.specs.declared.change.Change.TheVariants as changes;
 ghost use Rattle.router_stores.specs.Begun.{IsBegun, begins};
+ghost use Rattle.router_stores.specs.Filled.{AreFilled, filled_state};
 ghost use Rattle.router_stores.specs.TableSpecs.{specs_of};
 ghost use Rattle.router_stores.specs.Making.{CanMake};
 ghost use Rattle.router_order.specs.Listed.{Agrees};
 ghost use Rattle.router_stores.specs.Ready.{AreAllReady};
 ghost use Rattle.router_stores.specs.Views.{FallsBy, HasRoom, width, widths};
 
+use crate::StoreParts;
 use crate::ready::{Ready, list_ready};
 use crate::services::{services_of, set_service};
 use crate::table_specs::specs_of;
@@ -137,6 +139,46 @@ impl Stores {
         let tables = specs_of(alloc, deployment)?;
         let services = services_of(alloc, deployment.services())?;
         Ok(Stores::begin(alloc, deployment, contexts, tables, services))
+    }
+
+    /// The state that filled stores hold.
+    pub fn from_parts(deployment: &Deployment, parts: StoreParts) -> Self
+        requires { AreFilled (deployed_of deployment.now.parts) parts }
+        ensures { result.state ≡ filled_state (deployed_of deployment.now.parts) (kept_program deployment.now.codes) parts }
+    {
+        let StoreParts {
+            fields,
+            tree,
+            contexts,
+            masks,
+            queues,
+            timers,
+            profiles,
+            order,
+            ready,
+            root_names,
+            services,
+            clock,
+            inputs,
+            next_event,
+        } = parts;
+        Stores {
+            deployment: Snapshot::of(deployment),
+            fields,
+            tree,
+            contexts,
+            masks,
+            queues,
+            timers,
+            profiles,
+            order,
+            ready,
+            root_names,
+            services,
+            clock,
+            inputs,
+            next_event,
+        }
     }
 
     /// Makes room for these changes.
