@@ -1,0 +1,16 @@
+pub mod FitLemmas
+pub mod DeclaredLemmas
+pub mod FoundLemmas
+pub mod EntityLemmas
+pub mod ActivityLemmas
+pub mod QueueLemmas
+pub mod DistinctLemmas
+pub mod NumberLemmas
+pub mod TopLemmas
+pub mod HeldLemmas
+pub mod ClosedLemmas
+pub mod SeenLemmas
+pub mod DifferLemmas
+pub mod UniqueLemmas
+pub mod RegroupLemmas
+pub mod WellLemmas

@@ -1,0 +1,5 @@
+pub mod Keys
+pub mod Tops
+pub mod Roots
+pub mod Closing
+pub mod Divided
