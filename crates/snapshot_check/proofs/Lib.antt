@@ -1,9 +1,3 @@
-pub mod FitLemmas
-pub mod DeclaredLemmas
-pub mod FoundLemmas
-pub mod EntityLemmas
-pub mod ActivityLemmas
-pub mod QueueLemmas
 pub mod DistinctLemmas
 pub mod NumberLemmas
 pub mod TopLemmas

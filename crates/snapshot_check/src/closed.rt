@@ -12,12 +12,12 @@ ghost use Rattle.router_state.specs.Trees.{parent_of as parent_so};
 ghost use Rattle.snapshot_check.specs.Closing.{services_with_trees};
 ghost use Rattle.snapshot_check.specs.Tops.{is_lower};
 
-use crate::found::is_waiting;
 use crate::numbers::{has_number, in_order};
 use crate::tops::{parent_of, tops_of, tops_of_links};
 use router_state::{AcKind, Activity, Entity, Link, Named, Queued, Service, ServiceState, Stem, Timer};
 use rows_sorted::has_row_of;
 use slee_value::NoMemory;
+use snapshot_check_rows::is_waiting;
 use std::alloc::Global;
 
 /// Whether each root is one of these entities.

@@ -10,13 +10,12 @@ ghost use Rattle.router_state.specs.WellEntities.{all_differ, differ_in_name, is
 ghost use Rattle.router_state.specs.WellQueues.{differ_in_number};
 ghost use Rattle.snapshot_check.specs.Roots.{external_names, own_service, root_row, root_view, service_at, value_view, view_of};
 
-use crate::declared::{count_tables, table_unique};
 use crate::distinct::are_distinct;
-use crate::found::entity_at;
 use router_state::{AcKind, Activity, Entity, ProfileRow, Queued, RootName, Stem};
 use rows_sorted::rows_of;
 use slee_descriptor::Deployment;
 use slee_value::{ActivityId, Blob, EventId, Name, NoMemory, Text, Value};
+use snapshot_check_rows::{count_tables, entity_at, table_unique};
 use std::alloc::Global;
 
 /// A convergence name of a service as it is put in order.
@@ -215,7 +214,7 @@ const NOTHING: ValueKey<'static> = ValueKey {
 
 /// The value, or nothing, as it is put in order.
 fn value_key<'a>(value: Option<&'a Value>) -> ValueKey<'a>
-    ensures { value_view result ≡ view_of (option_copied value) }
+    ensures { value_view result ≡ view_of (option_copied value.entry) }
 {
     let Some(value) = value else {
         return NOTHING;

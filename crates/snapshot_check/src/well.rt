@@ -7,21 +7,17 @@ ghost use Rattle.router_state.specs.WellRows.{is_next_number};
 ghost use Rattle.snapshot_check.specs.Divided.{are_closed, are_different, are_fit, are_in_order, fit_activities, fit_counts, fit_entities, fit_others, fit_queues, InOrder};
 ghost use Rattle.snapshot_rows.specs.Rows.{state_of};
 
-use crate::activities::{
-    are_activity_rows, are_attribute_rows, are_link_rows, are_mask_rows, are_name_rows,
-    have_table_activities,
-};
 use crate::closed::{are_nulls_in_use, are_roots_held, are_stopping_with_trees};
 use crate::differing::{are_unique, have_own_names, have_own_numbers, have_own_roots};
-use crate::entities::{are_field_rows, are_named, are_placed, are_root_names, have_their_fields};
 use crate::ordered::rise;
-use crate::queues::{
-    LAST_MOMENT, are_entity_marks, are_event_rows, are_profile_rows, are_service_marks,
-    are_suspension_rows, are_timer_rows, end_right,
-};
-use crate::services::are_services;
 use slee_descriptor::Deployment;
 use slee_value::NoMemory;
+use snapshot_check_rows::{
+    LAST_MOMENT, are_activity_rows, are_attribute_rows, are_entity_marks, are_event_rows,
+    are_field_rows, are_link_rows, are_mask_rows, are_name_rows, are_named, are_placed,
+    are_profile_rows, are_root_names, are_service_marks, are_services, are_suspension_rows,
+    are_timer_rows, end_right, have_table_activities, have_their_fields,
+};
 use snapshot_rows::Rows;
 use std::alloc::Global;
 
@@ -168,7 +164,8 @@ fn are_different(alloc: Global, deployment: &Deployment, rows: &Rows) -> Result<
     if !have_own_numbers(alloc, rows.events.as_slice())? {
         return Ok(false);
     }
-    are_unique(alloc, deployment, rows.rows.as_slice())
+    let unique = are_unique(alloc, deployment, rows.rows.as_slice())?;
+    Ok(unique)
 }
 
 /// Whether closing changes nothing.
@@ -186,18 +183,19 @@ fn are_closed(alloc: Global, _deployment: &Deployment, rows: &Rows) -> Result<bo
     if !are_stopping_with_trees(alloc, entities, rows.services.as_slice())? {
         return Ok(false);
     }
-    are_nulls_in_use(
+    let used = are_nulls_in_use(
         alloc,
         rows.activities.as_slice(),
         links,
         rows.names.as_slice(),
         rows.timers.as_slice(),
         rows.events.as_slice(),
-    )
+    )?;
+    Ok(used)
 }
 
 /// Whether these are the rows of a well-formed state of the deployment.
-#[tactic(auto, using(crate::proofs::WellLemmas::orders_are, crate::proofs::WellLemmas::counts_unfit, crate::proofs::WellLemmas::not_in_order, crate::proofs::WellLemmas::not_fit, crate::proofs::WellLemmas::not_different))]
+#[tactic(auto, using(crate::proofs::WellLemmas::orders_are, crate::proofs::WellLemmas::counts_unfit, crate::proofs::WellLemmas::not_in_order, crate::proofs::WellLemmas::not_fit, crate::proofs::WellLemmas::not_different, crate::proofs::WellLemmas::all_but_closed))]
 pub fn is_well(alloc: Global, deployment: &Deployment, rows: &Rows) -> Result<bool, NoMemory>
     ensures { IfOk result (λ well. (p : Program) → well ≡ is_well (state_of (deployed_of deployment.now.parts) p rows.now)) }
 {
@@ -213,5 +211,6 @@ pub fn is_well(alloc: Global, deployment: &Deployment, rows: &Rows) -> Result<bo
     if !are_different(alloc, deployment, rows)? {
         return Ok(false);
     }
-    are_closed(alloc, deployment, rows)
+    let closed = are_closed(alloc, deployment, rows)?;
+    Ok(closed)
 }
