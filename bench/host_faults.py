@@ -1,6 +1,7 @@
 #!/usr/bin/env python3
 """Runs the built program where the system refuses it: a folder that can't be written, a full disk, a full standard
-output, a standard input that can't be read, and standard streams that are closed. Outside the gate.
+output, a standard input that can't be read, standard streams that are closed, a journal that another program has open or that
+is too long, and calls that signals interrupt (by `strace`, where it is there). Outside the gate.
 
     python3 bench/host_faults.py                  with ./slee
     python3 bench/host_faults.py --cmd PROGRAM    with another program
@@ -13,12 +14,15 @@ allowed they are skipped. It ends with 1 where a line is wrong.
 """
 import argparse
 import contextlib
+import fcntl
 import os
 import re
 import shutil
+import signal
 import subprocess
 import sys
 import tempfile
+import time
 
 from lines import CALLS, deploy, fresh
 
@@ -26,6 +30,10 @@ CALL = b"start c1\nfire c1 invite addr=tel:5551\nend c1\n"
 MANY = b"".join(b"start c%d\n" % i for i in range(1, 20_001))
 # A step whose batch then has so many bytes is a flush.
 BATCH = 131_072
+# The most bytes of a side.
+SIDE = 268_435_456
+# Calls of the system that a signal may interrupt. The first of each is left alone, since the start-up of a process makes some.
+CALLED = ("openat", "read", "write", "pread64", "pwrite64", "fsync", "ftruncate", "flock", "statx")
 # A record of a `start` line: its gate, its length, the clock, the tag and the length of the line, which follows them.
 RECORD = 1 + 4 + 8 + 1 + 4
 WRONG = []
@@ -175,6 +183,105 @@ def closed_streams(command):
             say(what + ", shown", 0, shown_fault(shown_in_copy(command, folder), entries))
 
 
+def files_of(folder):
+    """What stands in the journal's files, those alone that are there."""
+    found = {}
+    for name in ("journal.a", "journal.b"):
+        if os.path.exists(os.path.join(folder, name)):
+            with open(os.path.join(folder, name), "rb") as f:
+                found[name] = f.read()
+    return found
+
+
+def refused_fault(command, folder, words, lines):
+    """What is wrong about a run that finds the journal locked."""
+    before = files_of(folder)
+    status, text = run(command, words, lines, folder)
+    if (status, text) != (7, "status 7 disk-fault\n"):
+        return status, f"printed {text!r}"
+    return status, None if files_of(folder) == before else "the files changed"
+
+
+def locked_journal(command):
+    """Another process has the lock: what opens the journal is refused, what doesn't isn't, and afterwards all goes on."""
+    what = "a locked journal"
+    for begun in (False, True):
+        with fresh() as folder:
+            if begun:
+                run(command, ["play", "1", "100"], b"start c1\n", folder)
+            with open(os.path.join(folder, "journal.a"), "ab") as held:
+                fcntl.flock(held, fcntl.LOCK_EX)
+                for words in (["play", "1", "100"], ["resume", "1", "100"], ["show"], ["trial", "7", "5"]):
+                    say(f"{what}, {words[0]}", *refused_fault(command, folder, words, b"start c2\n"))
+                for words in (["check"], ["gen", "7", "5"]):
+                    status, _ = run(command, words, b"", folder)
+                    say(f"{what}, {words[0]}", status, None if status == 0 else "should be 0")
+            status, _ = run(command, ["play", "1", "100"], b"start c%d\n" % (1 + begun), folder)
+            say(f"{what}, let go of", status, shown_fault(shown_in_copy(command, folder), 1 + begun))
+
+
+def two_programs(command):
+    """A second program while the first plays, and a third one at once behind its end by SIGKILL."""
+    what = "a second program"
+    with fresh() as folder:
+        with open(os.path.join(folder, "signals"), "wb") as f:
+            f.write(MANY)
+        with open(os.path.join(folder, "signals"), "rb") as given:
+            first = subprocess.Popen([command, "play", "1", "1000000"], stdin=given, stdout=subprocess.DEVNULL, cwd=folder)
+        side = os.path.join(folder, "journal.a")
+        while first.poll() is None and not (os.path.exists(side) and os.path.getsize(side) > BATCH):
+            time.sleep(0.001)
+        first.send_signal(signal.SIGSTOP)
+        if first.poll() is not None:
+            say(what, first.returncode, "the first had ended already")
+            return
+        for words in (["play", "1", "100"], ["show"]):
+            say(f"{what}, {words[0]}", *refused_fault(command, folder, words, b"start d1\n"))
+        first.kill()
+        first.wait()
+        status, text = run(command, ["show"], b"", folder)
+        say(f"{what}, killed, show", status, shown_fault((status, text), *flushed(MANY)))
+        status, _ = run(command, ["resume", "1", "1000000"], MANY, folder)
+        say(f"{what}, killed, resume", status, shown_fault(shown_in_copy(command, folder), len(MANY.splitlines())))
+
+
+def long_file(command):
+    """A file that is longer than a side may be isn't read."""
+    for name in ("journal.a", "journal.b"):
+        with fresh() as folder:
+            run(command, ["play", "1", "100"], b"start c1\n", folder)
+            path = os.path.join(folder, name)
+            os.truncate(path, 3_000_000_000)
+            words = ["bash", "-c", 'ulimit -v 200000; exec "$@"', "bash", command, "show"]
+            done = subprocess.run(words, cwd=folder, timeout=120, stdout=subprocess.PIPE, check=False)
+            wrong = done.returncode != 12 or done.stdout != b"status 12 no-memory\n" or os.path.getsize(path) != 3_000_000_000
+            say(f"3 GB of {name}", done.returncode, f"printed {done.stdout!r}" if wrong else None)
+            os.truncate(path, SIDE)
+            status, text = run(command, ["show"], b"", folder)
+            wrong = status != 0 or "inputs 1\n" not in text
+            say(f"the most bytes of {name}", status, f"printed {text!r}" if wrong else None)
+
+
+def interrupted_calls(command):
+    """Each other call of one kind is interrupted by a signal, and the run ends as it does without."""
+    if shutil.which("strace") is None:
+        print("interrupted calls: skipped, strace isn't here")
+        return
+    for call in CALLED:
+        with fresh() as folder:
+            text = ""
+            for lines in (b"start c1\nfire c1 invite addr=tel:5551\n", b"end c1\n"):
+                words = ["strace", "-f", "-qq", "-o", "calls", "-e", f"trace={call}", "-e", f"inject={call}:error=EINTR:when=2+2"]
+                words += [command, "play", "1", "100"]
+                done = subprocess.run(words, input=lines, cwd=folder, timeout=120, stdout=subprocess.PIPE, check=False)
+                text += done.stdout.decode()
+            with open(os.path.join(folder, "calls"), encoding="utf-8") as f:
+                times = f.read().count("(INJECTED)")
+            status, shown = run(command, ["show"], b"", folder)
+            wrong = done.returncode != 0 or entries_of(text) != 8 or (status, "inputs 3\n" in shown) != (0, True)
+            say(f"interrupted {call}, {times} times", done.returncode, f"printed {text!r}" if wrong else None)
+
+
 def main():
     here = os.path.dirname(os.path.abspath(__file__))
     parser = argparse.ArgumentParser()
@@ -184,6 +291,10 @@ def main():
     unreadable_deployment(command)
     closed_streams(command)
     full_output(command)
+    locked_journal(command)
+    two_programs(command)
+    long_file(command)
+    interrupted_calls(command)
     read_only_folder(command)
     full_disk(command)
     if WRONG:

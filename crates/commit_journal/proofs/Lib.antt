@@ -5,6 +5,7 @@ pub mod Spelt
 pub mod Sizes
 pub mod Counting
 pub mod Recovers
+pub mod Pending
 pub mod Opening
 pub mod Blanks
 pub mod Batches

@@ -10,6 +10,7 @@ pub mod Journal
 pub mod Rewriting
 pub mod Settling
 pub mod Running
+pub mod Beginning
 pub mod Renewal
 pub mod Written
 pub mod Laws

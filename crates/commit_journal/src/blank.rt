@@ -3,6 +3,7 @@ ghost use Rattle.std.specs.Prelude.{◌≡◌, ◌<◌, ◌≤◌, ◌+◌, ◌^
 ghost use Rattle.slee_disk.specs.Causes.{Rose};
 ghost use Rattle.slee_disk.specs.Sides.{on, other};
 ghost use Rattle.slee_disk.specs.Disk.{LeavesOnly, is_clean};
+ghost use Rattle.commit_journal.specs.Beginning.{MayLeave};
 ghost use Rattle.commit_journal.specs.Gate.{EndsShut, IsOpened};
 ghost use Rattle.commit_journal.specs.Blank.{IsBlankOn, BlankBeside, IsOneShut, IsBlankOrOpen, IsBlankOrSame};
 ghost use Rattle.commit_journal.specs.Rewriting.{IsRewritten};
@@ -35,6 +36,7 @@ fn shut_gate<D: Disk>(disk: &mut D, side: Side) -> Result<(), Failed>
     requires { IsTrue (D.disk disk.old).told → IsBlankOn side (D.disk disk.old).seen }
     ensures shut { IsTrue (D.disk disk.old).told → OnOk result (IsOneShut side (on (other side) (D.disk disk.old).seen) (D.disk disk.new).seen) }
     ensures any_moment { IsTrue (is_clean (D.disk disk.old)) → LeavesOnly (D.disk disk.old) (D.disk disk.new) (BlankBeside side (on (other side) (D.disk disk.old).seen)) }
+    ensures stays { MayLeave side 0 (D.disk disk.old) (D.disk disk.new) }
     ensures beside { (D.disk disk.new).settled (other side) ≡ (D.disk disk.old).settled (other side) }
     ensures told { (D.disk disk.new).told ≡ (D.disk disk.old).told }
     ensures rising { (D.disk disk.old).faults ≤ (D.disk disk.new).faults }
@@ -57,6 +59,7 @@ fn shut_blank<D: Disk>(disk: &mut D, side: Side) -> Result<(), Failed>
     requires { IsTrue (D.disk disk.old).told → IsBlankOn side (D.disk disk.old).seen }
     ensures shut { IsTrue (D.disk disk.old).told → OnOk result (IsOneShut side (on (other side) (D.disk disk.old).seen) (D.disk disk.new).seen) }
     ensures any_moment { IsTrue (is_clean (D.disk disk.old)) → LeavesOnly (D.disk disk.old) (D.disk disk.new) (BlankBeside side (on (other side) (D.disk disk.old).seen)) }
+    ensures stays { MayLeave side 0 (D.disk disk.old) (D.disk disk.new) }
     ensures settled { SettlesSide side (D.disk disk.old) (D.disk disk.new) result }
     ensures told { (D.disk disk.new).told ≡ (D.disk disk.old).told }
     ensures rising { (D.disk disk.old).faults ≤ (D.disk disk.new).faults }
@@ -72,6 +75,7 @@ pub(crate) fn write_side<D: Disk>(disk: &mut D, side: Side, bytes: &[u8]) -> Res
     requires { IsTrue (D.disk disk.old).told → IsBlankOn side (D.disk disk.old).seen }
     ensures opened { IsTrue (D.disk disk.old).told → OnOk result (IsOpened side [] bytes.now (on (other side) (D.disk disk.old).seen) (D.disk disk.new).seen) }
     ensures any_moment { IsTrue (is_clean (D.disk disk.old)) → LeavesOnly (D.disk disk.old) (D.disk disk.new) (IsBlankOrOpen side bytes.now (on (other side) (D.disk disk.old).seen)) }
+    ensures stays { MayLeave side 0 (D.disk disk.old) (D.disk disk.new) }
     ensures rest { IsTrue (D.disk disk.old).told → OnOk result (IsTrue (is_clean (D.disk disk.new))) }
     ensures told { (D.disk disk.new).told ≡ (D.disk disk.old).told }
     ensures rising { (D.disk disk.old).faults ≤ (D.disk disk.new).faults }

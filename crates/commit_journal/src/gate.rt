@@ -3,6 +3,7 @@ ghost use Rattle.std.specs.Prelude.{◌≡◌, ◌<◌, ◌≤◌, ◌+◌, ◌^
 ghost use Rattle.slee_disk.specs.Causes.{Rose};
 ghost use Rattle.slee_disk.specs.Sides.{on, other};
 ghost use Rattle.slee_disk.specs.Disk.{LeavesOnly, is_clean};
+ghost use Rattle.commit_journal.specs.Beginning.{MayLeave};
 ghost use Rattle.commit_journal.specs.Gate.{EndsShut, IsShutOrOpen, IsOpened};
 ghost use Rattle.commit_journal.specs.Settling.{SettlesSide};
 
@@ -27,6 +28,7 @@ pub(crate) fn open_gate<D: Disk>(
         (IsOpened side (take at (on side (D.disk disk.old).seen)) bytes.now (on (other side) (D.disk disk.old).seen) (D.disk disk.new).seen) }
     ensures any_moment { IsTrue (is_clean (D.disk disk.old)) → LeavesOnly (D.disk disk.old) (D.disk disk.new)
         (IsShutOrOpen side (take at (on side (D.disk disk.old).seen)) bytes.now (on (other side) (D.disk disk.old).seen)) }
+    ensures stays { MayLeave side 0 (D.disk disk.old) (D.disk disk.new) }
     ensures settled { SettlesSide side (D.disk disk.old) (D.disk disk.new) result }
     ensures told { (D.disk disk.new).told ≡ (D.disk disk.old).told }
     ensures rising { (D.disk disk.old).faults ≤ (D.disk disk.new).faults }

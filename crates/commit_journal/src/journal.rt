@@ -61,12 +61,13 @@ impl<D: Disk> Journal<D> {
     ghost use Rattle.commit_journal.specs.Spelling.{header, records_size, size, format_number};
     ghost use Rattle.commit_journal.specs.Reading.{recovered};
     ghost use Rattle.commit_journal.specs.Kept.{StandsOrMore, StandsOrBegun, side_renewed, generation_renewed, renewed, StandsOrRenewed};
+    ghost use Rattle.commit_journal.specs.Beginning.{MayLeave, size_left};
     ghost use Rattle.commit_journal.specs.Running.{Runs};
     ghost use Rattle.commit_journal.specs.Views.{IsCause};
     ghost use Rattle.commit_journal.specs.Journal.{payloads_on, IsOpen, IsOpenOver, StaysClean, IsCounted, HasRoomFor, IsFullFor, IsRefused, with_payload, IsSameSide, size_begun, IsLeft, IsBegun, IsRefusedBegin, IsFlushed, IsSettled, GoesOn, IsRenewed, LeavesInRenewal, IsRefusedRenewal};
 
     /// Reads the two sides of a disk, of either format, and writes nothing. `limit` is the most bytes that a side may come
-    /// to have; a longer side is read all the same.
+    /// to have; a longer side is read all the same, but one longer than any side may be isn't: there is no memory for it.
     pub fn open(
         alloc: Global,
         disk: D,
@@ -145,14 +146,14 @@ impl<D: Disk> Journal<D> {
         requires running { self.old.stage ≢ Stopped }
         requires current { format_number self.old.kept.head.format ≡ 2 }
         ensures begun { IsTrue (D.disk self.old.disk).told → OnOk result (IsBegun D.disk self.old self.new) }
-        ensures ready { OnOk result (self.new.stage ≡ Ready) }
+        ensures ready { OnOk result ((self.new.stage ≡ Ready) × (size_begun self.old.stage self.old.kept.head ≤ self.old.limit)) }
         ensures still { IsSameSide self.old self.new }
         ensures batch { self.new.batch ≡ self.old.batch }
 
         // A crash at any moment of the call leaves what stood, or the side that is begun.
         ensures any_moment { IsTrue (is_clean (D.disk self.old.disk)) → LeavesOnly (D.disk self.old.disk) (D.disk self.new.disk)
             (StandsOrBegun self.old.stage self.old.kept) }
-        ensures fits { OnOk result (size_begun self.old.stage self.old.kept.head ≤ self.old.limit) }
+        ensures stays { IsTrue (D.disk self.old.disk).told → MayLeave self.old.kept.side (size_left self.old.stage self.old.kept) (D.disk self.old.disk) (D.disk self.new.disk) }
         ensures refused { IfErr result (λ fault. IsRefusedBegin self.old self.new fault) }
         ensures runs { Runs (D.disk self.old.disk) (D.disk self.new.disk) (IsErrOf result BeginFault.DiskFault) }
     {

@@ -1,5 +1,5 @@
 //! The sides of a disk read at the start.
-ghost use Rattle.std.specs.Prelude.{◌≡◌, ◌<◌, ◌+◌, ◌^◌, [], length, map, IsTrue, IfOk, IfErr, IsErrOf, List, ℕ};
+ghost use Rattle.std.specs.Prelude.{◌≡◌, ◌<◌, ◌≤◌, ◌+◌, ◌^◌, [], length, map, IsTrue, IfOk, IfErr, IsErrOf, List, ℕ};
 ghost use Rattle.slee_disk.specs.Sides.{on};
 ghost use Rattle.slee_disk.specs.Disk.{Looks};
 ghost use Rattle.commit_journal.specs.Spelling.{FitsText};
@@ -8,20 +8,24 @@ ghost use Rattle.commit_journal.specs.Kept.{StandsFound, AreBlank};
 ghost use Rattle.commit_journal.specs.Views.{IsCause, IsDevice, IsRecovered, kept_found, payload_of, located, IsFresh};
 
 use crate::fault::JournalFault;
-use crate::limits::{DEPLOYMENT_MARGIN, HEADER_FRAME};
+use crate::limits::{DEPLOYMENT_MARGIN, HEADER_FRAME, SIDE_LIMIT};
 use crate::record::Found;
 use crate::recovery::recover;
 use crate::{Format, Stage};
 use slee_disk::{Disk, Side};
 use std::alloc::Global;
 
-/// All the bytes of a side.
+/// All the bytes of a side. One that is longer than a side may be isn't read: there is no memory for it.
 fn read_side<D: Disk>(alloc: Global, disk: &mut D, side: Side) -> Result<Vec<u8>, JournalFault>
+    ensures within { IfOk result (λ v. length v.items ≤ SIDE_LIMIT) }
     ensures bytes { IsTrue (D.disk disk.old).told → IfOk result (λ v. v.items ≡ on side (D.disk disk.old).seen) }
     ensures looks { Looks (D.disk disk.old) (D.disk disk.new) (IsErrOf result JournalFault.DiskFault) }
     ensures cause { IfErr result (λ e. IsDevice e) }
 {
     let length = disk.len(side)?;
+    if length > SIDE_LIMIT {
+        return Err(JournalFault::NoMemory);
+    }
     let mut bytes = Vec::new(alloc);
     let Ok(()) = bytes.resize(length as usize, 0) else {
         return Err(JournalFault::NoMemory);

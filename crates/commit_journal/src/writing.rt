@@ -3,6 +3,7 @@ ghost use Rattle.std.specs.Prelude.{◌≡◌, ◌≢◌, ◌<◌, ◌≤◌, �
 ghost use Rattle.slee_disk.specs.Causes.{Rose};
 ghost use Rattle.slee_disk.specs.Sides.{on, other, AtSide};
 ghost use Rattle.slee_disk.specs.Disk.{LeavesOnly, is_clean};
+ghost use Rattle.commit_journal.specs.Beginning.{MayLeave};
 ghost use Rattle.commit_journal.specs.Gate.{EndsShut};
 ghost use Rattle.commit_journal.specs.Spelling.{records_size};
 ghost use Rattle.commit_journal.specs.Reading.{Kept};
@@ -47,6 +48,7 @@ pub(crate) fn cut_behind<D: Disk>(disk: &mut D, side: Side, at: u64) -> Result<(
     ensures cut { IsTrue (D.disk disk.old).told → OnOk result (AtSide side (λ old new. new ≡ take (at + 1) old) (D.disk disk.old).seen (D.disk disk.new).seen) }
     ensures any_moment { (kept : Kept) → kept.side ≡ side → IsTrue (is_clean (D.disk disk.old)) → StandsFound kept at (D.disk disk.old).seen
         → LeavesOnly (D.disk disk.old) (D.disk disk.new) (Keeps kept) }
+    ensures stays { MayLeave side (at + 1) (D.disk disk.old) (D.disk disk.new) }
     ensures rest { IsTrue (D.disk disk.old).told → OnOk result (IsTrue (is_clean (D.disk disk.new))) }
     ensures told { (D.disk disk.new).told ≡ (D.disk disk.old).told }
     ensures rising { (D.disk disk.old).faults ≤ (D.disk disk.new).faults }

@@ -5,6 +5,7 @@ use Rattle.std.proofs.lemmas.Bool.{and_parts, eqb-true}
 use Rattle.std.proofs.lemmas.Slice.Eq.{bytes_eq-Decides}
 use mathlib.Core.List.{IsPrefix}
 use Rattle.slee_disk.specs.declared.side.Side.{Side}
+use Rattle.slee_disk.specs.declared.side.Side.TheVariants.{A}
 use Rattle.slee_disk.specs.Causes.{Rose}
 use Rattle.slee_disk.specs.Sides.{Sides, on}
 use Rattle.slee_disk.specs.Disk.{DiskState, Looks, LeavesOnly, is_clean}
@@ -21,11 +22,13 @@ use Rattle.commit_journal.specs.declared.fault.JournalFault.{JournalFault}
 use Rattle.commit_journal.specs.declared.fault.JournalFault.TheVariants as journal_faults
 use Rattle.commit_journal.specs.declared.fault.BeginFault.{BeginFault}
 use Rattle.commit_journal.specs.declared.fault.BeginFault.TheVariants as begin_faults
+use Rattle.commit_journal.specs.Beginning.{MayLeave, size_left}
 use Rattle.commit_journal.specs.Reading.{Kept, Wrong, Bad, recovered, first_gate}
 use Rattle.commit_journal.specs.Spelling.{Head, format_number, spelled, size}
 use Rattle.commit_journal.specs.Kept.{IsWhole, Keeps, Stands, StandsOrBegun}
 use Rattle.commit_journal.specs.Journal.{View, payloads_on, IsOpenedAs, IsLeft, IsRefusedBegin, IsTooLarge, StaysClean, size_begun}
 use Rattle.commit_journal.specs.Views.{payload_of, located, kept_first, IsCause}
+use Rattle.commit_journal.proofs.Pending.{leaves_itself, leaves_look, leaves_more}
 use Rattle.commit_journal.proofs.Sizes.{length-stands}
 use Rattle.commit_journal.proofs.Sound.{payloads_on_stands}
 use Rattle.trace_history.specs.declared.choice.Choice.{Choice}
@@ -41,9 +44,9 @@ use Rattle.router_durable.specs.declared.replaying.PayloadFault.TheVariants as p
 use Rattle.router_durable.specs.declared.replaying.ReplayFault.{ReplayFault}
 use Rattle.router_durable.specs.declared.replaying.ReplayFault.TheVariants as replay_faults
 use Rattle.router_durable.specs.Choices.{after_all, AreEnabled, AreChoices, AreReadAgain, written_format}
-use Rattle.router_durable.specs.Recovery.{fits_here, wrong_by, wrong_at, after_if, Misfit, first_wrong, misfit, with_choice, choices_in, if_fits, or_format, by_snapshot, past_of, past, state_of, restart, records_of, records, side_of, counting_side}
+use Rattle.router_durable.specs.Recovery.{fits_here, wrong_by, wrong_at, after_if, Misfit, first_wrong, misfit, with_choice, choices_in, Unfit, Broken, FirstFormat, unfit_by, first_fault, if_fit, past_of, past, state_of, restart, records_of, records, side_of, counting_side}
 use Rattle.router_durable.specs.Facts.{AreRead, Origin, origin_of, told_on, base_of, records_since, RestartsIn}
-use Rattle.router_durable.specs.Opening.{first_fault, fault_of, begin_fault_of, IsOpenCause, IsReplayCause, IsSmall, IsUntouched, IsUntouchedFor, IsLeftAlone, IsRefused, Opens, StandsFor}
+use Rattle.router_durable.specs.Opening.{fault_of, begin_fault_of, IsOpenCause, IsReplayCause, IsSmall, IsUntouched, IsUntouchedFor, IsLeftAlone, IsRefused, LeavesAs, Opens, StandsFor}
 use Rattle.router_durable.specs.Replaying.{IsWrong, IsMisfit, misfit_at, refusal_of}
 use Rattle.router_durable.specs.Core.{IsSound, IsSoundWith}
 use Rattle.slee_descriptor.specs.declared.deployment.Deployment.{Deployment}
@@ -139,13 +142,8 @@ missed format records i r bytes s start lt is paid fault wrong before =
     (subst (λ (p : List ℕ). IsWrong fault (wrong_at format s p)) paid wrong)
     (sym (ap (misfit format s) (record_at records i r lt is)) ∙ before)
 
--- what is wrong with a record is told before the format
-or_some : (format : Format) (first : Option Misfit) (m : Misfit) → first ≡ Some m → or_format format first ≡ Some m
-or_some One first m is = ap (or_format One) is
-or_some Two first m is = is
-
-cause_by : (side : Side) (fault : ReplayFault) (format : Format) (first : Option Misfit) → IsMisfit fault first → IsReplayCause side (or_format format first) (refusal_of side fault)
-cause_by side (replay_faults.Misfit at kind) format first is = (refl, or_some format first (record { at = at; kind = kind }) is)
+cause_by : (side : Side) (fault : ReplayFault) (format : Format) (first : Option Misfit) → IsMisfit fault first → IsReplayCause (unfit_by side first format) (refusal_of side fault)
+cause_by side (replay_faults.Misfit at kind) format first is = ap (λ (x : Option Misfit). unfit_by side x format) is
 cause_by side replay_faults.NoMemory format first is = tt
 
 no_bytes : (bytes : List ℕ) → (length bytes == 0) ≡ true → bytes ≡ []
@@ -153,12 +151,12 @@ no_bytes [] none = refl
 no_bytes (b ∷ bs) none = absurd (omega (arith, eqb-true (length (b ∷ bs)) 0 none))
 
 -- what is wrong with records that follow on no snapshot
-first_plain : (start : State) (format : Format) (snapshot read : List ℕ) (records list : List Record) (s : State) → read ≡ snapshot → (length read == 0) ≡ true → list ≡ records → s ≡ start
-    → first_fault start format snapshot records ≡ or_format format (misfit (format_number format) s list)
-first_plain start format snapshot read records list s is_read none is_list begins =
-    ap (λ (b : List ℕ). first_fault start format b records) (sym is_read ∙ no_bytes read none)
-    ∙ ap (λ (rs : List Record). or_format format (misfit (format_number format) start rs)) (sym is_list)
-    ∙ ap (λ (t : State). or_format format (misfit (format_number format) t list)) (sym begins)
+first_plain : (start : State) (side : Side) (format : Format) (snapshot read : List ℕ) (records list : List Record) (s : State) → read ≡ snapshot → (length read == 0) ≡ true → list ≡ records → s ≡ start
+    → first_fault start side format snapshot records ≡ unfit_by side (misfit (format_number format) s list) format
+first_plain start side format snapshot read records list s is_read none is_list begins =
+    ap (λ (b : List ℕ). first_fault start side format b records) (sym is_read ∙ no_bytes read none)
+    ∙ ap (λ (rs : List Record). unfit_by side (misfit (format_number format) start rs) format) (sym is_list)
+    ∙ ap (λ (t : State). unfit_by side (misfit (format_number format) t list) format) (sym begins)
 
 format_one : (format : Format) (n : ℕ) → n ≡ format_number format → n ≢ 2 → format ≡ One
 format_one One n is other = refl
@@ -170,10 +168,11 @@ format_two Two n is two = refl
 
 -- a snapshot stands before the records
 pub snapshot_cause : (start : State) (side which : Side) (format : Format) (snapshot read : List ℕ) (records : List Record) → which ≡ side → read ≡ snapshot → (length read == 0) ≡ false
-    → IsReplayCause side (first_fault start format snapshot records) (faults.BadJournal which 0 kinds.Snapshot)
-snapshot_cause start side which format snapshot read records is_side is_read some = (is_side, by snapshot (subst (λ (b : List ℕ). (length b == 0) ≡ false) is_read some))
+    → IsReplayCause (first_fault start side format snapshot records) (faults.BadJournal which 0 kinds.Snapshot)
+snapshot_cause start side which format snapshot read records is_side is_read some =
+    by snapshot (subst (λ (b : List ℕ). (length b == 0) ≡ false) is_read some) ∙ ap (λ (x : Side). Some (Broken (Bad x 0 kinds.Snapshot))) (sym is_side)
   where
-    by : (snapshot : List ℕ) → (length snapshot == 0) ≡ false → first_fault start format snapshot records ≡ Some (record { at = 0; kind = kinds.Snapshot })
+    by : (snapshot : List ℕ) → (length snapshot == 0) ≡ false → first_fault start side format snapshot records ≡ Some (Broken (Bad side 0 kinds.Snapshot))
     by [] some = absurd (cc some)
     by (b ∷ bs) some = refl
 
@@ -185,36 +184,30 @@ state_after start t format number records list is_number is_list is =
     ∙ ap (λ (rs : List Record). after_all start (choices_in (format_number format) (map payload_of rs))) is_list
 
 -- a side of the first format, with which nothing else is wrong
-pub old_cause : (start : State) (side which : Side) (format : Format) (number : ℕ) (snapshot read : List ℕ) (records list : List Record) (s : State) → which ≡ side → number ≡ format_number format → number ≢ 2
-    → read ≡ snapshot → (length read == 0) ≡ true → list ≡ records → s ≡ start → misfit (format_number format) s list ≡ None → IsReplayCause side (first_fault start format snapshot records) (faults.BadJournal which 0 kinds.Header)
-old_cause start side which format number snapshot read records list s is_side is_number other is_read none is_list begins fits = (
-  is_side,
-  first_plain start format snapshot read records list s is_read none is_list begins ∙ ap (or_format format) fits ∙ ap (λ (f : Format). or_format f None) (format_one format number is_number other),
-)
+pub old_cause : (start : State) (side : Side) (format : Format) (number : ℕ) (snapshot read : List ℕ) (records list : List Record) (s : State) → number ≡ format_number format → number ≢ 2
+    → read ≡ snapshot → (length read == 0) ≡ true → list ≡ records → s ≡ start → misfit (format_number format) s list ≡ None → IsReplayCause (first_fault start side format snapshot records) faults.FirstFormat
+old_cause start side format number snapshot read records list s is_number other is_read none is_list begins fits =
+    first_plain start side format snapshot read records list s is_read none is_list begins ∙ ap (λ (x : Option Misfit). unfit_by side x format) fits ∙ ap (unfit_by side None) (format_one format number is_number other)
 
 -- nothing is wrong
-pub none_wrong : (start : State) (format : Format) (number : ℕ) (snapshot read : List ℕ) (records list : List Record) (s : State) → number ≡ format_number format → number ≡ 2
-    → read ≡ snapshot → (length read == 0) ≡ true → list ≡ records → s ≡ start → misfit (format_number format) s list ≡ None → first_fault start format snapshot records ≡ None
-none_wrong start format number snapshot read records list s is_number two is_read none is_list begins fits =
-    first_plain start format snapshot read records list s is_read none is_list begins ∙ ap (or_format format) fits ∙ ap (λ (f : Format). or_format f None) (format_two format number is_number two)
+pub none_wrong : (start : State) (side : Side) (format : Format) (number : ℕ) (snapshot read : List ℕ) (records list : List Record) (s : State) → number ≡ format_number format → number ≡ 2
+    → read ≡ snapshot → (length read == 0) ≡ true → list ≡ records → s ≡ start → misfit (format_number format) s list ≡ None → first_fault start side format snapshot records ≡ None
+none_wrong start side format number snapshot read records list s is_number two is_read none is_list begins fits =
+    first_plain start side format snapshot read records list s is_read none is_list begins ∙ ap (λ (x : Option Misfit). unfit_by side x format) fits ∙ ap (unfit_by side None) (format_two format number is_number two)
 
 -- why records that follow on no snapshot aren't replayed
 pub replay_cause : (start : State) (side which : Side) (format : Format) (fault : ReplayFault) (e : OpenFault) (snapshot read : List ℕ) (records list : List Record) (s : State)
     → which ≡ side → e ≡ refusal_of which fault → read ≡ snapshot → (length read == 0) ≡ true → list ≡ records → s ≡ start
-    → IsMisfit fault (misfit (format_number format) s list) → IsReplayCause side (first_fault start format snapshot records) e
+    → IsMisfit fault (misfit (format_number format) s list) → IsReplayCause (first_fault start side format snapshot records) e
 replay_cause start side which format fault e snapshot read records list s is_side is_fault is_read none is_list begins is =
-    subst (λ (x : OpenFault). IsReplayCause side (first_fault start format snapshot records) x) (sym (is_fault ∙ ap (λ (x : Side). refusal_of x fault) is_side))
-    (subst (λ (x : Option Misfit). IsReplayCause side x (refusal_of side fault)) (sym (first_plain start format snapshot read records list s is_read none is_list begins)) (cause_by side fault format (misfit (format_number format) s list) is))
+    subst (λ (x : OpenFault). IsReplayCause (first_fault start side format snapshot records) x) (sym (is_fault ∙ ap (λ (x : Side). refusal_of x fault) is_side))
+    (subst (λ (x : Option Unfit). IsReplayCause x (refusal_of side fault)) (sym (first_plain start side format snapshot read records list s is_read none is_list begins)) (cause_by side fault format (misfit (format_number format) s list) is))
 
 -- ---- what the bytes of a disk stand for, by the journal that was opened
 
 payloads_located : (n : ℕ) (ps : List (List ℕ)) → map payload_of (located n ps) ≡ ps
 payloads_located n [] = refl
 payloads_located n (p ∷ ps) = ap (λ (l : List (List ℕ)). p ∷ l) (payloads_located (n + (5 + length p)) ps)
-
-by_first : (start : State) (kept : Kept) (snapshot : List ℕ) → by_snapshot start kept snapshot ≡ if_fits kept.side (first_fault start kept.head.format snapshot (located (first_gate kept.head) kept.payloads)) (choices_in (format_number kept.head.format) kept.payloads)
-by_first start kept [] = refl
-by_first start kept (b ∷ bs) = refl
 
 module _ {D : Type 0} (start : State) (deployment : List ℕ) (sides : Sides) (v : View D) (opened : IsOpenedAs deployment (recovered deployment sides) v)
     (are : v.records ≡ located (first_gate v.kept.head) v.kept.payloads) where
@@ -224,8 +217,8 @@ module _ {D : Type 0} (start : State) (deployment : List ℕ) (sides : Sides) (v
   none_of : v.kept ≡ kept_first deployment → v.records ≡ []
   none_of first = are ∙ ap (λ (k : Kept). located (first_gate k.head) k.payloads) first
 
-  abbrev answer : Kept → List Record → Result (List Choice) Wrong
-  answer k rs = if_fits k.side (first_fault start k.head.format k.head.snapshot rs) (choices_in (format_number k.head.format) (map payload_of rs))
+  abbrev answer : Kept → List Record → Result (List Choice) Unfit
+  answer k rs = if_fit (first_fault start k.side k.head.format k.head.snapshot rs) (choices_in (format_number k.head.format) (map payload_of rs))
 
   past_blank : v.kept ≡ kept_first deployment → answer v.kept v.records ≡ Ok []
   past_blank first =
@@ -234,11 +227,10 @@ module _ {D : Type 0} (start : State) (deployment : List ℕ) (sides : Sides) (v
       let three : answer (kept_first deployment) [] ≡ Ok [] = refl in
       one ∙ two ∙ three
 
-  past_found : by_snapshot start v.kept v.kept.head.snapshot ≡ answer v.kept v.records
+  past_found : past_of start (Ok (Some v.kept)) ≡ answer v.kept v.records
   past_found =
-      by_first start v.kept v.kept.head.snapshot
-      ∙ ap (λ (rs : List Record). if_fits v.kept.side (first_fault start v.kept.head.format v.kept.head.snapshot rs) (choices_in (format_number v.kept.head.format) v.kept.payloads)) (sym are)
-      ∙ ap (λ (ps : List (List ℕ)). if_fits v.kept.side (first_fault start v.kept.head.format v.kept.head.snapshot v.records) (choices_in (format_number v.kept.head.format) ps)) (sym payloads_are)
+      ap (λ (rs : List Record). if_fit (first_fault start v.kept.side v.kept.head.format v.kept.head.snapshot rs) (choices_in (format_number v.kept.head.format) v.kept.payloads)) (sym are)
+      ∙ ap (λ (ps : List (List ℕ)). if_fit (first_fault start v.kept.side v.kept.head.format v.kept.head.snapshot v.records) (choices_in (format_number v.kept.head.format) ps)) (sym payloads_are)
 
   pub past_by : past start deployment sides ≡ answer v.kept v.records
   past_by = ⊎_elim
@@ -255,12 +247,12 @@ module _ {D : Type 0} (start : State) (deployment : List ℕ) (sides : Sides) (v
   pub state_by : v.kept.head.snapshot ≡ [] → v.kept.head.format ≡ Two → misfit written_format start v.records ≡ None → restart start deployment sides ≡ Ok (after_all start (choices_in written_format (map payload_of v.records)))
   state_by plain format fits =
       ap (state_of start) past_by
-      ∙ ap (λ (snapshot : List ℕ). state_of start (if_fits v.kept.side (first_fault start v.kept.head.format snapshot v.records) (choices_in (format_number v.kept.head.format) (map payload_of v.records)))) plain
-      ∙ ap (λ (f : Format). state_of start (if_fits v.kept.side (or_format f (misfit (format_number f) start v.records)) (choices_in (format_number f) (map payload_of v.records)))) format
-      ∙ ap (λ (x : Option Misfit). state_of start (if_fits v.kept.side x (choices_in written_format (map payload_of v.records)))) fits
+      ∙ ap (λ (snapshot : List ℕ). state_of start (if_fit (first_fault start v.kept.side v.kept.head.format snapshot v.records) (choices_in (format_number v.kept.head.format) (map payload_of v.records)))) plain
+      ∙ ap (λ (f : Format). state_of start (if_fit (unfit_by v.kept.side (misfit (format_number f) start v.records) f) (choices_in (format_number f) (map payload_of v.records)))) format
+      ∙ ap (λ (x : Option Misfit). state_of start (if_fit (unfit_by v.kept.side x Two) (choices_in written_format (map payload_of v.records)))) fits
 
-  pub fault_by : (at : ℕ) (kind : JournalBad) → first_fault start v.kept.head.format v.kept.head.snapshot v.records ≡ Some (record { at = at; kind = kind }) → past start deployment sides ≡ Err (Bad v.kept.side at kind)
-  fault_by at kind is = past_by ∙ ap (λ (x : Option Misfit). if_fits v.kept.side x (choices_in (format_number v.kept.head.format) (map payload_of v.records))) is
+  pub fault_by : (unfit : Unfit) → first_fault start v.kept.side v.kept.head.format v.kept.head.snapshot v.records ≡ Some unfit → past start deployment sides ≡ Err unfit
+  fault_by unfit is = past_by ∙ ap (λ (x : Option Unfit). if_fit x (choices_in (format_number v.kept.head.format) (map payload_of v.records))) is
 
 -- ---- a crash in the opening
 
@@ -363,7 +355,7 @@ module _ {D : Type 0} (disk_of : D → DiskState) (old : DiskState) (start : Sta
         })
 
     -- what is begun has a restart
-    pub no_fault : IsTrue old.told → (w : Wrong) → restart start deployment old.seen ≡ Err w → ⊥
+    pub no_fault : IsTrue old.told → (w : Unfit) → restart start deployment old.seen ≡ Err w → ⊥
     no_fault told w is =
         let never : Ok (after_all start (choices_in written_format (map payload_of j.records))) ≡ Err w = sym (state_by start deployment old.seen j (o.opened told) (o.records told) plain format fits) ∙ is in
         cc never
@@ -420,17 +412,31 @@ looks_alone old new failed looks = record {
   moments = leaves_call old new old.images failed (λ image now. now) looks.passes looks.images;
 }
 
+-- nothing else may be left than before
+pub leaves_same : (read : Result (Option Kept) Wrong) (old new : DiskState) → ((image : Sides) → new.images image → old.images image) → LeavesAs read old new
+leaves_same (Err wrong) old new same = same
+leaves_same (Ok None) old new same = leaves_itself A 0 old new same
+leaves_same (Ok (Some kept)) old new same = leaves_itself kept.side (size kept.head kept.payloads) old new same
+
+-- it was read, and its beginning failed
+leaves_begun : {D : Type 0} (deployment : List ℕ) (read : Result (Option Kept) Wrong) (v : View D) (old new : DiskState) → IsOpenedAs deployment read v → MayLeave v.kept.side (size_left v.stage v.kept) old new → LeavesAs read old new
+leaves_begun {D} deployment read v old new opened leaves = ⊎_elim
+    (λ x. subst (λ (r : Result (Option Kept) Wrong). LeavesAs r old new) (sym x.1) (subst (λ (s : Stage). MayLeave v.kept.side (size_left s v.kept) old new) x.0 leaves))
+    (λ x. subst (λ (r : Result (Option Kept) Wrong). LeavesAs r old new) (sym x.1)
+    (subst (λ (k : Kept). MayLeave k.side 0 old new) x.2 (subst (λ (s : Stage). MayLeave v.kept.side (size_left s v.kept) old new) x.0 leaves)))
+    opened
+
 -- ---- what the fields of the core are then
 
-no_fault_or : (format : Format) (first : Option Misfit) → or_format format first ≡ None → (first ≡ None) × (format ≡ Two)
-no_fault_or One None none = absurd (cc)
-no_fault_or One (Some m) none = absurd (cc)
-no_fault_or Two found none = (none, refl)
+fit_by : (side : Side) (first : Option Misfit) (format : Format) → unfit_by side first format ≡ None → (first ≡ None) × (format ≡ Two)
+fit_by side (Some m) format none = absurd (cc)
+fit_by side None One none = absurd (cc)
+fit_by side None Two none = (refl, refl)
 
-pub plain_of : (start : State) (format : Format) (snapshot : List ℕ) (rs : List Record) → first_fault start format snapshot rs ≡ None → (snapshot ≡ []) × (misfit written_format start rs ≡ None) × (format ≡ Two)
-plain_of start One [] rs none = let both = no_fault_or One (misfit (format_number One) start rs) none in absurd (cc both.1)
-plain_of start Two [] rs none = (refl, none, refl)
-plain_of start format (b ∷ bs) rs none = absurd (cc)
+pub plain_of : (start : State) (side : Side) (format : Format) (snapshot : List ℕ) (rs : List Record) → first_fault start side format snapshot rs ≡ None → (snapshot ≡ []) × (misfit written_format start rs ≡ None) × (format ≡ Two)
+plain_of start side One [] rs none = let both = fit_by side (misfit (format_number One) start rs) One none in absurd (cc both.1)
+plain_of start side Two [] rs none = let both = fit_by side (misfit (format_number Two) start rs) Two none in (refl, both.0, refl)
+plain_of start side format (b ∷ bs) rs none = absurd (cc)
 
 pub same_origin : {D : Type 0} (disk_of : D → DiskState) (start : State) (deployment : List ℕ) (rs : List Record) (x y : D) (k l : View D) → k ≡ l → l.records ≡ rs → x ≡ y
     → origin_of start deployment k.records (disk_of x) (told_on k.kept.side (disk_of k.disk)) ≡ origin_of start deployment rs (disk_of y) (told_on l.kept.side (disk_of l.disk))
@@ -458,12 +464,13 @@ small_of_journal limit deployment (journal_faults.BadJournal side at kind) = tt
 small_of_journal limit deployment (journal_faults.OtherDeployment kept_len place) = tt
 small_of_journal limit deployment journal_faults.NoMemory = tt
 
-pub small_of_replay : (limit : ℕ) (deployment : List ℕ) (side : Side) (first : Option Misfit) (fault : OpenFault) → IsReplayCause side first fault → IsSmall limit deployment fault
-small_of_replay limit deployment side found faults.DiskFault cause = tt
-small_of_replay limit deployment side found (faults.BadJournal which at kind) cause = tt
-small_of_replay limit deployment side found (faults.OtherDeployment kept_len place) cause = tt
-small_of_replay limit deployment side found (faults.Full size adding) cause = absurd cause
-small_of_replay limit deployment side found faults.NoMemory cause = tt
+pub small_of_replay : (limit : ℕ) (deployment : List ℕ) (first : Option Unfit) (fault : OpenFault) → IsReplayCause first fault → IsSmall limit deployment fault
+small_of_replay limit deployment first faults.DiskFault cause = tt
+small_of_replay limit deployment first (faults.BadJournal side at kind) cause = tt
+small_of_replay limit deployment first (faults.OtherDeployment kept_len place) cause = tt
+small_of_replay limit deployment first faults.FirstFormat cause = tt
+small_of_replay limit deployment first (faults.Full size adding) cause = absurd cause
+small_of_replay limit deployment first faults.NoMemory cause = tt
 
 begun_small : (limit : ℕ) (deployment : List ℕ) (stage : Stage) (head : Head) → head.deployment ≡ deployment → head.snapshot ≡ [] → limit < size_begun stage head → limit < 24 + length deployment
 begun_small limit deployment stages.Blank head named plain above = omega (arith, above, ap length named, ap length plain)
@@ -501,6 +508,7 @@ left_for : (fault : OpenFault) (old new : DiskState) → IsUntouched old new →
 left_for faults.DiskFault old new same = tt
 left_for (faults.BadJournal side at kind) old new same = same
 left_for (faults.OtherDeployment kept_len place) old new same = same
+left_for faults.FirstFormat old new same = same
 left_for (faults.Full size adding) old new same = same
 left_for faults.NoMemory old new same = same
 
@@ -513,6 +521,7 @@ refused_by_journal old new start deployment limit fault cause looks stays = reco
   failed = λ is. looks.passes.cause (disk_of_journal fault is);
   untouched = left_for (fault_of fault) old new (looks_untouched old new (fault ≡ journal_faults.DiskFault) looks);
   any_moment = λ clean s is. restart_left start old new deployment s (stays clean).leaves is;
+  stays = λ told. leaves_same (recovered deployment old.seen) old new looks.images;
   left_alone = λ told wrong is. looks_alone old new (fault ≡ journal_faults.DiskFault) looks;
 }
 
@@ -525,31 +534,33 @@ refused_looking old new start deployment limit fault cause small other looks sta
   failed = λ is. absurd (other is);
   untouched = left_for fault old new (looks_untouched old new ⊥ looks);
   any_moment = λ clean s is. restart_left start old new deployment s (stays clean).leaves is;
+  stays = λ told. leaves_same (recovered deployment old.seen) old new looks.images;
   left_alone = λ told wrong is. looks_alone old new ⊥ looks;
 }
 
-not_by_replay : (side : Side) (first : Option Misfit) (fault : OpenFault) → IsReplayCause side first fault → IsNotDisk fault
-not_by_replay side first faults.DiskFault cause is = cause
-not_by_replay side first (faults.BadJournal which at kind) cause is = cc is
-not_by_replay side first (faults.OtherDeployment kept_len place) cause is = absurd cause
-not_by_replay side first (faults.Full size adding) cause is = absurd cause
-not_by_replay side first faults.NoMemory cause is = cc is
+not_by_replay : (first : Option Unfit) (fault : OpenFault) → IsReplayCause first fault → IsNotDisk fault
+not_by_replay first faults.DiskFault cause is = cause
+not_by_replay first (faults.BadJournal side at kind) cause is = cc is
+not_by_replay first (faults.OtherDeployment kept_len place) cause is = absurd cause
+not_by_replay first faults.FirstFormat cause is = cc is
+not_by_replay first (faults.Full size adding) cause is = absurd cause
+not_by_replay first faults.NoMemory cause is = cc is
 
--- a record isn't replayed
+-- what was found isn't replayed
 pub refused_by_replay : {D : Type 0} (old new : DiskState) (start : State) (deployment : List ℕ) (limit : ℕ) (v : View D) (fault : OpenFault)
     → (IsTrue old.told → IsOpenedAs deployment (recovered deployment old.seen) v) → (IsTrue old.told → v.records ≡ located (first_gate v.kept.head) v.kept.payloads)
-    → IsReplayCause v.kept.side (first_fault start v.kept.head.format v.kept.head.snapshot v.records) fault → Looks old new ⊥ → (IsTrue (is_clean old) → StaysClean old new) → IsRefused old new start deployment limit fault
+    → IsReplayCause (first_fault start v.kept.side v.kept.head.format v.kept.head.snapshot v.records) fault → Looks old new ⊥ → (IsTrue (is_clean old) → StaysClean old new) → IsRefused old new start deployment limit fault
 refused_by_replay {D} old new start deployment limit v fault opened are cause looks stays =
     refused_looking old new start deployment limit fault (λ told. by fault (opened told) (are told) cause)
-    (small_of_replay limit deployment v.kept.side (first_fault start v.kept.head.format v.kept.head.snapshot v.records) fault cause)
-    (not_by_replay v.kept.side (first_fault start v.kept.head.format v.kept.head.snapshot v.records) fault cause) looks stays
+    (small_of_replay limit deployment (first_fault start v.kept.side v.kept.head.format v.kept.head.snapshot v.records) fault cause)
+    (not_by_replay (first_fault start v.kept.side v.kept.head.format v.kept.head.snapshot v.records) fault cause) looks stays
   where
     by : (fault : OpenFault) → IsOpenedAs deployment (recovered deployment old.seen) v → v.records ≡ located (first_gate v.kept.head) v.kept.payloads
-        → IsReplayCause v.kept.side (first_fault start v.kept.head.format v.kept.head.snapshot v.records) fault → IsOpenCause start limit deployment old.seen fault
+        → IsReplayCause (first_fault start v.kept.side v.kept.head.format v.kept.head.snapshot v.records) fault → IsOpenCause start limit deployment old.seen fault
     by faults.DiskFault opened are cause = absurd cause
-    by (faults.BadJournal which at kind) opened are cause =
-        fault_by start deployment old.seen v opened are at kind cause.1 ∙ ap (λ (s : Side). Err (Bad s at kind)) (sym cause.0)
+    by (faults.BadJournal side at kind) opened are cause = fault_by start deployment old.seen v opened are (Broken (Bad side at kind)) cause
     by (faults.OtherDeployment kept_len place) opened are cause = absurd cause
+    by faults.FirstFormat opened are cause = fault_by start deployment old.seen v opened are FirstFormat cause
     by (faults.Full size adding) opened are cause = absurd cause
     by faults.NoMemory opened are cause = tt
 
@@ -586,7 +597,8 @@ blank_size stages.Stopped head deployment blank named plain = absurd (cc blank)
 module _ {D : Type 0} (disk_of : D → DiskState) (old : DiskState) (start : State) (deployment : List ℕ) (j : View D) (o : Opened disk_of old deployment j)
     (plain : j.kept.head.snapshot ≡ []) (fits : misfit written_format start j.records ≡ None) (format : j.kept.head.format ≡ Two) (j2 : View D) (begins : Begins disk_of j j2) where
   -- the journal isn't begun
-  module _ (limit : ℕ) (limited : j.limit ≡ limit) (fault : BeginFault) (refused : IsRefusedBegin j j2 fault) (rose : fault ≡ begin_faults.DiskFault → Rose (disk_of j.disk).faults (disk_of j2.disk).faults) where
+  module _ (limit : ℕ) (limited : j.limit ≡ limit) (fault : BeginFault) (refused : IsRefusedBegin j j2 fault) (rose : fault ≡ begin_faults.DiskFault → Rose (disk_of j.disk).faults (disk_of j2.disk).faults)
+      (leaves : IsTrue (disk_of j.disk).told → MayLeave j.kept.side (size_left j.stage j.kept) (disk_of j.disk) (disk_of j2.disk)) where
     begin_cause : (fault : BeginFault) → IsTooLarge (size_begun j.stage j.kept.head) j.limit fault → IsTrue old.told → IsOpenCause start limit deployment old.seen (begin_fault_of fault)
     begin_cause begin_faults.DiskFault large told = tt
     begin_cause (begin_faults.Full size adding) large told =
@@ -607,6 +619,8 @@ module _ {D : Type 0} (disk_of : D → DiskState) (old : DiskState) (start : Sta
       failed = λ is. let up = rose (disk_of_begin fault is) in omega (arith, up, o.looks.passes.faults);
       untouched = begin_untouched fault refused.left;
       any_moment = λ clean s is. state_leaves disk_of old start deployment j o plain fits format j2 begins clean s is;
+      stays = λ told. leaves_begun deployment (recovered deployment old.seen) j old (disk_of j2.disk) (o.opened told)
+          (leaves_more j.kept.side (size_left j.stage j.kept) old (disk_of j.disk) (disk_of j2.disk) (leaves_look j.kept.side (size_left j.stage j.kept) old (disk_of j.disk) ⊥ o.looks) (leaves (subst IsTrue (sym o.looks.passes.told) told)));
       left_alone = λ told wrong is. absurd (no_fault disk_of old start deployment j o plain fits format told wrong is);
     }
 

@@ -21,7 +21,7 @@ use Rattle.router_steps.specs.Histories.{is_choice, replay, Legal}
 use Rattle.router_steps.specs.Payloads.{payload, payloads, choice_in}
 use Rattle.router_steps.specs.Steps.{after, is_enabled}
 use Rattle.router_durable.specs.Choices.{after_all, AreEnabled, AreChoices, AreReadAgain, written_format}
-use Rattle.router_durable.specs.Recovery.{kept_part, wrong_by, wrong_at, after_if, first_wrong, misfit, with_choice, choices_in, if_fits, or_format, by_snapshot, past_of, past, state_of, records_of}
+use Rattle.router_durable.specs.Recovery.{kept_part, wrong_by, wrong_at, after_if, first_wrong, misfit, with_choice, choices_in, unfit_by, first_fault, if_fit, past_of, past, state_of, records_of}
 use Rattle.router_durable.specs.Facts.{AreRead, Origin, base_of, records_since, RestartsIn}
 use Rattle.router_durable.proofs.HistoryLemmas.{after_all-append, payloads-append, enabled-append, again-append, valid-append, legal_enabled, legal_choices, replay-choices}
 
@@ -49,10 +49,10 @@ pub past_again : (start : State) (deployment : List ℕ) (sides : Sides) (kept :
     → kept.payloads ≡ payloads written_format start cs → AreReadAgain start cs → AreChoices cs → AreEnabled start cs → past start deployment sides ≡ Ok cs
 past_again start deployment sides kept cs is plain format spelled again valid enabled =
     ap (past_of start) is
-    ∙ ap (by_snapshot start kept) plain
-    ∙ ap (λ (f : Format). if_fits kept.side (or_format f (misfit (format_number f) start (located (first_gate kept.head) kept.payloads))) (choices_in (format_number f) kept.payloads)) format
-    ∙ ap (λ (ps : List (List ℕ)). if_fits kept.side (misfit written_format start (located (first_gate kept.head) ps)) (choices_in written_format ps)) spelled
-    ∙ ap (λ x. if_fits kept.side x (choices_in written_format (payloads written_format start cs))) (no_misfit start cs (first_gate kept.head) again valid enabled)
+    ∙ ap (λ (snapshot : List ℕ). if_fit (first_fault start kept.side kept.head.format snapshot (located (first_gate kept.head) kept.payloads)) (choices_in (format_number kept.head.format) kept.payloads)) plain
+    ∙ ap (λ (f : Format). if_fit (unfit_by kept.side (misfit (format_number f) start (located (first_gate kept.head) kept.payloads)) f) (choices_in (format_number f) kept.payloads)) format
+    ∙ ap (λ (ps : List (List ℕ)). if_fit (unfit_by kept.side (misfit written_format start (located (first_gate kept.head) ps)) Two) (choices_in written_format ps)) spelled
+    ∙ ap (λ x. if_fit (unfit_by kept.side x Two) (choices_in written_format (payloads written_format start cs))) (no_misfit start cs (first_gate kept.head) again valid enabled)
     ∙ ap (λ (l : List Choice). Ok l) (choices_again start cs again)
 
 -- sides that keep the records found and those of some entries

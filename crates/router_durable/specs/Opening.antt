@@ -1,25 +1,24 @@
 -- Why a router over a journal isn't opened.
-use Rattle.std.specs.Prelude.{◌≡◌, ℕ, ◌+◌, ◌≤◌, ◌<◌, List, [], ◌∷◌, length, IsTrue, Option, Some, None, Ok, Err}
+use Rattle.std.specs.Prelude.{◌≡◌, ℕ, ◌+◌, ◌≤◌, ◌<◌, List, [], ◌∷◌, length, IsTrue, Option, Some, None, Result, Ok, Err}
 use Rattle.slee_disk.specs.declared.side.Side.{Side}
+use Rattle.slee_disk.specs.declared.side.Side.TheVariants.{A}
 use Rattle.slee_disk.specs.Sides.{Sides}
 use Rattle.slee_disk.specs.Causes.{Rose}
 use Rattle.slee_disk.specs.Disk.{DiskState, LeavesOnly, is_clean}
-use Rattle.commit_journal.specs.declared.format.Format.{Format}
-use Rattle.commit_journal.specs.declared.record.Record.{Record}
 use Rattle.commit_journal.specs.declared.limits.TheConstants.{SIDE_FRAME}
-use Rattle.commit_journal.specs.declared.fault.JournalBad.TheVariants as kinds
 use Rattle.commit_journal.specs.declared.fault.JournalFault.{JournalFault}
 use Rattle.commit_journal.specs.declared.fault.JournalFault.TheVariants as journal_faults
 use Rattle.commit_journal.specs.declared.fault.BeginFault.{BeginFault}
 use Rattle.commit_journal.specs.declared.fault.BeginFault.TheVariants as begin_faults
-use Rattle.commit_journal.specs.Reading.{Bad, Other, Wrong, recovered}
-use Rattle.commit_journal.specs.Spelling.{format_number}
+use Rattle.commit_journal.specs.Beginning.{MayLeave}
+use Rattle.commit_journal.specs.Reading.{Kept, Wrong, Bad, Other, recovered}
+use Rattle.commit_journal.specs.Spelling.{size}
 use Rattle.router_state.specs.State.{State}
 use Rattle.router_durable.specs.declared.fault.OpenFault.{OpenFault}
 use Rattle.router_durable.specs.declared.fault.OpenFault.TheVariants as faults
 use Rattle.router_durable.specs.Core.{Held, IsHeld, state_held}
 use Rattle.router_durable.specs.Facts.{origin_over}
-use Rattle.router_durable.specs.Recovery.{Misfit, misfit, or_format, past, restart, records, counting_side}
+use Rattle.router_durable.specs.Recovery.{Unfit, Broken, FirstFormat, past, restart, records, counting_side}
 
 -- a fault of the journal, as one of opening
 abbrev pub fault_of : JournalFault → OpenFault
@@ -36,8 +35,9 @@ begin_fault_of begin_faults.NoMemory = faults.NoMemory
 
 -- A fault is the one that the bytes have. Where it is for the size, nothing is kept yet, and a side with the header alone would be longer than the limit.
 abbrev pub IsOpenCause : State → ℕ → List ℕ → Sides → OpenFault → Type 0
-IsOpenCause start limit deployment sides (faults.BadJournal side at kind) = past start deployment sides ≡ Err (Bad side at kind)
-IsOpenCause start limit deployment sides (faults.OtherDeployment kept_len place) = past start deployment sides ≡ Err (Other kept_len place)
+IsOpenCause start limit deployment sides (faults.BadJournal side at kind) = past start deployment sides ≡ Err (Broken (Bad side at kind))
+IsOpenCause start limit deployment sides (faults.OtherDeployment kept_len place) = past start deployment sides ≡ Err (Broken (Other kept_len place))
+IsOpenCause start limit deployment sides faults.FirstFormat = past start deployment sides ≡ Err FirstFormat
 IsOpenCause start limit deployment sides (faults.Full size adding) = (recovered deployment sides ≡ Ok None) × (size ≡ 0) × (adding ≡ SIDE_FRAME + length deployment) × (limit < adding)
 IsOpenCause start limit deployment sides faults.DiskFault = Unit {0}
 IsOpenCause start limit deployment sides faults.NoMemory = Unit {0}
@@ -46,6 +46,7 @@ IsOpenCause start limit deployment sides faults.NoMemory = Unit {0}
 abbrev pub IsSmall : ℕ → List ℕ → OpenFault → Type 0
 IsSmall limit deployment (faults.BadJournal side at kind) = Unit {0}
 IsSmall limit deployment (faults.OtherDeployment kept_len place) = Unit {0}
+IsSmall limit deployment faults.FirstFormat = Unit {0}
 IsSmall limit deployment (faults.Full size adding) = limit < SIDE_FRAME + length deployment
 IsSmall limit deployment faults.DiskFault = Unit {0}
 IsSmall limit deployment faults.NoMemory = Unit {0}
@@ -71,22 +72,26 @@ pub record IsLeftAlone (old new : DiskState) : Type 0 where
 abbrev pub IsUntouchedFor : OpenFault → DiskState → DiskState → Type 0
 IsUntouchedFor (faults.BadJournal side at kind) old new = IsUntouched old new
 IsUntouchedFor (faults.OtherDeployment kept_len place) old new = IsUntouched old new
+IsUntouchedFor faults.FirstFormat old new = IsUntouched old new
 IsUntouchedFor (faults.Full size adding) old new = IsUntouched old new
 IsUntouchedFor faults.NoMemory old new = IsUntouched old new
 IsUntouchedFor faults.DiskFault old new = Unit {0}
 
--- what is wrong with what was found: a snapshot, or the first record that doesn't fit, or the first format
-abbrev pub first_fault : State → Format → List ℕ → List Record → Option Misfit
-first_fault start format [] records = or_format format (misfit (format_number format) start records)
-first_fault start format (b ∷ bs) records = Some (record { at = 0; kind = kinds.Snapshot })
+-- Whatever was pending, a stop may leave what it might have left before: of the side that counts, by what reads gave, only as far as its
+-- last gate, and of side A nothing where both are blank.
+abbrev pub LeavesAs : Result (Option Kept) Wrong → DiskState → DiskState → Type 0
+LeavesAs (Err wrong) old new = (image : Sides) → new.images image → old.images image
+LeavesAs (Ok None) old new = MayLeave A 0 old new
+LeavesAs (Ok (Some kept)) old new = MayLeave kept.side (size kept.head kept.payloads) old new
 
 -- why what was found isn't replayed
-abbrev pub IsReplayCause : Side → Option Misfit → OpenFault → Type 0
-IsReplayCause side first (faults.BadJournal which at kind) = (which ≡ side) × (first ≡ Some (record { at = at; kind = kind }))
-IsReplayCause side first faults.NoMemory = Unit {0}
-IsReplayCause side first faults.DiskFault = ⊥
-IsReplayCause side first (faults.OtherDeployment kept_len place) = ⊥
-IsReplayCause side first (faults.Full size adding) = ⊥
+abbrev pub IsReplayCause : Option Unfit → OpenFault → Type 0
+IsReplayCause first (faults.BadJournal side at kind) = first ≡ Some (Broken (Bad side at kind))
+IsReplayCause first faults.FirstFormat = first ≡ Some FirstFormat
+IsReplayCause first faults.NoMemory = Unit {0}
+IsReplayCause first faults.DiskFault = ⊥
+IsReplayCause first (faults.OtherDeployment kept_len place) = ⊥
+IsReplayCause first (faults.Full size adding) = ⊥
 
 -- ---- what opening gives
 
@@ -114,5 +119,7 @@ pub record IsRefused (old new : DiskState) (start : State) (bytes : List ℕ) (l
   pub untouched : IsUntouchedFor fault old new
   -- a crash at any moment leaves the state and the records that were there
   pub any_moment : IsTrue (is_clean old) → (s : State) → restart start bytes old.seen ≡ Ok s → LeavesOnly old new (StandsFor start bytes s old.seen)
+  -- whatever was pending, all but what a beginning cuts or writes stays
+  pub stays : IsTrue old.told → LeavesAs (recovered bytes old.seen) old new
   -- bytes that stand for no state are left alone
-  pub left_alone : IsTrue old.told → (wrong : Wrong) → restart start bytes old.seen ≡ Err wrong → IsLeftAlone old new
+  pub left_alone : IsTrue old.told → (unfit : Unfit) → restart start bytes old.seen ≡ Err unfit → IsLeftAlone old new

@@ -11,8 +11,8 @@ ghost use Rattle.router_steps.specs.Payloads.{choice_in};
 ghost use Rattle.router_steps.specs.Steps.{after, is_enabled};
 ghost use Rattle.router_durable.specs.Choices.{after_all};
 ghost use Rattle.router_durable.specs.Facts.{initial_of};
-ghost use Rattle.router_durable.specs.Opening.{first_fault, IsReplayCause};
-ghost use Rattle.router_durable.specs.Recovery.{after_if, choices_in, kept_part, misfit, wrong_at, wrong_by};
+ghost use Rattle.router_durable.specs.Opening.{IsReplayCause};
+ghost use Rattle.router_durable.specs.Recovery.{after_if, choices_in, first_fault, kept_part, misfit, wrong_at, wrong_by};
 ghost use Rattle.router_durable.specs.Replaying.{IsMisfit, IsWrong, misfit_at, refusal_of};
 
 use crate::OpenFault;
@@ -235,10 +235,10 @@ fn replay<D: Disk>(
     state: &mut State,
 ) -> Result<(), OpenFault>
     requires own { IsOwn planning.deployment.now state.old.state }
-    ensures fits { OnOk result (first_fault state.old.state journal.now.kept.head.format journal.now.kept.head.snapshot journal.now.records ≡ None) }
+    ensures fits { OnOk result (first_fault state.old.state journal.now.kept.side journal.now.kept.head.format journal.now.kept.head.snapshot journal.now.records ≡ None) }
     ensures state { OnOk result (state.new.state ≡ after_all state.old.state (choices_in (format_number journal.now.kept.head.format) (map payload_of journal.now.records))) }
     ensures own { OnOk result (IsOwn planning.entry.deployment.now state.new.state) }
-    ensures bad { IfErr result (λ e. IsReplayCause journal.now.kept.side (first_fault state.old.state journal.now.kept.head.format journal.now.kept.head.snapshot journal.now.records) e) }
+    ensures bad { IfErr result (λ e. IsReplayCause (first_fault state.old.state journal.now.kept.side journal.now.kept.head.format journal.now.kept.head.snapshot journal.now.records) e) }
 {
     let side = journal.side();
     if !journal.snapshot().is_empty() {
@@ -254,11 +254,7 @@ fn replay<D: Disk>(
         Err(fault) => return Err(refusal_of(side, fault)),
     }
     if format != 2 {
-        return Err(OpenFault::BadJournal {
-            side,
-            at: 0,
-            kind: JournalBad::Header,
-        });
+        return Err(OpenFault::FirstFormat);
     }
     Ok(())
 }
@@ -269,10 +265,10 @@ pub(crate) fn replayed<D: Disk>(
     journal: &Journal<D>,
 ) -> Result<State, OpenFault>
     requires own { IsOwn planning.deployment.now (initial_of planning.deployment.now.parts planning.deployment.now.codes) }
-    ensures fits { IfOk result (λ s. first_fault (initial_of planning.entry.deployment.now.parts planning.entry.deployment.now.codes) journal.now.kept.head.format journal.now.kept.head.snapshot journal.now.records ≡ None) }
+    ensures fits { IfOk result (λ s. first_fault (initial_of planning.entry.deployment.now.parts planning.entry.deployment.now.codes) journal.now.kept.side journal.now.kept.head.format journal.now.kept.head.snapshot journal.now.records ≡ None) }
     ensures state { IfOk result (λ s. s.state ≡ after_all (initial_of planning.entry.deployment.now.parts planning.entry.deployment.now.codes) (choices_in (format_number journal.now.kept.head.format) (map payload_of journal.now.records))) }
     ensures own { IfOk result (λ s. IsOwn planning.entry.deployment.now s.state) }
-    ensures bad { IfErr result (λ e. IsReplayCause journal.now.kept.side (first_fault (initial_of planning.entry.deployment.now.parts planning.entry.deployment.now.codes) journal.now.kept.head.format journal.now.kept.head.snapshot journal.now.records) e) }
+    ensures bad { IfErr result (λ e. IsReplayCause (first_fault (initial_of planning.entry.deployment.now.parts planning.entry.deployment.now.codes) journal.now.kept.side journal.now.kept.head.format journal.now.kept.head.snapshot journal.now.records) e) }
 {
     let Ok(mut state) = State::initial(planning.alloc, planning.deployment) else {
         return Err(OpenFault::NoMemory);

@@ -55,7 +55,7 @@ use Rattle.router_laws_sound.specs.Rooms.{HasRoom}
 use Rattle.router_laws_steps.proofs.First.{well_initial}
 use Rattle.router_durable.specs.Choices.{after_all}
 use Rattle.router_durable.specs.Facts.{initial_of}
-use Rattle.router_durable.specs.Recovery.{Misfit, after_if, by_snapshot, choices_in, first_wrong, fits_here, if_fits, misfit, or_format, past, past_of, restart, state_of, with_choice, wrong_at, wrong_by}
+use Rattle.router_durable.specs.Recovery.{Misfit, Unfit, after_if, choices_in, first_fault, first_wrong, fits_here, if_fit, misfit, past, past_of, restart, state_of, unfit_by, with_choice, wrong_at, wrong_by}
 
 -- histories
 
@@ -104,20 +104,20 @@ reached start s cs legal is = record { history = entries_from start cs; legal = 
     same : after_all start cs ≡ s
     same = cc
 
-none_format : (format : Format) (o : Option Misfit) → or_format format o ≡ None → o ≡ None
-none_format One None none = refl
-none_format One (Some m) none = absurd (cc)
-none_format Two o none = none
+fit_by : (side : Side) (o : Option Misfit) (format : Format) → unfit_by side o format ≡ None → o ≡ None
+fit_by side (Some m) format none = absurd (cc)
+fit_by side None format none = refl
 
 restart_reached : (start : State) (bytes : List ℕ) (sides : Sides) (s : State) → restart start bytes sides ≡ Ok s → IsReached start s
 restart_reached start bytes sides s is = by (recovered bytes sides) is
   where
-    fitted : (side : Side) (format n : ℕ) (ps : List (List ℕ)) (header : Format) (o : Option Misfit) → or_format header (misfit format start (located n ps)) ≡ o → state_of start (if_fits side o (choices_in format ps)) ≡ Ok s → IsReached start s
-    fitted side format n ps header None none is = reached start s (choices_in format ps) (fitting_legal format n start ps (none_format header (misfit format start (located n ps)) none)) is
-    fitted side format n ps header (Some m) none is = absurd (cc)
+    fitted : (side : Side) (format n : ℕ) (ps : List (List ℕ)) (header : Format) (o : Option Unfit) → unfit_by side (misfit format start (located n ps)) header ≡ o → state_of start (if_fit o (choices_in format ps)) ≡ Ok s → IsReached start s
+    fitted side format n ps header None none is = reached start s (choices_in format ps) (fitting_legal format n start ps (fit_by side (misfit format start (located n ps)) header none)) is
+    fitted side format n ps header (Some unfit) none is = absurd (cc)
 
-    snapshot : (kept : Kept) (snapshot : List ℕ) → state_of start (by_snapshot start kept snapshot) ≡ Ok s → IsReached start s
-    snapshot kept [] is = fitted kept.side (format_number kept.head.format) (first_gate kept.head) kept.payloads kept.head.format (or_format kept.head.format (misfit (format_number kept.head.format) start (located (first_gate kept.head) kept.payloads))) refl is
+    snapshot : (kept : Kept) (snapshot : List ℕ)
+        → state_of start (if_fit (first_fault start kept.side kept.head.format snapshot (located (first_gate kept.head) kept.payloads)) (choices_in (format_number kept.head.format) kept.payloads)) ≡ Ok s → IsReached start s
+    snapshot kept [] is = fitted kept.side (format_number kept.head.format) (first_gate kept.head) kept.payloads kept.head.format (unfit_by kept.side (misfit (format_number kept.head.format) start (located (first_gate kept.head) kept.payloads)) kept.head.format) refl is
     snapshot kept (b ∷ bs) is = absurd (cc)
 
     by : (r : Result (Option Kept) Wrong) → state_of start (past_of start r) ≡ Ok s → IsReached start s

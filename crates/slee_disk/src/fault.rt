@@ -1,5 +1,6 @@
 //! The failure of what lies outside the program.
 
+use std::fs::TryLockError;
 use std::{fmt, io};
 
 /// The outside has failed. Its count of faults tells that it has.
@@ -16,6 +17,12 @@ impl std::error::Error for Failed {}
 
 impl From<io::Error> for Failed {
     fn from(_: io::Error) -> Self {
+        Failed
+    }
+}
+
+impl From<TryLockError> for Failed {
+    fn from(_: TryLockError) -> Self {
         Failed
     }
 }

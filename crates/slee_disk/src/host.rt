@@ -1,11 +1,12 @@
 //! Readers and writers of std as a source and a sink, with their faults counted.
 ghost use Rattle.std.specs.Prelude.{◌≡◌, None};
 
+use crate::again::{read_again, write_again};
 use crate::{Failed, Sink, Source};
 use std::fs::{File, Files};
 use std::io::{self, Read, Write};
 
-/// A source over a reader. It tells what the reader tells.
+/// A source over a reader. It tells what the reader tells. A read that a signal interrupts is no fault.
 #[derive(Drop)]
 pub struct HostSource<R: Read> {
     reader: R,
@@ -26,7 +27,7 @@ impl<R: Read> Source for HostSource<R> {
     ghost faults = { λ s. s.faults };
 
     fn read(&mut self, into: &mut [u8]) -> Result<usize, Failed> {
-        match self.reader.read(into) {
+        match read_again(&mut self.reader, into) {
             Ok(count) => Ok(count),
             Err(_) => {
                 self.faults = self.faults.saturating_add(1);
@@ -36,7 +37,7 @@ impl<R: Read> Source for HostSource<R> {
     }
 }
 
-/// A sink over a writer. It tells what the writer tells.
+/// A sink over a writer. It tells what the writer tells. A write that a signal interrupts is no fault.
 #[derive(Drop)]
 pub struct HostSink<W: Write> {
     writer: W,
@@ -57,7 +58,7 @@ impl<W: Write> Sink for HostSink<W> {
     ghost faults = { λ s. s.faults };
 
     fn write(&mut self, bytes: &[u8]) -> Result<usize, Failed> {
-        match self.writer.write(bytes) {
+        match write_again(&mut self.writer, bytes) {
             Ok(0) => {
                 self.faults = self.faults.saturating_add(1);
                 Ok(0)

@@ -1,5 +1,5 @@
 //! A disk over two files of a folder.
-ghost use Rattle.std.specs.Prelude.{◌≡◌, ◌≤◌, None};
+ghost use Rattle.std.specs.Prelude.{◌≡◌, ◌≤◌, None, false};
 ghost use Rattle.slee_disk.specs.Causes.{Rose};
 ghost use Rattle.slee_disk.specs.Untold.{untold};
 
@@ -9,6 +9,10 @@ use std::fs::{File, Files};
 
 /// A disk over two files of a folder. Each is opened at its first use, and made if it isn't there; before it is first
 /// written, cut or synced, its folder is synced. Nothing is told of what they hold.
+///
+/// It holds the system's lock on the file of side A from its first call until it is let go of. Where another disk holds
+/// that lock, each call fails, and neither file is read or written. A call that a signal interrupts is tried again, and is no
+/// fault.
 #[derive(Drop)]
 pub struct HostDisk<'a, F: Files<File = File>> {
     files: HostFiles<'a, F>,
@@ -22,6 +26,7 @@ impl<'a, F: Files<File = File>> HostDisk<'a, F> {
         ensures a { result.files.a.path.now ≡ a.now }
         ensures b { result.files.b.path.now ≡ b.now }
         ensures unopened { (result.files.a.file ≡ None) × (result.files.b.file ≡ None) }
+        ensures unlocked { result.files.is_locked ≡ false }
         ensures faults { result.faults ≡ 0 }
     {
         HostDisk {

@@ -1,19 +1,21 @@
 //! The two files of a disk of the host.
-ghost use Rattle.std.specs.Prelude.{◌≡◌, ◌≤◌, length, IfOk, OnOk, OnErr, None, true, false};
+ghost use Rattle.std.specs.Prelude.{◌≡◌, ◌≤◌, length, IsTrue, IfOk, OnOk, OnErr, None, true, false};
 
+use crate::again::length_of;
 use crate::piece_file::{PieceFile, read_pieces, write_pieces};
 use crate::{Failed, Side};
 use std::fs::{File, Files, OpenOptions};
 use std::io;
 use std::os::unix::fs::FileExt;
 
-/// Two files of a folder.
+/// Two files of a folder, under one lock.
 #[derive(Drop)]
 pub(crate) struct HostFiles<'a, F: Files<File = File>> {
     files: F,
     folder: &'a str,
     a: HostFile<'a>,
     b: HostFile<'a>,
+    is_locked: bool,
 }
 
 /// A file that is opened at its first use, and made if it isn't there.
@@ -38,26 +40,19 @@ impl<'a> HostFile<'a> {
         }
     }
 
-    // The file, open.
-    fn open<F: Files<File = File>>(&mut self, files: &F) -> Result<&mut File, Failed> {
+    fn open<F: Files<File = File>>(&mut self, files: &F) -> Result<(), Failed> {
         if self.file.is_none() {
             self.file = Some(open_or_make(files, self.path)?);
         }
-        match &mut self.file {
+        Ok(())
+    }
+
+    // The file, where it was opened.
+    fn file(&self) -> Result<&File, Failed> {
+        match &self.file {
             Some(file) => Ok(file),
             None => Err(Failed),
         }
-    }
-
-    // The file, open, and sure to be found after a crash.
-    fn open_to_write<F: Files<File = File>>(
-        &mut self,
-        files: &F,
-        folder: &str,
-    ) -> Result<&mut File, Failed> {
-        self.open(files)?;
-        self.sync_folder(files, folder)?;
-        self.open(files)
     }
 
     // Makes sure once that the folder has the file, also where it was found: an earlier run may have made it and stopped
@@ -88,71 +83,113 @@ impl<'a, F: Files<File = File>> HostFiles<'a, F> {
         ensures a { result.a.path.now ≡ a.now }
         ensures b { result.b.path.now ≡ b.now }
         ensures unopened { (result.a.file ≡ None) × (result.b.file ≡ None) }
+        ensures unlocked { result.is_locked ≡ false }
     {
         HostFiles {
             files,
             folder,
             a: HostFile::new(a),
             b: HostFile::new(b),
+            is_locked: false,
         }
     }
 
-    pub(crate) fn len(&mut self, side: Side) -> Result<u64, Failed> {
-        length_of(self.open(side)?)
+    pub(crate) fn len(&mut self, side: Side) -> Result<u64, Failed>
+        ensures { OnOk result (IsTrue self.new.is_locked) }
+    {
+        self.open(side)?;
+        Ok(length_of(self.file(side)?)?)
     }
 
     /// Reads until the buffer is full or the file ends.
     pub(crate) fn read(&mut self, side: Side, at: u64, into: &mut [u8]) -> Result<usize, Failed>
-        ensures { IfOk result (λ n. n ≤ length into.old) }
+        ensures count { IfOk result (λ n. n ≤ length into.old) }
+        ensures locked { OnOk result (IsTrue self.new.is_locked) }
     {
-        read_pieces(self.open(side)?, at, into)
+        self.open(side)?;
+        let mut file = self.file(side)?;
+        read_pieces(&mut file, at, into)
     }
 
-    pub(crate) fn write_at(&mut self, side: Side, at: u64, bytes: &[u8]) -> Result<(), Failed> {
-        write_pieces(self.open_to_write(side)?, at, bytes)
+    pub(crate) fn write_at(&mut self, side: Side, at: u64, bytes: &[u8]) -> Result<(), Failed>
+        ensures { OnOk result (IsTrue self.new.is_locked) }
+    {
+        self.open_to_write(side)?;
+        let mut file = self.file(side)?;
+        write_pieces(&mut file, at, bytes)
     }
 
     /// Cuts a file to a length; one that is no longer stays as it is.
-    pub(crate) fn cut(&mut self, side: Side, to: u64) -> Result<(), Failed> {
-        let file = self.open_to_write(side)?;
+    pub(crate) fn cut(&mut self, side: Side, to: u64) -> Result<(), Failed>
+        ensures { OnOk result (IsTrue self.new.is_locked) }
+    {
+        self.open_to_write(side)?;
+        let file = self.file(side)?;
         if to < length_of(file)? {
             file.set_len(to)?;
         }
         Ok(())
     }
 
-    pub(crate) fn sync(&mut self, side: Side) -> Result<(), Failed> {
-        self.open_to_write(side)?.sync_all()?;
+    pub(crate) fn sync(&mut self, side: Side) -> Result<(), Failed>
+        ensures { OnOk result (IsTrue self.new.is_locked) }
+    {
+        self.open_to_write(side)?;
+        self.file(side)?.sync_all()?;
         Ok(())
     }
 
-    fn open(&mut self, side: Side) -> Result<&mut File, Failed> {
+    // Opens a file, under the lock.
+    fn open(&mut self, side: Side) -> Result<(), Failed>
+        ensures { OnOk result (IsTrue self.new.is_locked) }
+    {
+        self.lock()?;
         match side {
             Side::A => self.a.open(&self.files),
             Side::B => self.b.open(&self.files),
         }
     }
 
-    fn open_to_write(&mut self, side: Side) -> Result<&mut File, Failed> {
+    // The same, and makes sure that it is found after a crash.
+    fn open_to_write(&mut self, side: Side) -> Result<(), Failed>
+        ensures { OnOk result (IsTrue self.new.is_locked) }
+    {
+        self.open(side)?;
         match side {
-            Side::A => self.a.open_to_write(&self.files, self.folder),
-            Side::B => self.b.open_to_write(&self.files, self.folder),
+            Side::A => self.a.sync_folder(&self.files, self.folder),
+            Side::B => self.b.sync_folder(&self.files, self.folder),
+        }
+    }
+
+    // Takes the lock once: the system's, on the file of side A. Where another holds it, this fails, and is tried again at
+    // the next call. The system gives it back where that file is closed, also where the program is killed.
+    fn lock(&mut self) -> Result<(), Failed>
+        ensures { OnOk result (IsTrue self.new.is_locked) }
+    {
+        if !self.is_locked {
+            self.a.open(&self.files)?;
+            self.a.file()?.try_lock()?;
+            self.is_locked = true;
+        }
+        Ok(())
+    }
+
+    fn file(&self, side: Side) -> Result<&File, Failed> {
+        match side {
+            Side::A => self.a.file(),
+            Side::B => self.b.file(),
         }
     }
 }
 
-fn length_of(file: &File) -> Result<u64, Failed> {
-    Ok(file.metadata()?.len())
-}
-
-impl PieceFile for File {
+impl PieceFile for &File {
     ghost content = { λ _. None };
 
-    fn read_piece(&mut self, at: u64, into: &mut [u8]) -> Result<usize, Failed> {
-        Ok(self.read_at(into, at)?)
+    fn read_piece(&mut self, at: u64, into: &mut [u8]) -> io::Result<usize> {
+        self.read_at(into, at)
     }
 
-    fn write_piece(&mut self, at: u64, bytes: &[u8]) -> Result<usize, Failed> {
-        Ok(FileExt::write_at(self, bytes, at)?)
+    fn write_piece(&mut self, at: u64, bytes: &[u8]) -> io::Result<usize> {
+        FileExt::write_at(*self, bytes, at)
     }
 }

@@ -2,6 +2,7 @@
 //! two sides.
 #![tactic(auto)]
 
+mod again;
 mod call;
 mod disk;
 mod fail_list;

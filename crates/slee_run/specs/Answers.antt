@@ -140,6 +140,7 @@ abbrev pub status_of : OpenFault → Status
 status_of faults.DiskFault = statuses.DiskFault
 status_of (faults.BadJournal side at kind) = statuses.BadJournal side at kind
 status_of (faults.OtherDeployment kept_len place) = statuses.OtherDeployment kept_len place
+status_of faults.FirstFormat = statuses.FirstFormat
 status_of (faults.Full size adding) = statuses.Full size adding
 status_of faults.NoMemory = statuses.NoMemory
 

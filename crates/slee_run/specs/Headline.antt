@@ -162,6 +162,7 @@ EndsOn base steps lines history (statuses.BadDeploy fault) = ⊥
 EndsOn base steps lines history (statuses.BadSignals line kind) = ⊥
 EndsOn base steps lines history (statuses.TooLarge what) = ⊥
 EndsOn base steps lines history statuses.NotBuilt = ⊥
+EndsOn base steps lines history statuses.FirstFormat = history ≡ []
 
 -- the bytes weren't read, or memory ran out before they were understood
 abbrev pub IsUnread : Status → Type 0

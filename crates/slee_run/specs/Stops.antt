@@ -4,17 +4,17 @@ use mathlib.Core.List.{IsPrefix}
 use Rattle.slee_disk.specs.Causes.{Rose}
 use Rattle.slee_disk.specs.Sides.{Sides}
 use Rattle.slee_disk.specs.Disk.{DiskState, is_clean}
-use Rattle.commit_journal.specs.Reading.{Wrong}
 use Rattle.commit_journal.specs.declared.limits.TheConstants.{SIDE_FRAME}
+use Rattle.commit_journal.specs.Reading.{recovered}
 use Rattle.commit_journal.specs.Spelling.{records_size}
 use Rattle.trace_history.specs.Histories.{choices_of}
 use Rattle.trace_history.specs.declared.entry.Entry.{Entry}
 use Rattle.router_state.specs.State.{State}
 use Rattle.router_steps.specs.Histories.{replay}
 use Rattle.router_steps.specs.Payloads.{payloads}
-use Rattle.router_durable.specs.Recovery.{restart, records}
+use Rattle.router_durable.specs.Recovery.{Unfit, restart, records}
 use Rattle.router_durable.specs.Choices.{written_format}
-use Rattle.router_durable.specs.Opening.{IsLeftAlone, IsUntouched}
+use Rattle.router_durable.specs.Opening.{IsLeftAlone, IsUntouched, LeavesAs}
 use Rattle.slee_run.specs.Given.{Document}
 use Rattle.slee_run.specs.Opening.{journal_limit, found, IsOpened, IsUntouchedAt, IsGood}
 use Rattle.slee_run.specs.declared.status.Status.{Status}
@@ -53,10 +53,12 @@ pub record IsKeptNow (x : Document) (base : State) (history acked : List Entry) 
       → (records x.bytes image ≡ records_behind x old base acked) ⊎ (records x.bytes image ≡ records_behind x old base history)
   pub kept : status ≢ statuses.DiskFault → IsSettled x base acked old new
 
--- No entry was made, and nothing was written unless the disk failed.
-pub record IsUnopened (history : List Entry) (old new : DiskState) (status : Status) : Type 0 where
+-- No entry was made, and nothing was written unless the disk failed. A stop may leave what it might have left before, but for what
+-- opening cuts or writes.
+pub record IsUnopened (x : Document) (history : List Entry) (old new : DiskState) (status : Status) : Type 0 where
   pub none : history ≡ []
   pub untouched : status ≢ statuses.DiskFault → IsUntouched old new
+  pub stays : LeavesAs (recovered x.bytes old.seen) old new
 
 -- On a disk that told its bytes, and on which nothing was pending:
 pub record IsSafe (x : Document) (base : State) (history acked : List Entry) (old new : DiskState) (status : Status) : Type 0 where
@@ -74,10 +76,10 @@ pub record KeepsJournal (x : Document) (base : State) (history acked : List Entr
   pub opened : IsTrue old.told → IsOpened (found x old) base history status
   pub untouched : IsUntouchedAt status old new
   -- bytes that stand for no state are left alone, whatever the status
-  pub alone : IsTrue old.told → (wrong : Wrong) → found x old ≡ Err wrong → IsLeftAlone old new
+  pub alone : IsTrue old.told → (unfit : Unfit) → found x old ≡ Err unfit → IsLeftAlone old new
   pub safe : IsTrue (is_clean old) → found x old ≡ Ok base → IsSafe x base history acked old new status
-  -- where something was pending, this is said of what is left unless opening failed; a run that comes to its end leaves nothing pending
-  pub held : IsTrue old.told → found x old ≡ Ok base → IsKeptNow x base history acked old new status ⊎ IsUnopened history old new status
+  -- whatever was pending, this is said of what is left, or opening failed; a run that comes to its end leaves nothing pending
+  pub held : IsTrue old.told → found x old ≡ Ok base → IsKeptNow x base history acked old new status ⊎ IsUnopened x history old new status
   pub settled : IsTrue old.told → found x old ≡ Ok base → IsGood status → status ≢ statuses.NoMemory → IsSettled x base acked old new
   pub sized : IsTrue old.told → found x old ≡ Ok base → IsSized x base history old status
   -- the disk's fault was counted

@@ -40,7 +40,7 @@ short_text reports.Summary history = status_line statuses.NoMemory
 -- the steps were reached
 abbrev pub IsReachedTime : Time → Type 0
 IsReachedTime Early = ⊥
-IsReachedTime (Refusing wrong) = ⊥
+IsReachedTime (Refusing unfit) = ⊥
 IsReachedTime Ending = Unit {0}
 IsReachedTime DiskFailed = Unit {0}
 IsReachedTime WantOfMemory = Unit {0}
@@ -49,7 +49,7 @@ IsReachedTime WritingFailed = ⊥
 -- the steps came to no end
 abbrev pub IsUnendedTime : Time → Type 0
 IsUnendedTime Early = Unit {0}
-IsUnendedTime (Refusing wrong) = Unit {0}
+IsUnendedTime (Refusing unfit) = Unit {0}
 IsUnendedTime Ending = ⊥
 IsUnendedTime DiskFailed = Unit {0}
 IsUnendedTime WantOfMemory = Unit {0}

@@ -137,6 +137,7 @@ pub fn write_status<K: Sink>(out: &mut K, status: &Status) -> Result<(), Failed>
             what: Given::Signals,
         } => { write_whole(out, b"status 13 too-large signals\n") }
         Status::NotBuilt => write_whole(out, b"status 14 not-built\n"),
+        Status::FirstFormat => write_whole(out, b"status 14 not-built\n"),
     }
 }
 

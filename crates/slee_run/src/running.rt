@@ -132,6 +132,7 @@ pub fn status_of(fault: OpenFault) -> Status
             kept_len,
             first_difference,
         },
+        OpenFault::FirstFormat => Status::FirstFormat,
         OpenFault::Full { length, adding } => Status::Full { length, adding },
         OpenFault::NoMemory => Status::NoMemory,
     }

@@ -57,8 +57,10 @@ pub enum Status {
     TooLarge {
         what: Given,
     },
-    /// The words ask what isn't built yet, or a line of the grammar does.
+    /// The words ask what isn't built yet.
     NotBuilt,
+    /// Nothing is wrong with the journal, and it is of the first format: to go on from it isn't built yet.
+    FirstFormat,
 }
 
 impl Status {
@@ -84,6 +86,7 @@ impl Status {
             Status::NoMemory => 12,
             Status::TooLarge { .. } => 13,
             Status::NotBuilt => 14,
+            Status::FirstFormat => 14,
         }
     }
 }

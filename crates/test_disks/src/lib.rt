@@ -2,6 +2,8 @@
 #![tactic(auto)]
 
 #[cfg(test)]
+mod hosts;
+#[cfg(test)]
 mod objects;
 #[cfg(test)]
 mod pieces;

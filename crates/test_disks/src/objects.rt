@@ -1,11 +1,10 @@
-//! Sources, sinks and disks, in memory and over the host: what they give, what a fault leaves, and what a stop leaves of a disk.
+//! Sources, sinks and disks in memory: what they give, what a fault leaves, and what a stop leaves of a disk.
 use slee_disk::{
-    Disk, Failed, HostDisk, HostSink, HostSource, LateFile, MemoryDisk, MemorySink, MemorySource,
-    ReadFault, Side, Sink, Source, read_whole, write_whole,
+    Disk, Failed, MemoryDisk, MemorySink, MemorySource, ReadFault, Side, Sink, Source, read_whole,
+    write_whole,
 };
 use slee_value::Blob;
 use std::alloc::Global;
-use std::fs;
 use std::test::Fail;
 
 fn blob(alloc: Global, bytes: &[u8]) -> Result<Blob, Fail> {
@@ -77,7 +76,7 @@ fn a_sink_takes_what_comes_before_a_fault(rt: HostRuntime) -> Result<(), Fail> {
 
 // What a call asks of a side.
 #[derive(Clone, Copy)]
-enum Step<'a> {
+pub(crate) enum Step<'a> {
     Len(Side, u64),
     Read(Side, u64, &'a [u8]),
     Write(Side, u64, &'a [u8]),
@@ -86,7 +85,7 @@ enum Step<'a> {
 }
 
 // Whether a call succeeded and gave what is wanted.
-fn taken<D: Disk>(disk: &mut D, step: Step<'_>) -> Result<bool, Failed> {
+pub(crate) fn taken<D: Disk>(disk: &mut D, step: Step<'_>) -> Result<bool, Failed> {
     let mut piece = [7u8; 4];
     match step {
         Step::Len(side, length) => Ok(disk.len(side)? == length),
@@ -173,43 +172,5 @@ fn a_stop_tears_what_no_sync_covers(rt: HostRuntime) -> Result<(), Fail> {
         assert_eq!(rt; image.side(Side::A), a);
         assert_eq!(rt; image.side(Side::B), b);
     }
-    Ok(())
-}
-
-#[test]
-fn two_files_are_a_disk(rt: HostRuntime) -> Result<(), Fail> {
-    let mut disk = HostDisk::new(rt, ".", "journal.a", "journal.b");
-    let table = [
-        Step::Len(Side::A, 0),
-        Step::Write(Side::A, 0, b"abcdef"),
-        Step::Sync(Side::A),
-        Step::Write(Side::A, 4, b"XYZ"),
-        Step::Read(Side::A, 3, b"dXYZ"),
-        Step::Cut(Side::A, 9),
-        Step::Len(Side::A, 7),
-        Step::Cut(Side::A, 5),
-        Step::Read(Side::A, 3, b"dX"),
-        Step::Sync(Side::A),
-        Step::Read(Side::B, 0, b""),
-        Step::Sync(Side::B),
-    ];
-    for step in table {
-        assert_eq!(rt; taken(&mut disk, step), Ok(true));
-    }
-    assert_eq!(rt; fs::read(&rt, "journal.a")?.as_slice(), b"abcdX".as_slice());
-    let mut missing = HostDisk::new(rt, "no", "no/journal.a", "no/journal.b");
-    assert_eq!(rt; taken(&mut missing, Step::Sync(Side::A)), Err(Failed));
-    Ok(())
-}
-
-#[test]
-fn a_file_is_opened_at_its_first_read(rt: HostRuntime) -> Result<(), Fail> {
-    let alloc = rt.alloc();
-    let mut source = HostSource::new(LateFile::new(rt, "written"));
-    assert!(rt; read_whole(alloc, &mut source, 9).is_err());
-    let mut sink = HostSink::new(fs::File::create(&rt, "written")?);
-    assert_eq!(rt; write_whole(&mut sink, b"text"), Ok(()));
-    let read = read_whole(alloc, &mut source, 9).map(|read| read.len());
-    assert_eq!(rt; read, Ok(4));
     Ok(())
 }

@@ -1,24 +1,39 @@
-//! A file that gives and takes one byte at a call is read and written whole.
+//! A file that gives and takes one byte at a call, and is interrupted, is read and written whole.
 ghost use Rattle.std.specs.Prelude.{None};
 
 use slee_disk::{Failed, PieceFile, read_pieces, write_pieces};
+use std::io::{self, ErrorKind};
 use std::test::Fail;
 
-// Bytes in memory. After so many calls each further one fails.
+// Bytes in memory. Each call is interrupted twice before it is done. After so many calls each further one fails.
 #[derive(Drop)]
 struct OneByte {
     bytes: Vec<u8>,
     calls: u64,
+    interrupts: u64,
 }
 
 impl OneByte {
-    fn call(&mut self) -> Result<(), Failed> {
+    fn new(bytes: Vec<u8>, calls: u64) -> Self {
+        OneByte {
+            bytes,
+            calls,
+            interrupts: 0,
+        }
+    }
+
+    fn call(&mut self) -> io::Result<()> {
+        if self.interrupts < 2 {
+            self.interrupts += 1;
+            return Err(ErrorKind::Interrupted.into());
+        }
+        self.interrupts = 0;
         match self.calls.checked_sub(1) {
             Some(calls) => {
                 self.calls = calls;
                 Ok(())
             }
-            None => Err(Failed),
+            None => Err(ErrorKind::Other.into()),
         }
     }
 }
@@ -26,7 +41,7 @@ impl OneByte {
 impl PieceFile for OneByte {
     ghost content = { λ _. None };
 
-    fn read_piece(&mut self, at: u64, into: &mut [u8]) -> Result<usize, Failed> {
+    fn read_piece(&mut self, at: u64, into: &mut [u8]) -> io::Result<usize> {
         self.call()?;
         if into.is_empty() {
             return Ok(0);
@@ -40,7 +55,7 @@ impl PieceFile for OneByte {
         }
     }
 
-    fn write_piece(&mut self, at: u64, bytes: &[u8]) -> Result<usize, Failed> {
+    fn write_piece(&mut self, at: u64, bytes: &[u8]) -> io::Result<usize> {
         self.call()?;
         let Some(byte) = bytes.first() else {
             return Ok(0);
@@ -48,8 +63,8 @@ impl PieceFile for OneByte {
         let at = at as usize;
         if at < self.bytes.len() {
             self.bytes[at] = *byte;
-        } else if self.bytes.push(*byte).is_err() {
-            return Err(Failed);
+        } else {
+            self.bytes.push(*byte)?;
         }
         Ok(1)
     }
@@ -57,10 +72,7 @@ impl PieceFile for OneByte {
 
 #[test]
 fn pieces_are_read_as_far_as_there_is_room(rt: HostRuntime) -> Result<(), Fail> {
-    let mut file = OneByte {
-        bytes: b"abcdef".to_vec(rt.alloc())?,
-        calls: 1000,
-    };
+    let mut file = OneByte::new(b"abcdef".to_vec(rt.alloc())?, 1000);
     let table: [(u64, usize, &[u8]); 7] = [
         (0, 6, b"abcdef"),
         (2, 3, b"cde"),
@@ -84,10 +96,7 @@ fn pieces_are_read_as_far_as_there_is_room(rt: HostRuntime) -> Result<(), Fail> 
 
 #[test]
 fn pieces_are_written_one_behind_another(rt: HostRuntime) -> Result<(), Fail> {
-    let mut file = OneByte {
-        bytes: Vec::new(rt.alloc()),
-        calls: 1000,
-    };
+    let mut file = OneByte::new(Vec::new(rt.alloc()), 1000);
     let table: [(u64, &[u8], &[u8]); 4] = [
         (0, b"abcd", b"abcd"),
         (1, b"XY", b"aXYd"),
@@ -103,10 +112,7 @@ fn pieces_are_written_one_behind_another(rt: HostRuntime) -> Result<(), Fail> {
 
 #[test]
 fn a_call_that_fails_ends_it(rt: HostRuntime) -> Result<(), Fail> {
-    let mut file = OneByte {
-        bytes: Vec::new(rt.alloc()),
-        calls: 3,
-    };
+    let mut file = OneByte::new(Vec::new(rt.alloc()), 3);
     assert_eq!(rt; write_pieces(&mut file, 0, b"abcdef"), Err(Failed));
     assert_eq!(rt; file.bytes.as_slice(), b"abc".as_slice());
     file.calls = 2;

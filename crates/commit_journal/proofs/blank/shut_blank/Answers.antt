@@ -1,6 +1,7 @@
 use Rattle.std.proofs.Common.{◌∙◌}
 use Rattle.slee_disk.proofs.Moments.{reached_look, reached_by, tells, on_ok}
 use Rattle.commit_journal.proofs.Blanks.{one_look}
+use Rattle.commit_journal.proofs.Pending.{leaves_look, leaves_more}
 use Rattle.commit_journal.proofs.blank.shut_blank.Goals as goal
 
 pub returns-clause-any_moment : goal.returns-clause-any_moment
@@ -16,3 +17,6 @@ returns-clause-settled g c = record {
   here = λ told. c.sync.ensures.settled.here (tells _ _ c.shut_gate.ensures.told told);
   there = c.sync.ensures.settled.there ∙ c.shut_gate.ensures.beside;
 }
+
+pub returns-clause-stays : goal.returns-clause-stays
+returns-clause-stays g c = leaves_more c.args.side 0 _ _ _ c.shut_gate.ensures.stays (leaves_look c.args.side 0 _ _ _ c.sync.ensures.looks)

@@ -6,6 +6,7 @@ use Rattle.commit_journal.specs.Gate.{IsOpened}
 use Rattle.commit_journal.specs.Blank.{IsBlankOn}
 use Rattle.commit_journal.proofs.Opening.{clean_again, clean_end}
 use Rattle.commit_journal.proofs.Blanks.{sure_start, sure_shut, sure_open, one_ends}
+use Rattle.commit_journal.proofs.Pending.{leaves_look, leaves_more}
 use Rattle.commit_journal.proofs.blank.write_side.Goals as goal
 
 pub shut_blank-requires : goal.shut_blank-requires
@@ -57,3 +58,16 @@ returns-clause-rest g c told =
     let beside = subst (λ (s : Side). IsTrue (sure.settled s)) c.other_of.ensures (c.in_ok-sync.ensures.settled.here told) in
     clean_end c.args.side (g.D.Disk.disk c.shut_blank.new.disk) _ c.open_gate.result c.open_gate.ensures.settled c.open_gate.ensures.told
     (tells _ _ c.shut_blank.ensures.told told-1) (subst IsTrue (sym c.shut_blank.ensures.settled.there) beside)
+
+-- ---- whatever was pending
+
+pub returns-in_err-sync-clause-stays : goal.returns-in_err-sync-clause-stays
+returns-in_err-sync-clause-stays g c = leaves_look c.args.side 0 _ _ _ c.sync.ensures.looks
+
+pub returns-in_err-shut_blank-clause-stays : goal.returns-in_err-shut_blank-clause-stays
+returns-in_err-shut_blank-clause-stays g c = leaves_more c.args.side 0 _ _ _ (leaves_look c.args.side 0 _ _ _ c.sync.ensures.looks) c.shut_blank.ensures.stays
+
+pub returns-clause-stays : goal.returns-clause-stays
+returns-clause-stays g c =
+    let shut = leaves_more c.args.side 0 _ _ _ (leaves_look c.args.side 0 _ _ _ c.sync.ensures.looks) c.shut_blank.ensures.stays in
+    leaves_more c.args.side 0 _ _ _ shut c.open_gate.ensures.stays

@@ -1,6 +1,7 @@
 use Rattle.std.proofs.Common.{◌∙◌}
 use Rattle.slee_disk.proofs.Moments.{reached_look, tells, on_ok, clean_told, clean_only}
 use Rattle.commit_journal.proofs.Opening.{seen_staged, seen_opened, gate_written, images_staged, gate_opening}
+use Rattle.commit_journal.proofs.Pending.{beside_write, leaves_look, leaves_more}
 use Rattle.commit_journal.proofs.gate.open_gate.Goals as goal
 
 pub returns-in_err-write_at-clause-any_moment : goal.returns-in_err-write_at-clause-any_moment
@@ -59,3 +60,23 @@ returns-clause-settled g c =
       here = λ told. c.sync-2.ensures.settled.here (tells _ _ until told);
       there = c.sync-2.ensures.settled.there ∙ c.write_at-2.ensures.changes.settled_there ∙ c.sync.ensures.settled.there ∙ c.write_at.ensures.changes.settled_there;
     }
+
+-- ---- whatever was pending
+
+pub returns-in_err-write_at-clause-stays : goal.returns-in_err-write_at-clause-stays
+returns-in_err-write_at-clause-stays g c = beside_write c.args.side _ _ _ _ _ c.write_at.ensures.changes
+
+pub returns-in_err-sync-clause-stays : goal.returns-in_err-sync-clause-stays
+returns-in_err-sync-clause-stays g c =
+    leaves_more c.args.side 0 _ _ _ (beside_write c.args.side _ _ _ _ _ c.write_at.ensures.changes) (leaves_look c.args.side 0 _ _ _ c.sync.ensures.looks)
+
+pub returns-in_err-write_at-2-clause-stays : goal.returns-in_err-write_at-2-clause-stays
+returns-in_err-write_at-2-clause-stays g c =
+    let wrote = leaves_more c.args.side 0 _ _ _ (beside_write c.args.side _ _ _ _ _ c.write_at.ensures.changes) (leaves_look c.args.side 0 _ _ _ c.sync.ensures.looks) in
+    leaves_more c.args.side 0 _ _ _ wrote (beside_write c.args.side _ _ _ _ _ c.write_at-2.ensures.changes)
+
+pub returns-clause-stays : goal.returns-clause-stays
+returns-clause-stays g c =
+    let wrote = leaves_more c.args.side 0 _ _ _ (beside_write c.args.side _ _ _ _ _ c.write_at.ensures.changes) (leaves_look c.args.side 0 _ _ _ c.sync.ensures.looks) in
+    let opened = leaves_more c.args.side 0 _ _ _ wrote (beside_write c.args.side _ _ _ _ _ c.write_at-2.ensures.changes) in
+    leaves_more c.args.side 0 _ _ _ opened (leaves_look c.args.side 0 _ _ _ c.sync-2.ensures.looks)

@@ -5,6 +5,7 @@ use Rattle.slee_disk.specs.Disk.{Changes}
 use Rattle.slee_disk.proofs.Moments.{reached_look, looks_leave, leaves_then, tells, on_ok, clean_only, clean_look, clean_of, settled_both}
 use Rattle.commit_journal.specs.Kept.{StandsFound, Keeps}
 use Rattle.commit_journal.proofs.Writes.{found_keeps, cut_call, cut_stands}
+use Rattle.commit_journal.proofs.Pending.{leaves_cut, leaves_look, leaves_more}
 use Rattle.commit_journal.proofs.writing.cut_behind.Goals as goal
 
 pub returns-in_err-sync-clause-any_moment : goal.returns-in_err-sync-clause-any_moment
@@ -63,3 +64,19 @@ returns-clause-rest g c told =
     let there = c.sync-2.ensures.settled.there ∙ c.cut.ensures.changes.settled_there in
     on_ok c.sync-2.result _ _ (c.sync-2.ensures.settled.here told-2) (λ here.
     clean_of new (tells _ _ c.sync-2.ensures.looks.passes.told told-2) (settled_both c.args.side new here (subst IsTrue (sym there) beside)))
+
+-- ---- whatever was pending
+
+pub returns-in_err-sync-clause-stays : goal.returns-in_err-sync-clause-stays
+returns-in_err-sync-clause-stays g c = leaves_look c.args.side (c.args.at + 1) _ _ _ c.sync.ensures.looks
+
+pub returns-in_err-cut-clause-stays : goal.returns-in_err-cut-clause-stays
+returns-in_err-cut-clause-stays g c =
+    let n = c.args.at + 1 in
+    leaves_more c.args.side n _ _ _ (leaves_look c.args.side n _ _ _ c.sync.ensures.looks) (leaves_cut c.args.side n _ _ _ c.cut.ensures.changes)
+
+pub returns-clause-stays : goal.returns-clause-stays
+returns-clause-stays g c =
+    let n = c.args.at + 1 in
+    let cut = leaves_more c.args.side n _ _ _ (leaves_look c.args.side n _ _ _ c.sync.ensures.looks) (leaves_cut c.args.side n _ _ _ c.cut.ensures.changes) in
+    leaves_more c.args.side n _ _ _ cut (leaves_look c.args.side n _ _ _ c.sync-2.ensures.looks)

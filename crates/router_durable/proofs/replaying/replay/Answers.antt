@@ -15,14 +15,14 @@ pub returns-then-format-ne2-clause-bad : goal.returns-then-format-ne2-clause-bad
 returns-then-format-ne2-clause-bad g c =
     let kept = c.args.journal.now.kept in
     let s = c.args.state.now.state in
-    old_cause s kept.side c.side-side.result kept.head.format c.format-format.result kept.head.snapshot c.snapshot.result.now c.args.journal.now.records c.records.result.now s
-    c.side-side.ensures.side c.format-format.ensures.format c.if-format-ne2.true c.snapshot.ensures (sym c.is_empty.ensures ∙ c.if-not-is_empty.false) c.records.ensures refl (subst (λ n. misfit n s c.records.result.now ≡ None) c.format-format.ensures.format c.in-Ok.ensures.fits)
+    old_cause s kept.side kept.head.format c.format-format.result kept.head.snapshot c.snapshot.result.now c.args.journal.now.records c.records.result.now s
+    c.format-format.ensures.format c.if-format-ne2.true c.snapshot.ensures (sym c.is_empty.ensures ∙ c.if-not-is_empty.false) c.records.ensures refl (subst (λ n. misfit n s c.records.result.now ≡ None) c.format-format.ensures.format c.in-Ok.ensures.fits)
 
 pub returns-clause-fits : goal.returns-clause-fits
 returns-clause-fits g c =
     let kept = c.args.journal.now.kept in
     let s = c.args.state.now.state in
-    none_wrong s kept.head.format c.format-format.result kept.head.snapshot c.snapshot.result.now c.args.journal.now.records c.records.result.now s
+    none_wrong s kept.side kept.head.format c.format-format.result kept.head.snapshot c.snapshot.result.now c.args.journal.now.records c.records.result.now s
     c.format-format.ensures.format c.if-format-ne2.false c.snapshot.ensures (sym c.is_empty.ensures ∙ c.if-not-is_empty.false) c.records.ensures refl (subst (λ n. misfit n s c.records.result.now ≡ None) c.format-format.ensures.format c.in-Ok.ensures.fits)
 
 pub returns-then-not-is_empty-clause-bad : goal.returns-then-not-is_empty-clause-bad

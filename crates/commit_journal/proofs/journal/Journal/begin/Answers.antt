@@ -9,6 +9,7 @@ use Rattle.commit_journal.proofs.Sound.{runs, sound_seen}
 use Rattle.commit_journal.proofs.Begins.{two_of, idle_leaves, found_in, same_payloads, durable_on, same_kept, cut_sound, head_fits, is_header, begun_stands, begun_image, begun_sound, blank_payloads}
 use Rattle.commit_journal.proofs.Rewrites.{spelled_here}
 use Rattle.commit_journal.proofs.Bytes.{written_on, cut_size}
+use Rattle.commit_journal.proofs.Pending.{leaves_itself, left_blank, left_found}
 use Rattle.commit_journal.proofs.journal.Journal.begin.Goals as goal
 
 -- ---- what stands behind the last gate is cut
@@ -117,3 +118,34 @@ returns-clause-any_moment g c =
     c.deref.ensures.value ∙ c.in_ok-bytes.ensures.bytes ∙ ap (λ (l : List ℕ). header (record { format = Two; generation = c.self.inside.generation; deployment = l; snapshot = [] }) ++ 0 ∷ []) c.as_slice-deployment.ensures in
     rw (← c.self.view_is) (λ clean. leaves_what _ _ _ (StandsOrBegun c.self.inside.stage kept) (c.write_side.ensures.any_moment clean) (λ image is_image.
     subst (λ (s : Stage). StandsOrBegun s kept image) (sym c.in-Blank.is) (begun_image kept _ _ _ old sound fits (omega arith) c.deref.result.now is (clean_told old clean) (blank_payloads kept _ _ _ old sound (clean_told old clean)) image is_image)))
+
+-- ---- whatever was pending
+
+pub returns-in-Ok-clause-stays : goal.returns-in-Ok-clause-stays
+returns-in-Ok-clause-stays g c =
+    let old = g.D.Disk.disk c.self.inside.disk in
+    let kept = kept_by c.self.inside.side c.self.inside.format c.self.inside.generation c.self.inside.deployment c.self.inside.snapshot old in
+    let running = runs _ _ (ap (λ v. v.stage) c.self.view_is) c.requires.running in
+    rw (← c.self.view_is) (λ told. left_found c.self.inside.stage kept c.self.inside.end old _ c.in_default.not-Blank (found_in _ _ _ _ _ _ c.self.invariant running c.in_default.not-Blank told) c.cut_behind.ensures.stays)
+
+pub returns-in-Err-clause-stays : goal.returns-in-Err-clause-stays
+returns-in-Err-clause-stays g c =
+    let old = g.D.Disk.disk c.self.inside.disk in
+    let kept = kept_by c.self.inside.side c.self.inside.format c.self.inside.generation c.self.inside.deployment c.self.inside.snapshot old in
+    let running = runs _ _ (ap (λ v. v.stage) c.self.view_is) c.requires.running in
+    rw (← c.self.view_is) (λ told. left_found c.self.inside.stage kept c.self.inside.end old _ c.in_default.not-Blank (found_in _ _ _ _ _ _ c.self.invariant running c.in_default.not-Blank told) c.cut_behind.ensures.stays)
+
+pub returns-in_err-bytes-clause-stays : goal.returns-in_err-bytes-clause-stays
+returns-in_err-bytes-clause-stays g c = rw (← c.self.view_is) (λ told. leaves_itself _ _ _ _ (λ image now. now))
+
+pub returns-in-Ok-write_side-clause-stays : goal.returns-in-Ok-write_side-clause-stays
+returns-in-Ok-write_side-clause-stays g c =
+    let old = g.D.Disk.disk c.self.inside.disk in
+    let kept = kept_by c.self.inside.side c.self.inside.format c.self.inside.generation c.self.inside.deployment c.self.inside.snapshot old in
+    rw (← c.self.view_is) (λ told. left_blank c.self.inside.stage kept old _ c.in-Blank.is c.write_side.ensures.stays)
+
+pub returns-clause-stays : goal.returns-clause-stays
+returns-clause-stays g c =
+    let old = g.D.Disk.disk c.self.inside.disk in
+    let kept = kept_by c.self.inside.side c.self.inside.format c.self.inside.generation c.self.inside.deployment c.self.inside.snapshot old in
+    rw (← c.self.view_is) (λ told. left_blank c.self.inside.stage kept old _ c.in-Blank.is c.write_side.ensures.stays)

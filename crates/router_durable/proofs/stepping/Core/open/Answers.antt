@@ -36,11 +36,11 @@ returns-in-Err-begin-clause-refused g c =
     let j = c.in-Ok.found in
     let ok = c.in-Ok.ensures in
     let o : Opened g.D.Disk.disk old c.args.bytes.now j = record { opened = λ told. (ok.found told).read; records = λ told. (ok.found told).located_are; named = ok.opened.named; seen = λ told. (ok.found told).stands; looks = ok.looks; leaves = λ clean. (ok.any_moment clean).leaves; rest = λ clean. (ok.any_moment clean).clean; idle = ok.opened.empty } in
-    let both = plain_of start j.kept.head.format j.kept.head.snapshot j.records c.in-Ok-replayed.ensures.fits in
+    let both = plain_of start j.kept.side j.kept.head.format j.kept.head.snapshot j.records c.in-Ok-replayed.ensures.fits in
     let b = c.begin.ensures in
     let begins : Begins g.D.Disk.disk j c.begin.new.self = record { head = b.still.head; records = b.still.records; told = b.runs.told; rising = b.runs.rising; leaves = b.any_moment } in
     let refused = refused_by_begin g.D.Disk.disk old start c.args.bytes.now j o both.0 both.1 both.2 c.begin.new.self begins c.args.limit ok.opened.limited c.in-Err-begin.fault c.in-Err-begin.ensures.refused
-    (λ is. c.in-Err-begin.ensures.runs.cause (ap (λ f. Err f) is)) in
+    (λ is. c.in-Err-begin.ensures.runs.cause (ap (λ f. Err f) is)) b.stays in
     subst (λ (d : g.row.D.Denot). IsRefused old (g.D.Disk.disk d) start c.args.bytes.now c.args.limit c.begin_fault.result) (sym c.into_disk-in-Err-begin.ensures)
     (subst (λ (f : OpenFault). IsRefused old (g.D.Disk.disk c.begin.new.self.disk) start c.args.bytes.now c.args.limit f) (sym c.begin_fault.ensures) refused)
 
@@ -53,17 +53,17 @@ invariant_of-result g c =
     let j = c.in-Ok.found in
     let ok = c.in-Ok.ensures in
     let o : Opened g.D.Disk.disk old c.args.bytes.now j = record { opened = λ told. (ok.found told).read; records = λ told. (ok.found told).located_are; named = ok.opened.named; seen = λ told. (ok.found told).stands; looks = ok.looks; leaves = λ clean. (ok.any_moment clean).leaves; rest = λ clean. (ok.any_moment clean).clean; idle = ok.opened.empty } in
-    let both = plain_of start j.kept.head.format j.kept.head.snapshot j.records c.in-Ok-replayed.ensures.fits in
+    let both = plain_of start j.kept.side j.kept.head.format j.kept.head.snapshot j.records c.in-Ok-replayed.ensures.fits in
     let b = c.begin.ensures in
     let begins : Begins g.D.Disk.disk j c.begin.new.self = record { head = b.still.head; records = b.still.records; told = b.runs.told; rising = b.runs.rising; leaves = b.any_moment } in
     let k = c.in-Ok-begin.ensures in
-    let begun : IsBegun g.D.Disk.disk j c.begin.new.self = record { stage = k.ready; batch = b.batch; kept = λ told. ap (λ v. v.kept) (k.begun told).same; now = λ told. (k.begun told).durable.images; seen = λ told. (k.begun told).durable.seen; rest = λ told. (k.begun told).durable.clean; whole = λ told. (k.begun told).durable.whole } in
+    let begun : IsBegun g.D.Disk.disk j c.begin.new.self = record { stage = k.ready.0; batch = b.batch; kept = λ told. ap (λ v. v.kept) (k.begun told).same; now = λ told. (k.begun told).durable.images; seen = λ told. (k.begun told).durable.seen; rest = λ told. (k.begun told).durable.clean; whole = λ told. (k.begun told).durable.whole } in
     let limited = b.still.limit ∙ ok.opened.limited in
     let state = c.in-Ok-replayed.ensures.state ∙ ap (λ f. after_all start (choices_in (format_number f) (map payload_of j.records))) both.2 in
     with_fields c.begin.new.self (g.D.Disk.disk c.begin.new.self.disk) _ _ _ _ _
     (same_origin g.D.Disk.disk start c.args.bytes.now j.records _ _ _ _ c.of-begun.ensures b.still.records c.of-opened.ensures)
     c.new.ensures
-    (sound_opened g.D.Disk.disk old start c.args.bytes.now j o both.0 both.1 both.2 c.begin.new.self begins begun c.args.limit limited k.fits b.still.limit c.args.deployment.now _ state c.in-Ok-replayed.ensures.own)
+    (sound_opened g.D.Disk.disk old start c.args.bytes.now j o both.0 both.1 both.2 c.begin.new.self begins begun c.args.limit limited k.ready.1 b.still.limit c.args.deployment.now _ state c.in-Ok-replayed.ensures.own)
 
 pub returns-clause-opened : goal.returns-clause-opened
 returns-clause-opened g c =
@@ -72,16 +72,16 @@ returns-clause-opened g c =
     let j = c.in-Ok.found in
     let ok = c.in-Ok.ensures in
     let o : Opened g.D.Disk.disk old c.args.bytes.now j = record { opened = λ told. (ok.found told).read; records = λ told. (ok.found told).located_are; named = ok.opened.named; seen = λ told. (ok.found told).stands; looks = ok.looks; leaves = λ clean. (ok.any_moment clean).leaves; rest = λ clean. (ok.any_moment clean).clean; idle = ok.opened.empty } in
-    let both = plain_of start j.kept.head.format j.kept.head.snapshot j.records c.in-Ok-replayed.ensures.fits in
+    let both = plain_of start j.kept.side j.kept.head.format j.kept.head.snapshot j.records c.in-Ok-replayed.ensures.fits in
     let b = c.begin.ensures in
     let begins : Begins g.D.Disk.disk j c.begin.new.self = record { head = b.still.head; records = b.still.records; told = b.runs.told; rising = b.runs.rising; leaves = b.any_moment } in
     let k = c.in-Ok-begin.ensures in
-    let begun : IsBegun g.D.Disk.disk j c.begin.new.self = record { stage = k.ready; batch = b.batch; kept = λ told. ap (λ v. v.kept) (k.begun told).same; now = λ told. (k.begun told).durable.images; seen = λ told. (k.begun told).durable.seen; rest = λ told. (k.begun told).durable.clean; whole = λ told. (k.begun told).durable.whole } in
+    let begun : IsBegun g.D.Disk.disk j c.begin.new.self = record { stage = k.ready.0; batch = b.batch; kept = λ told. ap (λ v. v.kept) (k.begun told).same; now = λ told. (k.begun told).durable.images; seen = λ told. (k.begun told).durable.seen; rest = λ told. (k.begun told).durable.clean; whole = λ told. (k.begun told).durable.whole } in
     let limited = b.still.limit ∙ ok.opened.limited in
     with_held old (g.D.Disk.disk c.begin.new.self.disk) start c.args.bytes.now c.args.limit c.begin.new.self _ _ _
     (same_origin g.D.Disk.disk start c.args.bytes.now j.records _ _ _ _ c.of-begun.ensures b.still.records c.of-opened.ensures)
     c.new.ensures
-    (opens_begun g.D.Disk.disk old start c.args.bytes.now j o both.0 both.1 both.2 c.begin.new.self begins begun c.args.limit limited k.fits b.still.limit)
+    (opens_begun g.D.Disk.disk old start c.args.bytes.now j o both.0 both.1 both.2 c.begin.new.self begins begun c.args.limit limited k.ready.1 b.still.limit)
 
 -- ---- what its calls ask
 
@@ -92,5 +92,5 @@ pub begin-requires-clause-current : goal.begin-requires-clause-current
 begin-requires-clause-current g c =
     let start = initial_of c.args.deployment.now.parts c.args.deployment.now.codes in
     let j = c.in-Ok.found in
-    let both = plain_of start j.kept.head.format j.kept.head.snapshot j.records c.in-Ok-replayed.ensures.fits in
+    let both = plain_of start j.kept.side j.kept.head.format j.kept.head.snapshot j.records c.in-Ok-replayed.ensures.fits in
     ap format_number both.2

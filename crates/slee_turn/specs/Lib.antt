@@ -1,0 +1,5 @@
+pub mod Setups
+pub mod Numbers
+pub mod Knowledge
+pub mod Rule
+pub mod Passes
