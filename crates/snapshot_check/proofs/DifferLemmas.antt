@@ -12,13 +12,15 @@ use Rattle.std.proofs.lemmas.Bool.Decides.{nat_tests}
 use Rattle.std.proofs.lemmas.Map.Text.{is_eq-slice_cmp}
 use denote.Ref.{Bor}
 use Rattle.slee_value.specs.declared.convergence.ConvName.{ConvName}
+use Rattle.slee_value.specs.declared.ids.ActivityId.{ActivityId}
+use Rattle.slee_value.specs.declared.ids.EventId.{EventId}
 use Rattle.slee_value.specs.declared.value.Value.{Value}
 use Rattle.slee_value.specs.declared.value.Value.TheVariants as values
 use Rattle.script_meaning.specs.Same.{same_bool, same_int, same_name, same_option, same_value}
 use Rattle.deploy_model.specs.Deployed.{Deployed, DeployedProfile, DeployedTable, table_unique}
 use Rattle.router_state.specs.Contexts.{has_name}
 use Rattle.router_state.specs.Profiles.{are_unique, differ_in, value_of}
-use Rattle.router_state.specs.Trees.{entity_at, root_name_at}
+use Rattle.router_state.specs.Trees.{entity_at, root_name_at, service_above}
 use Rattle.router_state.specs.WellContexts.{differ_in_kind}
 use Rattle.router_state.specs.WellEntities.{all_differ, differ_in_name, is_conv, is_named, is_root_name, root_service}
 use Rattle.router_state.specs.WellQueues.{differ_in_number}
@@ -178,13 +180,20 @@ root_order x y =
     (ordering_then (option_cmp text_order x.event_type y.event_type)
     (ordering_then (option_cmp nat_cmp x.event y.event) (option_cmp text_order x.custom y.custom)))))
 
+abbrev activity_of : ℕ → ActivityId
+activity_of n = record { 0 = n }
+
+abbrev event_of : ℕ → EventId
+event_of n = record { 0 = n }
+
 root_tie : (x y : RootKey) → is_eq (root_order x y) ≡ same_root (root_view x) (root_view y)
 root_tie x y =
-    step (option_cmp nat_cmp x.service y.service) _ _ _ (option_tie nat_cmp (λ a b. a == b) number_tie x.service y.service)
-    (step (option_cmp nat_cmp x.activity y.activity) _ _ _ (seen_tie nat_cmp (λ n. record { 0 = n }) (λ a b. a.0 == b.0) number_tie x.activity y.activity)
-    (step (option_cmp text_order x.address y.address) _ _ _ (texts_tie x.address y.address)
-    (step (option_cmp text_order x.event_type y.event_type) _ _ _ (texts_tie x.event_type y.event_type)
-    (step (option_cmp nat_cmp x.event y.event) _ _ _ (seen_tie nat_cmp (λ n. record { 0 = n }) (λ a b. a.0 == b.0) number_tie x.event y.event) (texts_tie x.custom y.custom)))))
+    step (option_cmp nat_cmp x.service y.service) (ordering_then (option_cmp nat_cmp x.activity y.activity) (ordering_then (option_cmp text_order x.address y.address) (ordering_then (option_cmp text_order x.event_type y.event_type) (ordering_then (option_cmp nat_cmp x.event y.event) (option_cmp text_order x.custom y.custom))))) (same_option (λ a b. a == b) x.service y.service) (same_option (λ (a b : ActivityId). a.0 == b.0) (root_view x).name.activity (root_view y).name.activity && (same_option bytes_eq (root_view x).name.address (root_view y).name.address && (same_option bytes_eq (root_view x).name.event_type (root_view y).name.event_type && (same_option (λ (a b : EventId). a.0 == b.0) (root_view x).name.event (root_view y).name.event && (same_option bytes_eq (root_view x).name.custom (root_view y).name.custom))))) (option_tie nat_cmp (λ a b. a == b) number_tie x.service y.service)
+    (step (option_cmp nat_cmp x.activity y.activity) (ordering_then (option_cmp text_order x.address y.address) (ordering_then (option_cmp text_order x.event_type y.event_type) (ordering_then (option_cmp nat_cmp x.event y.event) (option_cmp text_order x.custom y.custom)))) (same_option (λ (a b : ActivityId). a.0 == b.0) (root_view x).name.activity (root_view y).name.activity) (same_option bytes_eq (root_view x).name.address (root_view y).name.address && (same_option bytes_eq (root_view x).name.event_type (root_view y).name.event_type && (same_option (λ (a b : EventId). a.0 == b.0) (root_view x).name.event (root_view y).name.event && (same_option bytes_eq (root_view x).name.custom (root_view y).name.custom)))) (seen_tie nat_cmp activity_of (λ (a b : ActivityId). a.0 == b.0) number_tie x.activity y.activity)
+    (step (option_cmp text_order x.address y.address) (ordering_then (option_cmp text_order x.event_type y.event_type) (ordering_then (option_cmp nat_cmp x.event y.event) (option_cmp text_order x.custom y.custom))) (same_option bytes_eq (root_view x).name.address (root_view y).name.address) (same_option bytes_eq (root_view x).name.event_type (root_view y).name.event_type && (same_option (λ (a b : EventId). a.0 == b.0) (root_view x).name.event (root_view y).name.event && (same_option bytes_eq (root_view x).name.custom (root_view y).name.custom))) (texts_tie x.address y.address)
+    (step (option_cmp text_order x.event_type y.event_type) (ordering_then (option_cmp nat_cmp x.event y.event) (option_cmp text_order x.custom y.custom)) (same_option bytes_eq (root_view x).name.event_type (root_view y).name.event_type) (same_option (λ (a b : EventId). a.0 == b.0) (root_view x).name.event (root_view y).name.event && (same_option bytes_eq (root_view x).name.custom (root_view y).name.custom)) (texts_tie x.event_type y.event_type)
+    (step (option_cmp nat_cmp x.event y.event) (option_cmp text_order x.custom y.custom) (same_option (λ (a b : EventId). a.0 == b.0) (root_view x).name.event (root_view y).name.event) (same_option bytes_eq (root_view x).name.custom (root_view y).name.custom) (seen_tie nat_cmp event_of (λ (a b : EventId). a.0 == b.0) number_tie x.event y.event)
+    (texts_tie x.custom y.custom)))))
 
 all_by : {X : Type 0} (p : X → Bool) (xs : List X) → list_all p xs ≡ true → AllByRecursion (λ x. p x ≡ true) xs
 all_by p [] all = tt
@@ -211,6 +220,10 @@ each_there (x ∷ xs) = (first, all_from (λ r. is_some (root_name_at xs r.entit
       | inr other ↦ rw other there
     ]
 
+root_above : (n : ℕ) (rows : List Entity) (service : ℕ) → service_above n rows (stems.Root service) ≡ Some service
+root_above zero rows service = refl
+root_above (suc n) rows service = refl
+
 -- a convergence name is that of a root, so that its service is that of the tree
 own_root : (d : Deployed) (entities : List Entity) (names : List RootName) (next_activity next_event : ℕ) → list_all (is_named names) entities ≡ true
     → (x : RootName) → (is_some (root_name_at names x.entity.0) ≡ true) × (is_root_name d entities next_activity next_event x ≡ true) → service_at entities x.entity.0 ≡ root_service entities x.entity.0
@@ -219,7 +232,7 @@ own_root d entities names next_activity next_event named x both =
     by (entity_at entities x.entity.0) refl there
   where
     of_stem : (row : Entity) (stem : Stem) → row.stem ≡ stem → is_named names row ≡ true → is_some (root_name_at names row.number.0) ≡ true → entity_at entities x.entity.0 ≡ Some row → service_at entities x.entity.0 ≡ root_service entities x.entity.0
-    of_stem row (stems.Root service) is own known found = rw (found, is) refl
+    of_stem row (stems.Root service) is own known found = rw (found, is) (sym (root_above (length entities) entities service))
     of_stem row (stems.Child parent relation) is own known found = absurd (let none : not (is_some (root_name_at names row.number.0)) ≡ true = rw is at own in let wrong : false ≡ true = rw known at none in cc)
     by : (o : Option Entity) → entity_at entities x.entity.0 ≡ o → is_some (entity_at entities x.entity.0) ≡ true → service_at entities x.entity.0 ≡ root_service entities x.entity.0
     by None is there = absurd (let wrong : false ≡ true = rw is at there in cc)
@@ -265,10 +278,11 @@ value_order x y =
 
 value_tie : (x y : ValueKey) → is_eq (value_order x y) ≡ same_view (value_view x) (value_view y)
 value_tie x y =
-    step (option_cmp int_cmp x.int y.int) _ _ _ (option_tie int_cmp same_int int_tie x.int y.int)
-    (step (option_cmp text_order x.text y.text) _ _ _ (texts_tie x.text y.text)
-    (step (option_cmp bool_cmp x.flag y.flag) _ _ _ (option_tie bool_cmp same_bool flag_tie x.flag y.flag)
-    (step (option_cmp nat_cmp x.activity y.activity) _ _ _ (option_tie nat_cmp (λ a b. a == b) number_tie x.activity y.activity) (option_tie nat_cmp (λ a b. a == b) number_tie x.timer y.timer))))
+    step (option_cmp int_cmp x.int y.int) (ordering_then (option_cmp text_order x.text y.text) (ordering_then (option_cmp bool_cmp x.flag y.flag) (ordering_then (option_cmp nat_cmp x.activity y.activity) (option_cmp nat_cmp x.timer y.timer)))) (same_option same_int x.int y.int) (same_option bytes_eq (value_view x).text (value_view y).text && (same_option same_bool x.flag y.flag && (same_option (λ a b. a == b) x.activity y.activity && (same_option (λ a b. a == b) x.timer y.timer)))) (option_tie int_cmp same_int int_tie x.int y.int)
+    (step (option_cmp text_order x.text y.text) (ordering_then (option_cmp bool_cmp x.flag y.flag) (ordering_then (option_cmp nat_cmp x.activity y.activity) (option_cmp nat_cmp x.timer y.timer))) (same_option bytes_eq (value_view x).text (value_view y).text) (same_option same_bool x.flag y.flag && (same_option (λ a b. a == b) x.activity y.activity && (same_option (λ a b. a == b) x.timer y.timer))) (texts_tie x.text y.text)
+    (step (option_cmp bool_cmp x.flag y.flag) (ordering_then (option_cmp nat_cmp x.activity y.activity) (option_cmp nat_cmp x.timer y.timer)) (same_option same_bool x.flag y.flag) (same_option (λ a b. a == b) x.activity y.activity && (same_option (λ a b. a == b) x.timer y.timer)) (option_tie bool_cmp same_bool flag_tie x.flag y.flag)
+    (step (option_cmp nat_cmp x.activity y.activity) (option_cmp nat_cmp x.timer y.timer) (same_option (λ a b. a == b) x.activity y.activity) (same_option (λ a b. a == b) x.timer y.timer) (option_tie nat_cmp (λ a b. a == b) number_tie x.activity y.activity)
+    (option_tie nat_cmp (λ a b. a == b) number_tie x.timer y.timer))))
 
 value_same : (x y : Option Value) → same_view (view_of x) (view_of y) ≡ same_option same_value x y
 value_same None None = refl

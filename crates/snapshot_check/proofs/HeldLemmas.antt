@@ -14,7 +14,7 @@ use Rattle.router_state.specs.declared.rows.Entity.{Entity}
 use Rattle.router_state.specs.declared.rows.Link.{Link}
 use Rattle.snapshot_check.specs.Tops.{is_lower, noted, parent_at, top_of, top_row}
 use Rattle.snapshot_check.specs.declared.tops.Top.{Top}
-use Rattle.snapshot_check.proofs.TopLemmas.{alike, each_found, found_holds, found_number, noted_is, parent_lower, top_nowhere, top_root, top_step}
+use Rattle.snapshot_check.proofs.TopLemmas.{alike, each_found, found_holds, found_number, noted_is, parent_lower, parent_there, top_nowhere, top_root, top_step}
 
 both_true : (a b : Bool) → (a && b) ≡ true → (a ≡ true) × (b ≡ true)
 both_true true true passes = (refl, refl)
@@ -189,12 +189,12 @@ module _ (rows : List Entity) (links : List Link) where
     -- a child has its parent's root
     same_top : (row : Entity) (e : ℕ) → entity_at rows row.number.0 ≡ Some row → (parent_of row == e) ≡ true → (e == 0) ≡ false → top_of rows row.number.0 ≡ top_of rows e
     same_top row e own is some =
-        let parent : parent_at rows row.number.0 ≡ e = (rw own refl) ∙ number_is (parent_of row) e is in
+        let parent : parent_at rows row.number.0 ≡ e = parent_there rows row.number.0 row own ∙ number_is (parent_of row) e is in
         top_step rows lower row.number.0 (ap (λ n. n == 0) parent ∙ some) ∙ ap (top_of rows) parent
 
     number_some : (row : Entity) (e : ℕ) → entity_at rows row.number.0 ≡ Some row → (parent_of row == e) ≡ true → (e == 0) ≡ false → (row.number.0 == 0) ≡ false
     number_some row e own is some =
-        let parent : parent_at rows row.number.0 ≡ e = (rw own refl) ∙ number_is (parent_of row) e is in
+        let parent : parent_at rows row.number.0 ≡ e = parent_there rows row.number.0 row own ∙ number_is (parent_of row) e is in
         let low = parent_lower rows lower row.number.0 (ap (λ n. n == 0) parent ∙ some) in
         over_none (parent_at rows row.number.0) row.number.0 low
 
@@ -218,7 +218,7 @@ module _ (rows : List Entity) (links : List Link) where
     below_child x p row over there parent placed low zero is known = absurd (let more = one_more rows p x over low placed in omega (arith, is, more))
     below_child x p row over there parent placed low (suc m) is known =
         let more = one_more rows p x over low placed in
-        let of_parent : parent_of row ≡ p = sym (rw there refl) ∙ parent in
+        let of_parent : parent_of row ≡ p = sym (parent_there rows x row there) ∙ parent in
         let each = children_none m p (ap (λ n. count n p) (sym is) ∙ known) in
         let mine : count m row.number.0 ≡ 0 = found_holds (λ r. (parent_of r == p) ≡ true → count m r.number.0 ≡ 0) x row rows each there (is_number (parent_of row) p of_parent) in
         fewer_none (from_number rows x) m x (omega (arith, is, more)) (ap (count m) (sym (found_number x row rows there)) ∙ mine)
@@ -273,9 +273,9 @@ module _ (rows : List Entity) (links : List Link) where
         held : list_any (λ l. top_of rows l.entity.0 == e) links ≡ true → is_loose rows links e ≡ false
         held any = elim (cases_Bool (is_loose rows links e)) [
           | inl loose ↦ absurd (
-              let at = witness (λ l. top_of rows l.entity.0 == e) links any in
-              let none = not_attached at.0.entity.0 e root placed (number_is (top_of rows at.0.entity.0) e at.1) (number_is (count (length rows) e) 0 loose) (entity_at rows at.0.entity.0) refl in
-              let attached = at.2 in
+              let one = witness (λ l. top_of rows l.entity.0 == e) links any in
+              let none = not_attached one.0.entity.0 e root placed (number_is (top_of rows one.0.entity.0) e one.1) (number_is (count (length rows) e) 0 loose) (entity_at rows one.0.entity.0) refl in
+              let attached = one.2 in
               omega (arith, none, attached))
           | inr tight ↦ tight
         ]

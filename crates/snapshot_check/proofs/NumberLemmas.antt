@@ -40,10 +40,10 @@ no_less : (k i : ℕ) → nat_lt k i ≡ false → i ≤ k
 no_less k i high = grind (arith, nat_tests, high)
 
 pub found_is : (xs : List ℕ) (x : ℕ) (r : Result ℕ ℕ) → IsBinarySearchResult (λ y. nat_cmp y x) xs r → IsNonDecreasing xs → is_ok r ≡ list_any (λ y. y == x) xs
-found_is xs x (Ok i) result up = let at = searched xs x (Ok i) result (λ a b low high. up a b 0 low high) in sym (found x xs i at.0 at.1)
+found_is xs x (Ok i) result up = let one = searched xs x (Ok i) result (λ a b low high. up a b 0 low high) in sym (found x xs i one.0 one.1)
 found_is xs x (Err i) result up =
-    let at = searched xs x (Err i) result (λ a b low high. up a b 0 low high) in
+    let one = searched xs x (Err i) result (λ a b low high. up a b 0 low high) in
     sym (absent x xs (λ k within. elim (cases_Bool (nat_lt k i)) [
-      | inl low ↦ apart x (get_or xs k 0) (at.1 k (less k i low))
-      | inr high ↦ apart_high x (get_or xs k 0) (at.2 k (no_less k i high) within)
+      | inl low ↦ apart x (get_or xs k 0) (one.1 k (less k i low))
+      | inr high ↦ apart_high x (get_or xs k 0) (one.2 k (no_less k i high) within)
     ]))

@@ -63,6 +63,10 @@ each_found (x ∷ xs) order =
     later : (row : Entity) → IsBefore entity_key x row × (entity_at xs row.number.0 ≡ Some row) → entity_at (x ∷ xs) row.number.0 ≡ Some row
     later row both = let other : (x.number.0 == row.number.0) ≡ false = apart_back x.number.0 row.number.0 (number_before x row both.0) in rw other both.1
 
+-- the parent of an entity that is there
+pub parent_there : (rows : List Entity) (e : ℕ) (row : Entity) → entity_at rows e ≡ Some row → parent_at rows e ≡ parent_of row
+parent_there rows e row is = rw is refl
+
 -- a parent has a lower number
 lower_by : (row : Entity) → is_lower row ≡ true → (parent_of row == 0) ≡ false → parent_of row < row.number.0
 lower_by row low some =
@@ -82,7 +86,7 @@ module _ (rows : List Entity) (lower : list_all is_lower rows ≡ true) where
       by : (o : Option Entity) → entity_at rows e ≡ o → parent_at rows e < e
       by None is = absurd (let none : (parent_at rows e == 0) ≡ true = rw is refl in cc)
       by (Some row) is =
-          let own : parent_at rows e ≡ parent_of row = rw is refl in
+          let own = parent_there rows e row is in
           let some_too : (parent_of row == 0) ≡ false = sym (ap (λ n. n == 0) own) ∙ some in
           let low = lower_by row (found_holds (λ row. is_lower row ≡ true) e row rows (all_by is_lower rows lower) is) some_too in
           let number = found_number e row rows is in
@@ -190,7 +194,7 @@ pub next_is : (rows done more : List Entity) (row : Entity) → Rises entity_key
 next_is rows done more row rises lower parts =
     let order : AllInOrder (IsBefore entity_key) (done ++ row ∷ more) = subst (AllInOrder (IsBefore entity_key)) parts (in_order entity_key rows rises) in
     let own : entity_at rows row.number.0 ≡ Some row = placed order in
-    let parent : parent_at rows row.number.0 ≡ parent_of row = rw own refl in
+    let parent = parent_there rows row.number.0 row own in
     elim (cases_Bool (parent_of row == 0)) [
       | inl root ↦ rw root (λ i. record { number = row.number.0; top = sym (top_root rows lower row.number.0 (ap (λ n. n == 0) parent ∙ root)) i })
       | inr some ↦

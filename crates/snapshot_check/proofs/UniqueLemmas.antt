@@ -56,6 +56,13 @@ rows_in t rows = filter (λ row. row.table == t) rows
 abbrev pub differ_in_names : List ProfileRow → List (List ℕ) → Bool
 differ_in_names rows names = list_all (λ name. all_differ (λ x y. differ_in x.attributes y.attributes name) rows) names
 
+-- a row of the table comes first, and another one is passed over
+row_kept : (t : ℕ) (y : ProfileRow) (ys : List ProfileRow) → (y.table == t) ≡ true → rows_in t (y ∷ ys) ≡ y ∷ rows_in t ys
+row_kept t y ys own = rw own refl
+
+row_passed : (t : ℕ) (y : ProfileRow) (ys : List ProfileRow) → (y.table == t) ≡ false → rows_in t (y ∷ ys) ≡ rows_in t ys
+row_passed t y ys other = rw other refl
+
 -- from the tables to all rows
 
 -- a row differs from the others of its table
@@ -64,21 +71,22 @@ first_apart : (x : ProfileRow) (names : List (List ℕ)) (rest : List ProfileRow
 first_apart x names [] all = refl
 first_apart x names (y ∷ ys) all = elim (cases_Bool (y.table == x.table)) [
   | inl same ↦
-      let here : list_all (λ name. differ_by name x y && list_all (differ_by name x) (rows_in x.table ys)) names ≡ true = rw same at all in
+      let here : list_all (λ name. differ_by name x y && list_all (differ_by name x) (rows_in x.table ys)) names ≡ true = sym (ap (λ (rows : List ProfileRow). list_all (λ name. list_all (differ_by name x) rows) names) (row_kept x.table y ys same)) ∙ all in
       let parts = all_both (λ name. differ_by name x y) (λ name. list_all (differ_by name x) (rows_in x.table ys)) names here in
       true_both (not (x.table == y.table) || list_all (λ name. differ_by name x y) names) (list_all (λ z. not (x.table == z.table) || list_all (λ name. differ_by name x z) names) ys)
       (ap (λ b. not (x.table == y.table) || b) parts.0 ∙ or_true (not (x.table == y.table))) (first_apart x names ys parts.1)
   | inr other ↦
       let turned : (x.table == y.table) ≡ false = turned_apart y.table x.table other in
       true_both (not (x.table == y.table) || list_all (λ name. differ_by name x y) names) (list_all (λ z. not (x.table == z.table) || list_all (λ name. differ_by name x z) names) ys)
-      (ap (λ b. not b || list_all (λ name. differ_by name x y) names) turned) (first_apart x names ys (rw other at all))
+      (ap (λ b. not b || list_all (λ name. differ_by name x y) names) turned)
+      (first_apart x names ys (sym (ap (λ (rows : List ProfileRow). list_all (λ name. list_all (differ_by name x) rows) names) (row_passed x.table y ys other)) ∙ all))
 ]
   where
     turned_apart : (m n : ℕ) → (m == n) ≡ false → (n == m) ≡ false
     turned_apart m n other = grind (arith, nat_tests, other)
 
 own_first : (x : ProfileRow) (rest : List ProfileRow) → rows_in x.table (x ∷ rest) ≡ x ∷ rows_in x.table rest
-own_first x rest = let own = alike x.table in rw own refl
+own_first x rest = row_kept x.table x rest (alike x.table)
 
 names_of_first : (x : ProfileRow) (rest : List ProfileRow) (names : List (List ℕ)) → differ_in_names (rows_in x.table (x ∷ rest)) names ≡ true → list_all (λ name. list_all (differ_by name x) (rows_in x.table rest)) names ≡ true
 names_of_first x rest names all =
@@ -88,9 +96,9 @@ names_of_first x rest names all =
 names_of_rest : (t : ℕ) (x : ProfileRow) (rest : List ProfileRow) (names : List (List ℕ)) → differ_in_names (rows_in t (x ∷ rest)) names ≡ true → differ_in_names (rows_in t rest) names ≡ true
 names_of_rest t x rest names all = elim (cases_Bool (x.table == t)) [
   | inl own ↦
-      let split : list_all (λ name. list_all (differ_by name x) (rows_in t rest) && all_differ (differ_by name) (rows_in t rest)) names ≡ true = rw own at all in
+      let split : list_all (λ name. list_all (differ_by name x) (rows_in t rest) && all_differ (differ_by name) (rows_in t rest)) names ≡ true = sym (ap (λ (rows : List ProfileRow). differ_in_names rows names) (row_kept t x rest own)) ∙ all in
       (all_both (λ name. list_all (differ_by name x) (rows_in t rest)) (λ name. all_differ (differ_by name) (rows_in t rest)) names split).1
-  | inr other ↦ rw other at all
+  | inr other ↦ sym (ap (λ (rows : List ProfileRow). differ_in_names rows names) (row_passed t x rest other)) ∙ all
 ]
 
 all_tables : (d : Deployed) (rows : List ProfileRow) → ((t : ℕ) → differ_in_names (rows_in t rows) (table_unique d t) ≡ true) → all_differ (are_unique d) rows ≡ true

@@ -1,12 +1,12 @@
 -- What the tests say together of rows, and what one test gives for another.
-use Rattle.std.proofs.Common.{◌≡◌, ℕ, ◌<◌, ◌==◌, Bool, true, false, List, [], ◌∷◌, refl, sym, ap, ◌∙◌, arith, ◌^◌}
+use Rattle.std.proofs.Common.{◌≡◌, ℕ, ◌<◌, ◌==◌, ◌^◌, Bool, true, false, List, [], ◌∷◌, refl, sym, ap, ◌∙◌, arith}
 use Rattle.std.specs.Prelude.{◌&&◌, ◌||◌, nat_lt, nat_le}
 use Rattle.std.specs.List.{list_all}
+use Rattle.std.specs.Option.{option_map_or}
 use Rattle.std.proofs.lemmas.Bool.Decides.{nat_tests}
 use Rattle.script_types.specs.Program.{Program}
 use Rattle.deploy_model.specs.Deployed.{Deployed}
 use Rattle.rows_sorted.specs.Orders.{rises_by, rises_in}
-use Rattle.router_state.specs.Closed.{are_roots_held}
 use Rattle.router_state.specs.Contexts.{attribute_before, link_before, name_before}
 use Rattle.router_state.specs.Fields.{field_before}
 use Rattle.router_state.specs.Fits.{is_drawn, is_priority, is_u64}
@@ -18,7 +18,7 @@ use Rattle.router_state.specs.Timers.{last_moment}
 use Rattle.router_state.specs.Trees.{entity_at, parent_of, root_name_before}
 use Rattle.router_state.specs.Well.{is_well}
 use Rattle.router_state.specs.WellContexts.{are_services, differ_in_kind, is_activity_row, is_attribute_row, is_link_row, is_mask_row, is_name_row, tables_have_activities}
-use Rattle.router_state.specs.WellEntities.{all_differ, differ_in_name, has_its_fields, is_entity_row, is_field_row, is_named, is_root_name, is_stem}
+use Rattle.router_state.specs.WellEntities.{all_differ, differ_in_name, has_its_fields, is_entity_row, is_field_row, is_named, is_root_name, is_stem, leads_to}
 use Rattle.router_state.specs.WellQueues.{differ_in_number, ends_right, is_entity_mark, is_event_row, is_service_mark, is_suspension_row}
 use Rattle.router_state.specs.WellRows.{is_next_number, is_profile_row, is_timer_row}
 use Rattle.router_state.specs.declared.rows.Activity.{Activity}
@@ -139,18 +139,18 @@ module _ (d : Deployed) (p : Program) (r : Rows) where
 -- each order of those in which rows are found
 pub orders_are : (r : Rows) → are_in_order r ≡ true → InOrder r
 orders_are r all =
-    let a = both_true (rise entity_key r.entities.items) _ all in
-    let b = both_true (rise root_name_key r.root_names.items) _ a.1 in
-    let c = both_true (rise field_key r.fields.items) _ b.1 in
-    let e = both_true (rise activity_key r.activities.items) _ c.1 in
-    let f = both_true (rise attribute_key r.attributes.items) _ e.1 in
-    let g = both_true (rise link_key r.links.items) _ f.1 in
-    let h = both_true (rise mask_key r.masks.items) _ g.1 in
-    let j = both_true (rise named_key r.names.items) _ h.1 in
-    let k = both_true (rise queued_key r.events.items) _ j.1 in
-    let l = both_true (rise service_mark_key r.services_done.items) _ k.1 in
-    let m = both_true (rise entity_mark_key r.delivered.items) _ l.1 in
-    let n = both_true (rise suspension_key r.suspensions.items) _ m.1 in
+    let a = both_true (rise entity_key r.entities.items) (rise root_name_key r.root_names.items && (rise field_key r.fields.items && (rise activity_key r.activities.items && (rise attribute_key r.attributes.items && (rise link_key r.links.items && (rise mask_key r.masks.items && (rise named_key r.names.items && (rise queued_key r.events.items && (rise service_mark_key r.services_done.items && (rise entity_mark_key r.delivered.items && (rise suspension_key r.suspensions.items && (rise timer_key r.timers.items && rise profile_row_key r.rows.items)))))))))))) all in
+    let b = both_true (rise root_name_key r.root_names.items) (rise field_key r.fields.items && (rise activity_key r.activities.items && (rise attribute_key r.attributes.items && (rise link_key r.links.items && (rise mask_key r.masks.items && (rise named_key r.names.items && (rise queued_key r.events.items && (rise service_mark_key r.services_done.items && (rise entity_mark_key r.delivered.items && (rise suspension_key r.suspensions.items && (rise timer_key r.timers.items && rise profile_row_key r.rows.items))))))))))) a.1 in
+    let c = both_true (rise field_key r.fields.items) (rise activity_key r.activities.items && (rise attribute_key r.attributes.items && (rise link_key r.links.items && (rise mask_key r.masks.items && (rise named_key r.names.items && (rise queued_key r.events.items && (rise service_mark_key r.services_done.items && (rise entity_mark_key r.delivered.items && (rise suspension_key r.suspensions.items && (rise timer_key r.timers.items && rise profile_row_key r.rows.items)))))))))) b.1 in
+    let e = both_true (rise activity_key r.activities.items) (rise attribute_key r.attributes.items && (rise link_key r.links.items && (rise mask_key r.masks.items && (rise named_key r.names.items && (rise queued_key r.events.items && (rise service_mark_key r.services_done.items && (rise entity_mark_key r.delivered.items && (rise suspension_key r.suspensions.items && (rise timer_key r.timers.items && rise profile_row_key r.rows.items))))))))) c.1 in
+    let f = both_true (rise attribute_key r.attributes.items) (rise link_key r.links.items && (rise mask_key r.masks.items && (rise named_key r.names.items && (rise queued_key r.events.items && (rise service_mark_key r.services_done.items && (rise entity_mark_key r.delivered.items && (rise suspension_key r.suspensions.items && (rise timer_key r.timers.items && rise profile_row_key r.rows.items)))))))) e.1 in
+    let g = both_true (rise link_key r.links.items) (rise mask_key r.masks.items && (rise named_key r.names.items && (rise queued_key r.events.items && (rise service_mark_key r.services_done.items && (rise entity_mark_key r.delivered.items && (rise suspension_key r.suspensions.items && (rise timer_key r.timers.items && rise profile_row_key r.rows.items))))))) f.1 in
+    let h = both_true (rise mask_key r.masks.items) (rise named_key r.names.items && (rise queued_key r.events.items && (rise service_mark_key r.services_done.items && (rise entity_mark_key r.delivered.items && (rise suspension_key r.suspensions.items && (rise timer_key r.timers.items && rise profile_row_key r.rows.items)))))) g.1 in
+    let j = both_true (rise named_key r.names.items) (rise queued_key r.events.items && (rise service_mark_key r.services_done.items && (rise entity_mark_key r.delivered.items && (rise suspension_key r.suspensions.items && (rise timer_key r.timers.items && rise profile_row_key r.rows.items))))) h.1 in
+    let k = both_true (rise queued_key r.events.items) (rise service_mark_key r.services_done.items && (rise entity_mark_key r.delivered.items && (rise suspension_key r.suspensions.items && (rise timer_key r.timers.items && rise profile_row_key r.rows.items)))) j.1 in
+    let l = both_true (rise service_mark_key r.services_done.items) (rise entity_mark_key r.delivered.items && (rise suspension_key r.suspensions.items && (rise timer_key r.timers.items && rise profile_row_key r.rows.items))) k.1 in
+    let m = both_true (rise entity_mark_key r.delivered.items) (rise suspension_key r.suspensions.items && (rise timer_key r.timers.items && rise profile_row_key r.rows.items)) l.1 in
+    let n = both_true (rise suspension_key r.suspensions.items) (rise timer_key r.timers.items && rise profile_row_key r.rows.items) m.1 in
     let o = both_true (rise timer_key r.timers.items) (rise profile_row_key r.rows.items) n.1 in
     record { entities = a.0; root_names = b.0; fields = c.0; activities = e.0; links = g.0; events = k.0; delivered = m.0; rows = o.1 }
 
@@ -161,14 +161,18 @@ entities_fit d r all = (both_true (fit_entities d r) (fit_activities d r && (fit
 
 pub names_there : (d : Deployed) (r : Rows) → are_fit d r ≡ true → list_all (is_root_name d r.entities.items r.next_activity r.next_event) r.root_names.items ≡ true
 names_there d r all =
-    let a = both_true (list_all (is_entity_row d r.entities.items r.next_entity) r.entities.items) _ (entities_fit d r all) in
-    (both_true (list_all (is_root_name d r.entities.items r.next_activity r.next_event) r.root_names.items) _ a.1).0
+    let a = both_true (list_all (is_entity_row d r.entities.items r.next_entity) r.entities.items) (list_all (is_root_name d r.entities.items r.next_activity r.next_event) r.root_names.items && (list_all (is_named r.root_names.items) r.entities.items && (list_all (is_field_row r.entities.items r.next_activity r.next_timer) r.fields.items && list_all (has_its_fields d r.fields.items) r.entities.items))) (entities_fit d r all) in
+    (both_true (list_all (is_root_name d r.entities.items r.next_activity r.next_event) r.root_names.items) (list_all (is_named r.root_names.items) r.entities.items && (list_all (is_field_row r.entities.items r.next_activity r.next_timer) r.fields.items && list_all (has_its_fields d r.fields.items) r.entities.items)) a.1).0
 
 pub entities_named : (d : Deployed) (r : Rows) → are_fit d r ≡ true → list_all (is_named r.root_names.items) r.entities.items ≡ true
 entities_named d r all =
-    let a = both_true (list_all (is_entity_row d r.entities.items r.next_entity) r.entities.items) _ (entities_fit d r all) in
-    let b = both_true (list_all (is_root_name d r.entities.items r.next_activity r.next_event) r.root_names.items) _ a.1 in
-    (both_true (list_all (is_named r.root_names.items) r.entities.items) _ b.1).0
+    let a = both_true (list_all (is_entity_row d r.entities.items r.next_entity) r.entities.items) (list_all (is_root_name d r.entities.items r.next_activity r.next_event) r.root_names.items && (list_all (is_named r.root_names.items) r.entities.items && (list_all (is_field_row r.entities.items r.next_activity r.next_timer) r.fields.items && list_all (has_its_fields d r.fields.items) r.entities.items))) (entities_fit d r all) in
+    let b = both_true (list_all (is_root_name d r.entities.items r.next_activity r.next_event) r.root_names.items) (list_all (is_named r.root_names.items) r.entities.items && (list_all (is_field_row r.entities.items r.next_activity r.next_timer) r.fields.items && list_all (has_its_fields d r.fields.items) r.entities.items)) a.1 in
+    (both_true (list_all (is_named r.root_names.items) r.entities.items) (list_all (is_field_row r.entities.items r.next_activity r.next_timer) r.fields.items && list_all (has_its_fields d r.fields.items) r.entities.items) b.1).0
+
+or_true : (b : Bool) → (b || true) ≡ true
+or_true true = refl
+or_true false = refl
 
 lower_row : (d : Deployed) (rows : List Entity) (next : ℕ) (row : Entity) → is_entity_row d rows next row ≡ true → is_lower row ≡ true
 lower_row d rows next row fits =
@@ -179,12 +183,8 @@ lower_row d rows next row fits =
     by : (stem : Stem) → row.stem ≡ stem → is_stem d rows row.number.0 row.block row.stem ≡ true → ((parent_of row == 0) || nat_lt (parent_of row) row.number.0) ≡ true
     by (stems.Root service) is placed = rw is refl
     by (stems.Child parent relation) is placed =
-        let low = rw is at placed in
-        rw is (ap (λ b. (parent.0 == 0) || b) (both_true (nat_lt parent.0 row.number.0) _ low).0 ∙ or_true (parent.0 == 0))
-      where
-        or_true : (b : Bool) → (b || true) ≡ true
-        or_true true = refl
-        or_true false = refl
+        let there : (nat_lt parent.0 row.number.0 && option_map_or (λ (up : Entity). leads_to d up.block relation row.block) (entity_at rows parent.0) false) ≡ true = rw is at placed in
+        rw is (ap (λ b. (parent.0 == 0) || b) (both_true (nat_lt parent.0 row.number.0) (option_map_or (λ (up : Entity). leads_to d up.block relation row.block) (entity_at rows parent.0) false) there).0 ∙ or_true (parent.0 == 0))
 
 all_weaker : (p q : Entity → Bool) → ((x : Entity) → p x ≡ true → q x ≡ true) → (xs : List Entity) → list_all p xs ≡ true → list_all q xs ≡ true
 all_weaker p q follows [] all = refl
@@ -192,5 +192,5 @@ all_weaker p q follows (x ∷ xs) all = let parts = both_true (p x) (list_all p 
 
 pub entities_lower : (d : Deployed) (r : Rows) → are_fit d r ≡ true → list_all is_lower r.entities.items ≡ true
 entities_lower d r all =
-    let a = both_true (list_all (is_entity_row d r.entities.items r.next_entity) r.entities.items) _ (entities_fit d r all) in
+    let a = both_true (list_all (is_entity_row d r.entities.items r.next_entity) r.entities.items) (list_all (is_root_name d r.entities.items r.next_activity r.next_event) r.root_names.items && (list_all (is_named r.root_names.items) r.entities.items && (list_all (is_field_row r.entities.items r.next_activity r.next_timer) r.fields.items && list_all (has_its_fields d r.fields.items) r.entities.items))) (entities_fit d r all) in
     all_weaker (is_entity_row d r.entities.items r.next_entity) is_lower (lower_row d r.entities.items r.next_entity) r.entities.items a.0

@@ -1,6 +1,6 @@
 -- What was deployed, as its codes and its parts have it.
 use Rattle.std.proofs.Common.{◌≡◌, ℕ, ◌+◌, ◌<◌, ◌==◌, Bool, true, false, List, [], ◌∷◌, ◌++◌, cond, drop, get_or, length, map, flat_map, Option, Some, None, refl, sym, ap, ◌∙◌, find, is_some, slice_get, inl, inr, bytes_eq}
-use Rattle.std.specs.Prelude.{option_map, option_and_then, ◌||◌, position}
+use Rattle.std.specs.Prelude.{option_map, option_and_then, ◌||◌, ◌&&◌, position}
 use Rattle.std.specs.List.{position_from}
 use Rattle.std.specs.Option.{option_map_or, option_or, unwrap_or}
 use Rattle.std.proofs.lemmas.Bool.{cases_Bool}
@@ -206,3 +206,16 @@ none_unique p tables n same is = sym (unique_from p n None (ap (λ (all : List T
 -- the fields of a built-in event
 pub built_in_fields : (event : BuiltInEvent) (fields : List (List ℕ × Kind)) → fields_of event ≡ fields → (built_in_code event).fields ≡ map (λ (f : List ℕ × Kind). record { name = f.0; kind = f.1 }) fields
 built_in_fields event fields is = ap (map (λ (f : List ℕ × Kind). record { name = f.0; kind = f.1 })) is
+
+-- no fields, and one field
+
+pub none_declared : (fields : List (List ℕ × Value)) → (length fields == 0) ≡ are_declared [] fields
+none_declared [] = refl
+none_declared (f ∷ fs) = refl
+
+grouped : (a b c : Bool) → ((a && b) && c) ≡ (a && (b && c))
+grouped true b c = refl
+grouped false b c = refl
+
+pub one_declared : (d : FieldCode) (field : List ℕ × Value) (rest : List (List ℕ × Value)) → ((bytes_eq d.name field.0 && is_of_kind d.kind field.1) && are_declared [] rest) ≡ are_declared (d ∷ []) (field ∷ rest)
+one_declared d field rest = grouped (bytes_eq d.name field.0) (is_of_kind d.kind field.1) (are_declared [] rest)

@@ -1,5 +1,5 @@
 //! What a deployment declares, as the tests of rows ask for it.
-ghost use Rattle.std.specs.Prelude.{◌≡◌, ◌==◌, ◌||◌, [], false, flat_map, nat_lt, length, option_and_then, option_copied, option_map, slice_get, is_some};
+ghost use Rattle.std.specs.Prelude.{◌≡◌, ◌==◌, ◌||◌, ◌∷◌, [], false, flat_map, nat_lt, length, option_and_then, option_copied, option_map, slice_get, is_some};
 ghost use Rattle.std.specs.Option.{option_map_or};
 ghost use Rattle.built_in_events.specs.BuiltIn.{event_named};
 ghost use Rattle.script_types.specs.Codes.{built_in_code, named};
@@ -122,15 +122,35 @@ pub fn is_event(deployment: &Deployment, name: &Text) -> bool
     is_event_in(deployment.codes(), name)
 }
 
+/// Whether there are no fields.
+#[tactic(auto, using(crate::proofs::DeclaredLemmas::none_declared))]
+fn has_no_fields(fields: &[(Name, Value)]) -> bool
+    ensures { result ≡ are_declared [] fields.now }
+{
+    fields.is_empty()
+}
+
+/// Whether there is one field, of this name and kind.
+#[tactic(auto, using(crate::proofs::DeclaredLemmas::one_declared))]
+fn has_one_field(name: &str, kind: Kind, fields: &[(Name, Value)]) -> bool
+    ensures { result ≡ are_declared (record { name = name.now; kind = kind } ∷ []) fields.now }
+{
+    match fields.split_first() {
+        Some((field, rest)) => {
+            is_declared(name.as_bytes(), kind, field.0.as_bytes(), &field.1) && has_no_fields(rest)
+        }
+        None => false,
+    }
+}
+
 /// Whether the fields are those of a built-in event.
 #[tactic(auto, using(crate::proofs::DeclaredLemmas::built_in_fields))]
 fn are_built_in(event: BuiltInEvent, fields: &[(Name, Value)]) -> bool
     ensures { result ≡ are_declared (built_in_code event).fields fields.now }
 {
-    match (event.field(), fields) {
-        (None, []) => true,
-        (Some((name, kind)), [field]) => is_declared(name.as_bytes(), kind, field.0.as_bytes(), &field.1),
-        _ => false,
+    match event.field() {
+        Some((name, kind)) => has_one_field(name, kind, fields),
+        None => has_no_fields(fields),
     }
 }
 
