@@ -1,0 +1,93 @@
+//! Bytes, the deployment with whose names they are read, and what one wrong byte makes of them.
+
+use deploy_json::read_deployment;
+use handler_check::Checked;
+use slee_descriptor::Deployment;
+use slee_value::NoMemory;
+use snapshot_check::is_well;
+use snapshot_read::read_rows;
+use std::alloc::Global;
+
+/// Two blocks, one of which is the other's child, two services, two tables, and an event.
+const DEPLOYMENT: &str = r#"{"events":[{"key":"ping","name":"ping","vendor":"t","version":"1","fields":{"n":"int","who":"text"}}],
+"profiles":[{"key":"acct","name":"acct","vendor":"t","version":"1","attributes":{"pin":"int","tel":"text"},"unique":["pin"]}],"tables":{"guests":"acct","hosts":"acct"},
+"blocks":[{"key":"desk","name":"desk","vendor":"t","version":"1","fields":{"count":"int"},"attributes":{"at":"int"},"relations":{"leg":{"block":"arm"}},"events":[{"event":"ping","initial":["activity"],"on":[]}]},{"key":"arm","name":"arm","vendor":"t","version":"1","fields":{"call":"activity"},"events":[]}],
+"services":[{"key":"calls","name":"calls","vendor":"t","version":"1","root":"desk","active":true},{"key":"waits","name":"waits","vendor":"t","version":"1","root":"desk"}]}"#;
+
+/// A snapshot in format 2, in two digits a byte: two roots of a service and a child, the activities of the tables and of the
+/// service, an external one with events and a suspension, a null activity with a name, and an Ending one.
+pub const SNAPSHOT: &str = "050000000000000006000000000000000a000000000000000c000000000000000d00000000000000\
+     0e000000000000000200000000000000010300000000000000000000000000000000030000000000\
+     00000100000000000000040000006465736b00000000000000000500000063616c6c73ff01040000\
+     00000000000103000000736970010400000070696e67010200000000000000010200000063310100\
+     00000000000005000000636f756e7400ffffffffffffffff02000000000000000300000061726d01\
+     00000000000000030000006c65670301000000000000000400000063616c6c030400000000000000\
+     0600000000000000040000006465736b00000000000000000500000063616c6c7300010400000000\
+     0000000103000000736970010400000070696e670102000000000000000102000000633201000000\
+     0000000005000000636f756e74000700000000000000060000000000000001000000000000000306\
+     00000067756573747300000000000000000000000000000000000000000000000000000000000000\
+     00000002000000000000000305000000686f73747300000000000000000000000000000000000000\
+     0000000000000000000000000000000300000000000000020500000063616c6c7300000000000000\
+     00000000000000000000000000000000000000000000000000000004000000000000000002000000\
+     6331000100000000000000070000006465736b2e6174000900000000000000020000000000000002\
+     000000000000000400000070696e67000200000000000000010000006e0002000000000000000300\
+     000077686f01020000006d6505000000000000000400000070696e67010500000063616c6c730200\
+     000000000000010000006e0005000000000000000300000077686f01020000006d65010000000000\
+     00000000000001000000000000000200000000000000012800000000000000070000000000000001\
+     00000000000000000000000000000000000000000000000000000000000000000000080000000000\
+     00000002000000633201000000000000000002000000000000000300000000000000040000007069\
+     6e67000200000000000000010000006e0003000000000000000300000077686f01020000006d6506\
+     000000000000000c00000061637469766974792d656e640000000000000000000000000000000000\
+     00000000000000000002000000000000000400000000000000020000000000000001000000000000\
+     000400000070696e6708000000000000000600000000000000000000000000000001000000000000\
+     0004000000726f6f6d07000000000000000200000000000000010000000000000004000000000000\
+     00640000000000000032000000000000000200000000000000010200000000000000040000000000\
+     00006400000000000000000000000000000001000000000000000003000000000000000600000067\
+     7565737473010000006102000000000000000300000070696e000100000000000000030000007465\
+     6c01010000007806000000677565737473010000006202000000000000000300000070696e000200\
+     0000000000000300000074656c01010000007805000000686f737473010000006302000000000000\
+     000300000070696e0001000000000000000300000074656c010100000078";
+
+fn digit(byte: u8) -> u8 {
+    match byte {
+        b'0'..=b'9' => byte - b'0',
+        b'a'..=b'f' => byte - b'a' + 10,
+        _ => 0,
+    }
+}
+
+/// The bytes that digits stand for, two a byte.
+pub fn bytes_of(alloc: Global, digits: &str) -> Result<Vec<u8>, NoMemory> {
+    let mut bytes = Vec::new(alloc);
+    let mut left = digits.as_bytes();
+    while let [high, low, rest @ ..] = left {
+        bytes.push(digit(*high) << 4 | digit(*low))?;
+        left = rest;
+    }
+    Ok(bytes)
+}
+
+/// The deployment of the tests.
+pub fn deployed(alloc: Global) -> Result<Checked, NoMemory> {
+    match read_deployment(alloc, DEPLOYMENT.as_bytes()) {
+        Ok(checked) => Ok(checked),
+        Err(_) => Err(NoMemory),
+    }
+}
+
+/// Whether the snapshot is read with this byte in this place, and is none of a well-formed state.
+pub fn is_refused(
+    alloc: Global,
+    deployment: &Deployment,
+    place: usize,
+    byte: u8,
+) -> Result<bool, NoMemory> {
+    let mut bytes = bytes_of(alloc, SNAPSHOT)?;
+    if let Some(wrong) = bytes.get_mut(place) {
+        *wrong = byte;
+    }
+    match read_rows(alloc, deployment, 2, &bytes) {
+        Ok(rows) => Ok(!is_well(alloc, deployment, &rows)?),
+        Err(_) => Ok(false),
+    }
+}
