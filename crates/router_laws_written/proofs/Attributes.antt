@@ -1,5 +1,5 @@
 -- What a run reads of an attribute behind its own effects is what is there once they are done.
-use Rattle.std.proofs.Common.{Less, Equal, Greater, ◌≡◌, ℕ, ◌+◌, ◌<◌, ◌==◌, ◌&&◌, ◌||◌, Bool, true, false, ℤ, List, [], ◌∷◌, map, refl, sym, ◌∙◌, ap, subst, inl, inr, arith, not, if◌then◌else◌, Option, Some, None}
+use Rattle.std.proofs.Common.{Less, Equal, Greater, ◌≡◌, ℕ, ◌+◌, ◌==◌, ◌&&◌, ◌||◌, Bool, true, false, ℤ, List, [], ◌∷◌, map, refl, sym, ◌∙◌, ap, subst, inl, inr, arith, not, if◌then◌else◌, Option, Some, None}
 use Rattle.std.specs.Prelude.{nat_lt, option_map}
 use Rattle.std.specs.List.{AllByRecursion}
 use Rattle.std.specs.Option.{option_map_or}
@@ -42,10 +42,10 @@ use Rattle.router_steps.specs.Moves.{attached}
 
 -- attributes in their list
 
-texts_same : (x y : List ℕ) → bytes_eq x y ≡ true → x ≡ y
+pub texts_same : (x y : List ℕ) → bytes_eq x y ≡ true → x ≡ y
 texts_same x y is = (bytes_eq-Decides x y).0 is
 
-text_turned : (x y : List ℕ) → bytes_eq x y ≡ false → bytes_eq y x ≡ false
+pub text_turned : (x y : List ℕ) → bytes_eq x y ≡ false → bytes_eq y x ≡ false
 text_turned x y other = false_from_ne_true (bytes_eq y x) (λ is. by (bytes_eq x y) other ((bytes_eq-Decides x y).1 (sym (texts_same y x is))))
   where
     by : (b : Bool) → b ≡ false → b ≡ true → ⊥
@@ -65,11 +65,11 @@ sides Equal other = absurd (cc)
 sides Greater other = refl
 
 -- of two texts that aren't the same one is below the other
-text_sides : (x y : List ℕ) → bytes_eq x y ≡ false → is_below x y ≡ not (is_below y x)
+pub text_sides : (x y : List ℕ) → bytes_eq x y ≡ false → is_below x y ≡ not (is_below y x)
 text_sides x y other = sides (byte_order x y) (is_eq-slice_cmp x y ∙ other) ∙ ap not (sym (behind_text x y))
 
 -- of two keys that aren't the same one comes before the other
-key_sides : (a b : ℕ) (x y : List ℕ) → ((b == a) && bytes_eq y x) ≡ false → text_before a x b y ≡ not (text_before b y a x)
+pub key_sides : (a b : ℕ) (x y : List ℕ) → ((b == a) && bytes_eq y x) ≡ false → text_before a x b y ≡ not (text_before b y a x)
 key_sides a b x y other = elim (cases_Bool (b == a)) [
   | inl is ↦ same (eqb-true b a is) (rw is at other)
   | inr isnt ↦ apart (nat_lt a b) (nat_lt b a) (a == b) (b == a) (is_below x y) (is_below y x) (turned isnt) isnt (either isnt)
@@ -94,7 +94,7 @@ key_sides a b x y other = elim (cases_Bool (b == a)) [
     same : b ≡ a → bytes_eq y x ≡ false → text_before a x b y ≡ not (text_before b y a x)
     same is apart = subst (λ k. text_before k x b y ≡ not (text_before b y k x)) is (level b (is_below x y) (is_below y x) (text_sides x y (text_turned y x apart)))
 
-key_level : (b : ℕ) (y : List ℕ) → text_before b y b y ≡ false
+pub key_level : (b : ℕ) (y : List ℕ) → text_before b y b y ≡ false
 key_level b y = rw (none b, eq-eqb b b refl) (not_below_itself y)
   where
     none : (b : ℕ) → nat_lt b b ≡ false
@@ -155,7 +155,7 @@ linked : (s : State) (e a : ℕ) → (attached s e a).attributes ≡ s.attribute
 linked s e a = cond_both (is_linked s.links e a) s _ (λ (t : State). t.attributes ≡ s.attributes) (λ _. refl) (λ _. refl)
 
 -- a value that an effect has, once what is new has its number
-plain_held : (next : Next) (kind : Kind) (value : Val) → held kind (Some (plain (resolved_val next value))) ≡ resolved_val next value
+pub plain_held : (next : Next) (kind : Kind) (value : Val) → held kind (Some (plain (resolved_val next value))) ≡ resolved_val next value
 plain_held next kind (Plain value) = refl
 plain_held next kind (NewActivity place) = refl
 plain_held next kind (NewTimer place) = refl

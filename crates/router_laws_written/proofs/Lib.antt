@@ -1,1 +1,11 @@
 pub mod Attributes
+pub mod RisingNumbers
+pub mod ActivityLemmas
+pub mod Blocks
+pub mod Fields
+pub mod MaskRows
+pub mod Masks
+pub mod Priorities
+pub mod TimerLemmas
+pub mod Readings
+pub mod Beginnings

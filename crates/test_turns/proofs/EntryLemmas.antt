@@ -1,5 +1,5 @@
 -- A history with one more entry begins with the one before.
-use Rattle.std.proofs.Common.{◌≡◌, ℕ, List, [], ◌∷◌, ◌++◌, map, sym, ap, ◌∙◌, append-nil}
+use Rattle.std.proofs.Common.{◌≡◌, ℕ, List, [], ◌∷◌, ◌++◌, sym, ap, ◌∙◌, append-nil}
 use mathlib.Core.List.{IsPrefix, map-append}
 use Rattle.trace_history.specs.declared.choice.Choice.TheVariants as choices
 use Rattle.test_turns.specs.Entries.{history_of}

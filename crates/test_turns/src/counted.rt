@@ -1,5 +1,5 @@
 //! A value to take in turns, whose entries are numbers.
-ghost use Rattle.std.specs.Prelude.{◌≡◌, ◌++◌, ◌∷◌, [], IfOk, OnOk, OnErr, false};
+ghost use Rattle.std.specs.Prelude.{false};
 ghost use mathlib.Core.List.{IsPrefix};
 ghost use Rattle.slee_turn.specs.Setups.{no_setup};
 ghost use Rattle.test_turns.specs.Entries.{history_of};
@@ -38,7 +38,7 @@ impl Counted {
     }
 
     /// Adds an entry.
-    #[tactic(auto, using(crate::proofs::EntryLemmas::grown, crate::proofs::EntryLemmas::same))]
+    #[tactic(auto, using(crate::proofs::EntryLemmas::same))]
     pub fn add(&mut self, number: u64) -> Result<(), NoMemory>
         ensures grown { IsPrefix (history_of self.old.entries.items) (history_of self.new.entries.items) }
     {

@@ -2,42 +2,16 @@
 ghost use Rattle.std.specs.Prelude.{◌≡◌};
 ghost use Rattle.slee_turn.specs.Passes.{IsFreeOf};
 
+use crate::adding::{ENTRIES, add_often};
 use crate::counted::Counted;
 use slee_turn::{Grows, Pass, Turnstile};
-use std::sync::Wait;
 use std::test::Fail;
 use std::thread::join;
 
-const ENTRIES: u64 = 50;
-
-// Takes the turn so many times, and adds the number each time where there is memory for it.
-fn add_often<R: Wait>(
-    rt: &R,
-    turn: &Turnstile<Counted>,
-    mut pass: Pass<Counted>,
-    number: u64,
-) -> Pass<Counted>
-    requires { IsFreeOf turn.now pass }
-    ensures free { IsFreeOf turn.now result }
-    ensures number { result.known.number ≡ pass.known.number }
-{
-    for _ in 0..ENTRIES {
-        let mut value = turn.take(rt, &mut pass);
-        let _ = value.add(number);
-        turn.give(&mut pass, value);
-    }
-    pass
-}
-
 // How many entries have this number.
 fn count_of(value: &Counted, number: u64) -> u64 {
-    let mut count = 0;
-    for entry in value.entries.as_slice() {
-        if *entry == number {
-            count += 1;
-        }
-    }
-    count
+    let entries = value.entries.iter();
+    entries.filter(|entry| **entry == number).count() as u64
 }
 
 #[test]
@@ -56,11 +30,11 @@ fn entries_of_two_threads_are_all_there_once(rt: HostRuntime) -> Result<(), Fail
         &rt,
         move || -> Pass<Counted>
             requires { IsFreeOf shared.now one }
-            ensures { IsFreeOf shared.now result × (result.known.number ≡ one.known.number) }
+            ensures { IsFreeOf shared.entry.now result × (result.known.number ≡ one.known.number) }
         { add_often(handle, shared, one, 7) },
         move || -> Pass<Counted>
             requires { IsFreeOf shared.now other }
-            ensures { IsFreeOf shared.now result × (result.known.number ≡ other.known.number) }
+            ensures { IsFreeOf shared.entry.now result × (result.known.number ≡ other.known.number) }
         { add_often(handle, shared, other, 8) },
     );
     turn.join(&mut first, one);

@@ -1,5 +1,5 @@
 use Rattle.router_laws_written.proofs.Attributes.{attributes_read}
-use Rattle.router_laws_written.proofs.own_writes.attributes_are_read_as_written.Goals as goal
+use Rattle.router_laws_written.proofs.activities.attributes_are_read_as_written.Goals as goal
 
 pub returns : goal.returns
 returns c = attributes_read

@@ -1,4 +1,4 @@
-//! What a run sees of its own effects.
+//! What a run sees of activities.
 ghost use Rattle.std.specs.Prelude.{◌≡◌, ℕ, List, map};
 ghost use Rattle.std.specs.List.{AllByRecursion};
 ghost use Rattle.slee_value.specs.declared.kind.Kind.{Kind};

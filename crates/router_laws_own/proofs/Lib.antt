@@ -1,0 +1,3 @@
+pub mod AttributeKeys
+pub mod OwnKeys
+pub mod OwnDeliveries

@@ -1,0 +1,14 @@
+pub mod Gathering
+pub mod Keys
+pub mod Again
+pub mod Parts
+pub mod Entities
+pub mod Activities
+pub mod Others
+pub mod Parsed
+pub mod Fitting
+pub mod Sound
+pub mod SoundContexts
+pub mod Gathered
+pub mod Restored
+pub mod SnapshotTexts
