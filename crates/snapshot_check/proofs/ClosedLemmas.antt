@@ -55,12 +55,12 @@ grouped false b c = refl
 pub nulls_are : (activities : List Activity) (links : List Link) (names : List Named) (timers : List Timer) (events : List Queued) (sorted : List ℕ)
     → ((n : ℕ) → list_any (λ x. x == n) sorted ≡ list_any (λ x. x == n) (map (λ (row : Named). row.activity.0) names ++ map (λ (row : Timer). row.activity.0) timers))
     → list_all (λ (row : Activity). not (is_null row.kind && (not row.ending && not (list_any (λ (l : Link). l.activity.0 == row.number.0) links || (list_any (λ x. x == row.number.0) sorted || is_waiting events row.number.0))))) activities
-      ≡ are_nulls_in_use activities links names timers events
+    ≡ are_nulls_in_use activities links names timers events
 nulls_are activities links names timers events sorted same =
     λ i. list_all (λ (row : Activity). not (is_null row.kind && (not row.ending && not (list_any (λ (l : Link). l.activity.0 == row.number.0) links || in_use row.number.0 i)))) activities
   where
     in_use : (n : ℕ) → (list_any (λ x. x == n) sorted || is_waiting events n) ≡ (list_any (λ (row : Named). row.activity.0 == n) names || (list_any (λ (t : Timer). t.activity.0 == n) timers || is_waiting events n))
     in_use n =
         ap (λ b. b || is_waiting events n)
-          (same n ∙ any_joined n (map (λ (row : Named). row.activity.0) names) (map (λ (row : Timer). row.activity.0) timers) ∙ (λ i. any_map (λ (row : Named). row.activity.0) n names i || any_map (λ (row : Timer). row.activity.0) n timers i))
+        (same n ∙ any_joined n (map (λ (row : Named). row.activity.0) names) (map (λ (row : Timer). row.activity.0) timers) ∙ (λ i. any_map (λ (row : Named). row.activity.0) n names i || any_map (λ (row : Timer). row.activity.0) n timers i))
         ∙ grouped (list_any (λ (row : Named). row.activity.0 == n) names) (list_any (λ (t : Timer). t.activity.0 == n) timers) (is_waiting events n)

@@ -214,6 +214,7 @@ each_there (x ∷ xs) = (first, all_from (λ r. is_some (root_name_at xs r.entit
   where
     first : is_some (root_name_at (x ∷ xs) x.entity.0) ≡ true
     first = let own = alike x.entity.0 in rw own refl
+
     later : (r : RootName) → is_some (root_name_at xs r.entity.0) ≡ true → is_some (root_name_at (x ∷ xs) r.entity.0) ≡ true
     later r there = elim (cases_Bool (x.entity.0 == r.entity.0)) [
       | inl is ↦ rw is refl
@@ -234,6 +235,7 @@ own_root d entities names next_activity next_event named x both =
     of_stem : (row : Entity) (stem : Stem) → row.stem ≡ stem → is_named names row ≡ true → is_some (root_name_at names row.number.0) ≡ true → entity_at entities x.entity.0 ≡ Some row → service_at entities x.entity.0 ≡ root_service entities x.entity.0
     of_stem row (stems.Root service) is own known found = rw (found, is) (sym (root_above (length entities) entities service))
     of_stem row (stems.Child parent relation) is own known found = absurd (let none : not (is_some (root_name_at names row.number.0)) ≡ true = rw is at own in let wrong : false ≡ true = rw known at none in cc)
+
     by : (o : Option Entity) → entity_at entities x.entity.0 ≡ o → is_some (entity_at entities x.entity.0) ≡ true → service_at entities x.entity.0 ≡ root_service entities x.entity.0
     by None is there = absurd (let wrong : false ≡ true = rw is at there in cc)
     by (Some row) is there =
@@ -246,10 +248,10 @@ pub roots_differ : (d : Deployed) (entities : List Entity) (names : List RootNam
 roots_differ d entities names next_activity next_event keys there named is =
     keys_differ root_order root_view same_root (root_row entities) root_tie keys names is
     ∙ differ_agree (λ x. service_at entities x.entity.0 ≡ root_service entities x.entity.0) (λ x y. not (same_root (root_row entities x) (root_row entities y))) (differ_in_name entities)
-      (λ x y one other i. not (same_option (λ a b. a == b) (one i) (other i) && same_name x.name y.name)) names
-      (all_from (λ x. (is_some (root_name_at names x.entity.0) ≡ true) × (is_root_name d entities next_activity next_event x ≡ true)) (λ x. service_at entities x.entity.0 ≡ root_service entities x.entity.0)
-        (own_root d entities names next_activity next_event named) names
-        (all_and (λ x. is_some (root_name_at names x.entity.0) ≡ true) (λ x. is_root_name d entities next_activity next_event x ≡ true) names (each_there names) (all_by (is_root_name d entities next_activity next_event) names there)))
+    (λ x y one other i. not (same_option (λ a b. a == b) (one i) (other i) && same_name x.name y.name)) names
+    (all_from (λ x. (is_some (root_name_at names x.entity.0) ≡ true) × (is_root_name d entities next_activity next_event x ≡ true)) (λ x. service_at entities x.entity.0 ≡ root_service entities x.entity.0)
+    (own_root d entities names next_activity next_event named) names
+    (all_and (λ x. is_some (root_name_at names x.entity.0) ≡ true) (λ x. is_root_name d entities next_activity next_event x ≡ true) names (each_there names) (all_by (is_root_name d entities next_activity next_event) names there)))
 
 -- values
 

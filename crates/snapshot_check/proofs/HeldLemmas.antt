@@ -211,7 +211,7 @@ module _ (rows : List Entity) (links : List Link) where
         count_none n e
         (none_among (λ l. l.entity.0 == e) links (all_from (λ l. (top_of rows l.entity.0 == t) ≡ false) (λ l. (l.entity.0 == e) ≡ false) (λ l other. not_own e t l top other) links (fails_any (λ l. top_of rows l.entity.0 == t) links none)))
         (all_from (λ row. entity_at rows row.number.0 ≡ Some row) (λ row. (parent_of row == e) ≡ true → count n row.number.0 ≡ 0)
-          (λ row own is. none_below n row.number.0 t (number_some row e own is some) (same_top row e own is some ∙ top) none) rows found)
+        (λ row own is. none_below n row.number.0 t (number_some row e own is some) (same_top row e own is some ∙ top) none) rows found)
 
     -- what has no attachments in its parent's tree has none in its own
     below_child : (x p : ℕ) (row over : Entity) → entity_at rows x ≡ Some row → parent_at rows x ≡ p → entity_at rows p ≡ Some over → p < x → (m : ℕ) → from_number rows p ≡ m → count (from_number rows p) p ≡ 0 → count (from_number rows x) x ≡ 0
@@ -270,6 +270,7 @@ module _ (rows : List Entity) (links : List Link) where
       where
         top : top_of rows e ≡ e
         top = top_root rows lower e (rw placed own)
+
         held : list_any (λ l. top_of rows l.entity.0 == e) links ≡ true → is_loose rows links e ≡ false
         held any = elim (cases_Bool (is_loose rows links e)) [
           | inl loose ↦ absurd (
@@ -309,13 +310,15 @@ pub held_is : (rows : List Entity) (links : List Link) (tops : List Top) (held :
 held_is rows links tops held rises lower so same =
     same_all (λ row. not (parent_of row == 0) || list_any (λ x. x == row.number.0) held) (λ row. not (parent_of row == 0) || not (is_loose rows links row.number.0)) rows
     (all_from (λ row. (entity_at rows row.number.0 ≡ Some row) × (is_lower row ≡ true)) (λ row. (not (parent_of row == 0) || list_any (λ x. x == row.number.0) held) ≡ (not (parent_of row == 0) || not (is_loose rows links row.number.0))) each rows
-      (all_and (λ row. entity_at rows row.number.0 ≡ Some row) (λ row. is_lower row ≡ true) rows (each_found rows (in_order entity_key rows rises)) (all_by is_lower rows lower)))
+    (all_and (λ row. entity_at rows row.number.0 ≡ Some row) (λ row. is_lower row ≡ true) rows (each_found rows (in_order entity_key rows rises)) (all_by is_lower rows lower)))
     ∙ sym (all_roots (λ e. not (is_loose rows links e)) rows)
   where
     noted_there : (l : Link) → noted tops l.entity.0 ≡ top_of rows l.entity.0
     noted_there l = ap (λ (ts : List Top). noted ts l.entity.0) so ∙ noted_is rows rows [] l.entity.0 lower (behind_none rows) refl
+
     any_is : (n : ℕ) → list_any (λ x. x == n) held ≡ list_any (λ (l : Link). top_of rows l.entity.0 == n) links
     any_is n = same n ∙ any_map (λ (l : Link). noted tops l.entity.0) n links ∙ (λ i. list_any (λ (l : Link). noted_there l i == n) links)
+
     each : (row : Entity) → (entity_at rows row.number.0 ≡ Some row) × (is_lower row ≡ true) → (not (parent_of row == 0) || list_any (λ x. x == row.number.0) held) ≡ (not (parent_of row == 0) || not (is_loose rows links row.number.0))
     each row both = elim (cases_Bool (parent_of row == 0)) [
       | inl root ↦ rw root (any_is row.number.0 ∙ root_held rows links rises lower row.number.0 row both.0 root (over_none 0 row.number.0 (positive row both.1)))

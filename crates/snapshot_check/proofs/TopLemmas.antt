@@ -201,15 +201,16 @@ next_is rows done more row rises lower parts =
           let low : parent_of row < row.number.0 = lower_by row (found_holds (λ r. is_lower r ≡ true) row.number.0 row rows (all_by is_lower rows lower) own) some in
           let none = none_later row more (parent_of row) (back_rises done (row ∷ more) order) low in
           let known : noted (map (top_row rows) done) (parent_of row) ≡ top_of rows row.number.0 = (
-              noted_is rows done (row ∷ more) (parent_of row) lower parts none
-              ∙ ap (top_of rows) (sym parent)
-              ∙ sym (top_step rows lower row.number.0 (ap (λ n. n == 0) parent ∙ some))) in
+          noted_is rows done (row ∷ more) (parent_of row) lower parts none
+          ∙ ap (top_of rows) (sym parent)
+          ∙ sym (top_step rows lower row.number.0 (ap (λ n. n == 0) parent ∙ some))) in
           rw some (λ i. record { number = row.number.0; top = known i })
     ]
   where
     later_row : (xs : List Entity) → AllByRecursion (λ r. entity_at rows r.number.0 ≡ Some r) (xs ++ row ∷ more) → entity_at rows row.number.0 ≡ Some row
     later_row [] all = all.0
     later_row (x ∷ xs) all = later_row xs all.1
+
     placed : AllInOrder (IsBefore entity_key) (done ++ row ∷ more) → entity_at rows row.number.0 ≡ Some row
     placed order = later_row done (subst (λ (all : List Entity). AllByRecursion (λ r. entity_at rows r.number.0 ≡ Some r) all) parts (each_found rows (subst (AllInOrder (IsBefore entity_key)) (sym parts) order)))
 

@@ -14,7 +14,9 @@ ghost use Rattle.snapshot_check.specs.Tops.{is_lower};
 
 use crate::numbers::{has_number, in_order};
 use crate::tops::{parent_of, tops_of, tops_of_links};
-use router_state::{AcKind, Activity, Entity, Link, Named, Queued, Service, ServiceState, Stem, Timer};
+use router_state::{
+    AcKind, Activity, Entity, Link, Named, Queued, Service, ServiceState, Stem, Timer,
+};
 use rows_sorted::has_row_of;
 use slee_value::NoMemory;
 use snapshot_check_rows::is_waiting;
@@ -25,9 +27,7 @@ fn are_roots_among(entities: &[Entity], held: &[u64]) -> bool
     requires { IsNonDecreasing held.now }
     ensures { result ≡ list_all (λ row. not (parent_so row == 0) || list_any (λ x. x == row.number.0) held.now) entities.now }
 {
-    entities
-        .iter()
-        .all(|row| parent_of(&row.stem) != 0 || has_number(held, row.number.0))
+    entities.iter().all(|row| parent_of(&row.stem) != 0 || has_number(held, row.number.0))
 }
 
 /// Whether something is attached in the tree of each root.
@@ -114,11 +114,7 @@ fn add_timed(timers: &[Timer], used: &mut Vec<u64>) -> Result<(), NoMemory>
 }
 
 /// The activities that have a name or a timer.
-fn activities_in_use(
-    alloc: Global,
-    names: &[Named],
-    timers: &[Timer],
-) -> Result<Vec<u64>, NoMemory>
+fn activities_in_use(alloc: Global, names: &[Named], timers: &[Timer]) -> Result<Vec<u64>, NoMemory>
     ensures { IfOk result (λ used. used.items ≡ map (λ row. row.activity.0) names.now ++ map (λ row. row.activity.0) timers.now) }
 {
     let mut used = Vec::new(alloc);
@@ -147,12 +143,7 @@ fn is_in_use(links: &[Link], used: &[u64], events: &[Queued], activity: u64) -> 
 }
 
 /// Whether each Active null activity is in use.
-fn are_nulls_among(
-    activities: &[Activity],
-    links: &[Link],
-    used: &[u64],
-    events: &[Queued],
-) -> bool
+fn are_nulls_among(activities: &[Activity], links: &[Link], used: &[u64], events: &[Queued]) -> bool
     requires links { Rises link_key links.now }
     requires used { IsNonDecreasing used.now }
     requires events { Rises queued_key events.now }

@@ -57,10 +57,7 @@ pub fn have_own_numbers(alloc: Global, events: &[Queued]) -> Result<bool, NoMemo
     are_distinct(numbers)
 }
 
-fn external_names<'a>(
-    alloc: Global,
-    activities: &'a [Activity],
-) -> Result<Vec<&'a [u8]>, NoMemory>
+fn external_names<'a>(alloc: Global, activities: &'a [Activity]) -> Result<Vec<&'a [u8]>, NoMemory>
     ensures { IfOk result (λ names. map (λ name. name.now) names.items ≡ external_names activities.now) }
 {
     let mut names = Vec::new(alloc);

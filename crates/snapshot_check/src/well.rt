@@ -69,10 +69,15 @@ fn fit_entities(deployment: &Deployment, rows: &Rows) -> bool
     let names = rows.root_names.as_slice();
     let fields = rows.fields.as_slice();
     are_placed(deployment, entities, rows.next_entity)
-        && (are_root_names(deployment, entities, names, rows.next_activity, rows.next_event)
-            && (are_named(names, entities)
-                && (are_field_rows(entities, fields, rows.next_activity, rows.next_timer)
-                    && have_their_fields(deployment, fields, entities))))
+        && (are_root_names(
+            deployment,
+            entities,
+            names,
+            rows.next_activity,
+            rows.next_event,
+        ) && (are_named(names, entities)
+            && (are_field_rows(entities, fields, rows.next_activity, rows.next_timer)
+                && have_their_fields(deployment, fields, entities))))
 }
 
 fn fit_activities(deployment: &Deployment, rows: &Rows) -> bool

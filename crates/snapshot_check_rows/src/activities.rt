@@ -128,9 +128,13 @@ pub fn are_attribute_rows(
     requires { Rises activity_key activities.now }
     ensures { result ≡ list_all (is_attribute_row (deployed_of deployment.now.parts) activities.now next_activity next_timer) attributes.now }
 {
-    attributes
-        .iter()
-        .all(|row| is_attribute_row(deployment, activities, next_activity, next_timer, row))
+    attributes.iter().all(|row| is_attribute_row(
+        deployment,
+        activities,
+        next_activity,
+        next_timer,
+        row,
+    ))
 }
 
 fn is_link_row(entities: &[Entity], activities: &[Activity], link: &Link) -> bool

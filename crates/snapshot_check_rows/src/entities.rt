@@ -128,8 +128,7 @@ fn is_root_name(
     requires { Rises entity_key entities.now }
     ensures { result ≡ is_root_name (deployed_of deployment.now.parts) entities.now next_activity next_event row.now }
 {
-    has_entity(entities, row.entity.0)
-        && is_conv(deployment, next_activity, next_event, &row.name)
+    has_entity(entities, row.entity.0) && is_conv(deployment, next_activity, next_event, &row.name)
 }
 
 /// Whether the convergence names are those of entities, and fit.
@@ -143,9 +142,7 @@ pub fn are_root_names(
     requires { Rises entity_key entities.now }
     ensures { result ≡ list_all (is_root_name (deployed_of deployment.now.parts) entities.now next_activity next_event) names.now }
 {
-    names
-        .iter()
-        .all(|row| is_root_name(deployment, entities, next_activity, next_event, row))
+    names.iter().all(|row| is_root_name(deployment, entities, next_activity, next_event, row))
 }
 
 #[tactic(auto, using(crate::proofs::EntityLemmas::root_named, crate::proofs::EntityLemmas::child_unnamed))]
@@ -184,9 +181,7 @@ pub fn are_field_rows(
     requires { Rises entity_key entities.now }
     ensures { result ≡ list_all (is_field_row entities.now next_activity next_timer) fields.now }
 {
-    fields
-        .iter()
-        .all(|row| is_field_row(entities, next_activity, next_timer, row))
+    fields.iter().all(|row| is_field_row(entities, next_activity, next_timer, row))
 }
 
 fn has_its_fields(deployment: &Deployment, fields: &[Field], row: &Entity) -> bool

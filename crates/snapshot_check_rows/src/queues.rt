@@ -71,7 +71,14 @@ pub fn are_event_rows(
     ensures { result ≡ list_all (is_event_row (deployed_of deployment.now.parts) activities.now next_activity next_timer next_event) events.now }
 {
     events.iter().all(|row| {
-        is_event_row(deployment, activities, next_activity, next_timer, next_event, row)
+        is_event_row(
+            deployment,
+            activities,
+            next_activity,
+            next_timer,
+            next_event,
+            row,
+        )
     })
 }
 
@@ -129,11 +136,7 @@ fn is_service_mark(deployment: &Deployment, events: &[Queued], mark: &ServiceMar
 }
 
 /// Whether each mark of a service stands beside a head event, and the service is deployed.
-pub fn are_service_marks(
-    deployment: &Deployment,
-    events: &[Queued],
-    marks: &[ServiceMark],
-) -> bool
+pub fn are_service_marks(deployment: &Deployment, events: &[Queued], marks: &[ServiceMark]) -> bool
     requires { Rises queued_key events.now }
     ensures { result ≡ list_all (is_service_mark (deployed_of deployment.now.parts) events.now) marks.now }
 {
@@ -159,12 +162,7 @@ pub fn are_entity_marks(events: &[Queued], marks: &[EntityMark], next_entity: u6
         .all(|mark| is_entity_mark(events, next_entity, mark))
 }
 
-fn is_suspension_row(
-    clock: u64,
-    events: &[Queued],
-    marks: &[EntityMark],
-    row: &Suspension,
-) -> bool
+fn is_suspension_row(clock: u64, events: &[Queued], marks: &[EntityMark], row: &Suspension) -> bool
     requires events { Rises queued_key events.now }
     requires marks { Rises entity_mark_key marks.now }
     ensures { result ≡ is_suspension_row clock events.now marks.now row.now }
@@ -235,6 +233,5 @@ pub fn are_profile_rows(
 ) -> bool
     ensures { result ≡ list_all (is_profile_row (deployed_of deployment.now.parts) next_activity next_timer) rows.now }
 {
-    rows.iter()
-        .all(|row| is_profile_row(deployment, next_activity, next_timer, row))
+    rows.iter().all(|row| is_profile_row(deployment, next_activity, next_timer, row))
 }
