@@ -1,9 +1,9 @@
 -- Services with trees and activities in use, as numbers.
-use Rattle.std.proofs.Common.{◌≡◌, ℕ, ◌+◌, ◌<◌, ◌≤◌, ◌==◌, Bool, true, false, List, [], ◌∷◌, ◌++◌, drop, length, get_or, map, refl, sym, ap, ◌∙◌, inl, inr}
+use Rattle.std.proofs.Common.{◌≡◌, ℕ, ◌+◌, ◌==◌, Bool, true, false, List, [], ◌∷◌, ◌++◌, map, refl, ap, ◌∙◌, inl, inr}
 use Rattle.std.specs.Prelude.{◌&&◌, ◌||◌, not}
 use Rattle.std.specs.List.{list_all, list_any}
 use Rattle.std.proofs.lemmas.Bool.{cases_Bool}
-use Rattle.router_state.specs.Closed.{are_nulls_in_use, are_stopping_with_trees, has_tree, is_stopped}
+use Rattle.router_state.specs.Closed.{are_nulls_in_use, has_tree, is_stopped}
 use Rattle.router_state.specs.Contexts.{is_null}
 use Rattle.router_state.specs.Queues.{is_waiting}
 use Rattle.router_state.specs.Services.{is_stopping}

@@ -1,9 +1,9 @@
 -- What is to be different is just where the keys that stand for it are.
-use Rattle.std.proofs.Common.{◌≡◌, ℕ, zero, suc, ◌+◌, ◌<◌, ◌≤◌, ◌==◌, ℤ, Bool, true, false, List, [], ◌∷◌, ◌++◌, Option, Some, None, length, map, flat_map, filter, is_some, refl, sym, ap, ◌∙◌, arith, inl, inr, Less, Equal, Greater}
-use Rattle.std.specs.Prelude.{◌&&◌, ◌||◌, not, int_lt, nat_lt, option_map, option_and_then, slice_get}
+use Rattle.std.proofs.Common.{◌≡◌, ℕ, zero, suc, ◌+◌, ◌==◌, ℤ, Bool, true, false, List, [], ◌∷◌, ◌++◌, Option, Some, None, length, map, is_some, refl, sym, ap, ◌∙◌, arith, inl, inr, Less, Equal, Greater}
+use Rattle.std.specs.Prelude.{◌&&◌, ◌||◌, not, int_lt, nat_lt, option_map}
 use Rattle.std.specs.Cmp.Lexicographic.{slice_cmp}
-use Rattle.std.specs.List.{AllByRecursion, list_all, list_any, find}
-use Rattle.std.specs.Option.{option_cmp, option_map_or}
+use Rattle.std.specs.List.{AllByRecursion, list_all}
+use Rattle.std.specs.Option.{option_cmp}
 use Rattle.std.specs.Ordering.{bool_cmp, int_cmp, is_eq, nat_cmp, ordering_then}
 use Rattle.std.specs.Str.{bytes_eq}
 use Rattle.std.specs.declared.cmp.Ordering.{Ordering}
@@ -11,15 +11,14 @@ use Rattle.std.proofs.lemmas.Bool.{cases_Bool}
 use Rattle.std.proofs.lemmas.Bool.Decides.{nat_tests}
 use Rattle.std.proofs.lemmas.Map.Text.{is_eq-slice_cmp}
 use denote.Ref.{Bor}
-use Rattle.slee_value.specs.declared.convergence.ConvName.{ConvName}
 use Rattle.slee_value.specs.declared.ids.ActivityId.{ActivityId}
 use Rattle.slee_value.specs.declared.ids.EventId.{EventId}
 use Rattle.slee_value.specs.declared.value.Value.{Value}
 use Rattle.slee_value.specs.declared.value.Value.TheVariants as values
 use Rattle.script_meaning.specs.Same.{same_bool, same_int, same_name, same_option, same_value}
-use Rattle.deploy_model.specs.Deployed.{Deployed, DeployedProfile, DeployedTable, table_unique}
+use Rattle.deploy_model.specs.Deployed.{Deployed}
 use Rattle.router_state.specs.Contexts.{has_name}
-use Rattle.router_state.specs.Profiles.{are_unique, differ_in, value_of}
+use Rattle.router_state.specs.Profiles.{differ_in, value_of}
 use Rattle.router_state.specs.Trees.{entity_at, root_name_at, service_above}
 use Rattle.router_state.specs.WellContexts.{differ_in_kind}
 use Rattle.router_state.specs.WellEntities.{all_differ, differ_in_name, is_conv, is_named, is_root_name, root_service}
@@ -34,7 +33,7 @@ use Rattle.router_state.specs.declared.rows.RootName.{RootName}
 use Rattle.router_state.specs.declared.rows.Stem.{Stem}
 use Rattle.router_state.specs.declared.rows.Stem.TheVariants as stems
 use Rattle.snapshot_check.specs.Keys.{are_apart}
-use Rattle.snapshot_check.specs.Roots.{external_name, external_names, own_service, root_row, root_view, same_root, same_view, service_at, value_view, view_of}
+use Rattle.snapshot_check.specs.Roots.{external_name, external_names, root_row, root_view, same_root, same_view, service_at, value_view, view_of}
 use Rattle.snapshot_check.specs.declared.differing.RootKey.{RootKey}
 use Rattle.snapshot_check.specs.declared.differing.ValueKey.{ValueKey}
 use Rattle.snapshot_check.proofs.TopLemmas.{alike, found_holds, found_number}

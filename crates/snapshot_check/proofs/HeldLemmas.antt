@@ -1,15 +1,14 @@
 -- Something is attached in the tree of a root just where it is attached to an entity of which that is the root.
-use Rattle.std.proofs.Common.{◌≡◌, ℕ, zero, suc, ◌+◌, ◌<◌, ◌≤◌, ◌==◌, Bool, true, false, List, [], ◌∷◌, ◌++◌, Option, Some, None, length, map, filter, sum, refl, sym, ap, ◌∙◌, subst, arith, inl, inr}
+use Rattle.std.proofs.Common.{◌≡◌, ℕ, zero, suc, ◌+◌, ◌<◌, ◌≤◌, ◌==◌, Bool, true, false, List, [], ◌∷◌, ◌++◌, Option, Some, None, length, map, filter, sum, refl, sym, ap, ◌∙◌, arith, inl, inr}
 use Rattle.std.specs.Prelude.{◌&&◌, ◌||◌, not, nat_le, nat_lt}
 use Rattle.std.specs.List.{AllByRecursion, list_all, list_any}
-use Rattle.std.specs.Option.{option_map_or}
 use Rattle.std.proofs.lemmas.Bool.{cases_Bool}
 use Rattle.std.proofs.lemmas.Bool.Decides.{nat_tests}
 use Rattle.rows_sorted.specs.Keys.{Rises}
 use Rattle.rows_sorted.proofs.OrderLemmas.{in_order}
 use Rattle.router_state.specs.Closed.{are_roots_held, is_loose}
 use Rattle.router_state.specs.Keys.{entity_key}
-use Rattle.router_state.specs.Trees.{attachment_count, children, count_of, entity_at, links_of, number_of, parent_of, roots}
+use Rattle.router_state.specs.Trees.{attachment_count, children, entity_at, links_of, parent_of, roots}
 use Rattle.router_state.specs.declared.rows.Entity.{Entity}
 use Rattle.router_state.specs.declared.rows.Link.{Link}
 use Rattle.snapshot_check.specs.Tops.{is_lower, noted, parent_at, top_of, top_row}

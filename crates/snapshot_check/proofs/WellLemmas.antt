@@ -9,7 +9,7 @@ use Rattle.deploy_model.specs.Deployed.{Deployed}
 use Rattle.rows_sorted.specs.Orders.{rises_by, rises_in}
 use Rattle.router_state.specs.Contexts.{attribute_before, link_before, name_before}
 use Rattle.router_state.specs.Fields.{field_before}
-use Rattle.router_state.specs.Fits.{is_drawn, is_priority, is_u64}
+use Rattle.router_state.specs.Fits.{is_drawn, is_priority}
 use Rattle.router_state.specs.Keys.{entity_key, root_name_key, field_key, activity_key, attribute_key, link_key, mask_key, named_key, queued_key, service_mark_key, entity_mark_key, suspension_key, timer_key, profile_row_key}
 use Rattle.router_state.specs.Masks.{mask_before}
 use Rattle.router_state.specs.Profiles.{are_unique, row_before}

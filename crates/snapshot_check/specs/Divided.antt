@@ -1,5 +1,5 @@
 -- The tests of a well-formed state, divided by what finds rows and by what is put in order.
-use Rattle.std.specs.Prelude.{Bool, ◌&&◌, IsTrue, List, nat_le}
+use Rattle.std.specs.Prelude.{Bool, ◌&&◌, List, nat_le}
 use Rattle.std.specs.List.{list_all}
 use Rattle.deploy_model.specs.Deployed.{Deployed}
 use Rattle.rows_sorted.specs.Orders.{rises_by}

@@ -1,11 +1,9 @@
 -- The root of the tree in which an entity stands, and how it is found once those of lower numbers are known.
-use Rattle.std.specs.Prelude.{ℕ, zero, suc, ◌==◌, Bool, ◌&&◌, ◌||◌, nat_lt, if◌then◌else◌, List, map, find}
-use Rattle.std.specs.List.{list_all}
+use Rattle.std.specs.Prelude.{ℕ, zero, suc, ◌==◌, Bool, ◌&&◌, ◌||◌, nat_lt, if◌then◌else◌, List, find}
 use Rattle.std.specs.Option.{option_map_or}
 use Rattle.rows_sorted.specs.Keys.{Key, number_key}
-use Rattle.router_state.specs.Trees.{entity_at, parent_in, parent_of}
+use Rattle.router_state.specs.Trees.{entity_at, parent_of}
 use Rattle.router_state.specs.declared.rows.Entity.{Entity}
-use Rattle.router_state.specs.declared.rows.Link.{Link}
 use Rattle.snapshot_check.specs.declared.tops.Top.{Top}
 
 -- the number of the parent of the entity of this number, and 0 where it has none or isn't there

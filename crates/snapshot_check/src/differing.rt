@@ -1,5 +1,5 @@
 //! Whether what is to be different is: the numbers of events, external names, convergence names within a service, and unique attributes.
-ghost use Rattle.std.specs.Prelude.{◌≡◌, ℕ, IfOk, IsTrue, map, option_copied, option_map};
+ghost use Rattle.std.specs.Prelude.{◌≡◌, IfOk, IsTrue, map, option_copied, option_map};
 ghost use Rattle.std.specs.List.{list_all};
 ghost use Rattle.deploy_model.specs.Resolving.{deployed_of};
 ghost use Rattle.rows_sorted.specs.Keys.{Rises};

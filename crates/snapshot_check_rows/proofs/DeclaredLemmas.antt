@@ -2,7 +2,7 @@
 use Rattle.std.proofs.Common.{◌≡◌, ℕ, ◌+◌, ◌<◌, ◌==◌, Bool, true, false, List, [], ◌∷◌, ◌++◌, cond, drop, get_or, length, map, flat_map, Option, Some, None, refl, sym, ap, ◌∙◌, find, is_some, slice_get, inl, inr, bytes_eq}
 use Rattle.std.specs.Prelude.{option_map, option_and_then, ◌||◌, ◌&&◌, position}
 use Rattle.std.specs.List.{position_from}
-use Rattle.std.specs.Option.{option_map_or, option_or, unwrap_or}
+use Rattle.std.specs.Option.{option_map_or, option_or}
 use Rattle.std.proofs.lemmas.Bool.{cases_Bool}
 use Rattle.std.proofs.lemmas.Iterator.Adapters.{position_from-zero}
 use Rattle.std.proofs.lemmas.List.{drop_more, length-map}
@@ -23,7 +23,7 @@ use Rattle.script_types.specs.declared.codes.RelationCode.{RelationCode}
 use Rattle.script_types.specs.declared.checked_script.BlockSteps.{BlockSteps}
 use Rattle.slee_descriptor.specs.CodesOfParts.{block_code, codes_in, table_code}
 use Rattle.deploy_model.proofs.Noting.{turned}
-use Rattle.deploy_model.specs.Deployed.{Deployed, DeployedBlock, DeployedProfile, DeployedService, DeployedTable, attribute_kind, block_fields, event_fields, is_event, relation_of, service_at, table_attributes, table_unique}
+use Rattle.deploy_model.specs.Deployed.{DeployedBlock, DeployedProfile, DeployedService, DeployedTable, attribute_kind, block_fields, event_fields, is_event, relation_of, service_at, table_attributes, table_unique}
 use Rattle.deploy_model.specs.Resolving.{block_of, deployed_of, field_of, number_of, profile_of, service_of, table_of}
 use Rattle.deploy_model.specs.Rules.{Numbering}
 use Rattle.deploy_model.specs.Tables.{key_number}

@@ -1,13 +1,11 @@
 -- Roots have convergence names, and other entities have none.
-use Rattle.std.proofs.Common.{◌≡◌, ℕ, Bool, true, false, List, Option, Some, None, refl, ap, ◌∙◌, is_some, rules}
+use Rattle.std.proofs.Common.{◌≡◌, ℕ, List, Option, Some, None, refl, is_some}
 use Rattle.std.specs.Prelude.{not, is_none}
-use Rattle.slee_value.specs.declared.convergence.ConvName.{ConvName}
 use Rattle.slee_value.specs.declared.ids.EntityId.{EntityId}
 use Rattle.router_state.specs.Trees.{root_name_at}
 use Rattle.router_state.specs.WellEntities.{is_named}
 use Rattle.router_state.specs.declared.rows.Entity.{Entity}
 use Rattle.router_state.specs.declared.rows.RootName.{RootName}
-use Rattle.router_state.specs.declared.rows.Stem.{Stem}
 use Rattle.router_state.specs.declared.rows.Stem.TheVariants as stems
 
 pub root_named : (names : List RootName) (row : Entity) (service : ℕ) → row.stem ≡ stems.Root service → is_some (root_name_at names row.number.0) ≡ is_named names row

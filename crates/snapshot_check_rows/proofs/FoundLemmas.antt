@@ -1,5 +1,5 @@
 -- Rows that are there, by the tests of the lists.
-use Rattle.std.proofs.Common.{◌≡◌, ℕ, ◌==◌, Bool, true, false, List, [], ◌∷◌, Option, Some, None, refl, sym, ap, ◌∙◌, inl, inr, is_some}
+use Rattle.std.proofs.Common.{◌≡◌, ℕ, ◌==◌, Bool, true, false, List, [], ◌∷◌, Option, Some, None, refl, ◌∙◌, inl, inr, is_some}
 use Rattle.std.specs.Prelude.{◌&&◌, not, option_map}
 use Rattle.std.specs.List.{find, list_any}
 use Rattle.std.proofs.lemmas.Bool.{cases_Bool}
@@ -9,7 +9,6 @@ use Rattle.router_state.specs.Trees.{root_name_at}
 use Rattle.router_state.specs.declared.rows.EntityMark.{EntityMark}
 use Rattle.router_state.specs.declared.rows.Link.{Link}
 use Rattle.router_state.specs.declared.rows.RootName.{RootName}
-use Rattle.slee_value.specs.declared.convergence.ConvName.{ConvName}
 
 -- something passes where something that passes is found
 pub some_found : {Row : Type 0} (p : Row → Bool) (rows : List Row) → list_any p rows ≡ is_some (find p rows)

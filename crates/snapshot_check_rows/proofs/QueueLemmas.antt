@@ -3,7 +3,6 @@ use Rattle.std.proofs.Common.{◌≡◌, Bool, true, false, List, [], ◌∷◌,
 use Rattle.std.specs.Prelude.{◌&&◌, not}
 use Rattle.std.specs.List.{list_all}
 use Rattle.router_state.specs.WellQueues.{has_end_last, has_no_end, is_end}
-use Rattle.router_state.specs.declared.rows.Event.{Event}
 use Rattle.router_state.specs.declared.rows.Queued.{Queued}
 
 pub none_ends : (events : List Queued) → list_all (λ (q : Queued). not (is_end q.event)) events ≡ has_no_end (map (λ (q : Queued). q.event) events)

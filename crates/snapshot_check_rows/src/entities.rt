@@ -1,5 +1,5 @@
 //! Whether entities, convergence names and fields are those of a well-formed state.
-ghost use Rattle.std.specs.Prelude.{◌≡◌, false, map};
+ghost use Rattle.std.specs.Prelude.{◌≡◌, false};
 ghost use Rattle.std.specs.List.{list_all};
 ghost use Rattle.std.specs.Option.{option_map_or};
 ghost use Rattle.deploy_model.specs.Deployed.{is_event as is_event_so};
