@@ -3,6 +3,7 @@ use Rattle.std.proofs.Common.{◌≡◌, ℕ, zero, suc, ◌+◌, ◌<◌, ◌�
 use Rattle.std.specs.Prelude.{◌&&◌, ◌||◌, not, nat_le, nat_lt}
 use Rattle.std.specs.List.{AllByRecursion, list_all, list_any}
 use Rattle.std.proofs.lemmas.Bool.{cases_Bool}
+use Rattle.std.proofs.lemmas.List.Sums.{sum_by-cons, sum-map}
 use Rattle.std.proofs.lemmas.Bool.Decides.{nat_tests}
 use Rattle.rows_sorted.specs.Keys.{Rises}
 use Rattle.rows_sorted.proofs.OrderLemmas.{in_order}
@@ -22,14 +23,17 @@ both_true false b passes = cc
 
 -- a sum is 0 just where all its parts are
 
+sum_next : {X : Type 0} (f : X → ℕ) (x : X) (xs : List X) → sum (map f (x ∷ xs)) ≡ f x + sum (map f xs)
+sum_next f x xs = sum-map f (x ∷ xs) ∙ sum_by-cons f x xs ∙ ap (λ n. f x + n) (sym (sum-map f xs))
+
 sum_none : {X : Type 0} (f : X → ℕ) (xs : List X) → AllByRecursion (λ x. f x ≡ 0) xs → sum (map f xs) ≡ 0
 sum_none f [] all = refl
-sum_none f (x ∷ xs) all = let first = all.0 in let rest = sum_none f xs all.1 in omega (arith, first, rest)
+sum_none f (x ∷ xs) all = let first = all.0 in let rest = sum_none f xs all.1 in let split = sum_next f x xs in omega (arith, first, rest, split)
 
 parts_none : {X : Type 0} (f : X → ℕ) (xs : List X) → sum (map f xs) ≡ 0 → AllByRecursion (λ x. f x ≡ 0) xs
 parts_none f [] none = tt
 parts_none f (x ∷ xs) none =
-    let both : f x + sum (map f xs) ≡ 0 = none in
+    let both : f x + sum (map f xs) ≡ 0 = sym (sum_next f x xs) ∙ none in
     (omega (arith, both), parts_none f xs (omega (arith, both)))
 
 all_from : {X : Type 0} (P Q : X → Type 0) → ((x : X) → P x → Q x) → (xs : List X) → AllByRecursion P xs → AllByRecursion Q xs

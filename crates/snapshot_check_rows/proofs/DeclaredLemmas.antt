@@ -1,9 +1,10 @@
 -- What was deployed, as its codes and its parts have it.
-use Rattle.std.proofs.Common.{◌≡◌, ℕ, ◌+◌, ◌<◌, ◌==◌, Bool, true, false, List, [], ◌∷◌, ◌++◌, cond, drop, get_or, length, map, flat_map, Option, Some, None, refl, sym, ap, ◌∙◌, find, is_some, slice_get, inl, inr, bytes_eq}
+use Rattle.std.proofs.Common.{◌≡◌, ℕ, arith, suc, ◌+◌, ◌<◌, ◌==◌, Bool, true, false, List, [], ◌∷◌, ◌++◌, cond, drop, get_or, length, map, flat_map, Option, Some, None, refl, sym, ap, ◌∙◌, find, is_some, slice_get, inl, inr, bytes_eq}
 use Rattle.std.specs.Prelude.{option_map, option_and_then, ◌||◌, ◌&&◌, position}
 use Rattle.std.specs.List.{position_from}
 use Rattle.std.specs.Option.{option_map_or, option_or}
 use Rattle.std.proofs.lemmas.Bool.{cases_Bool}
+use Rattle.std.proofs.lemmas.Bool.Decides.{nat_tests}
 use Rattle.std.proofs.lemmas.Iterator.Adapters.{position_from-zero}
 use Rattle.std.proofs.lemmas.List.{drop_more, length-map}
 use Rattle.std.proofs.lemmas.List.Folds.{find-append}
@@ -211,7 +212,10 @@ built_in_fields event fields is = ap (map (λ (f : List ℕ × Kind). record { n
 
 pub none_declared : (fields : List (List ℕ × Value)) → (length fields == 0) ≡ are_declared [] fields
 none_declared [] = refl
-none_declared (f ∷ fs) = refl
+none_declared (f ∷ fs) = some (length fs)
+  where
+    some : (n : ℕ) → (suc n == 0) ≡ false
+    some n = grind (arith, nat_tests)
 
 grouped : (a b c : Bool) → ((a && b) && c) ≡ (a && (b && c))
 grouped true b c = refl
