@@ -82,14 +82,12 @@ fn attributes_in(codes: &Codes, table: u32) -> &[FieldCode]
 }
 
 /// The fields of the block's entities.
-#[tactic(auto, using(crate::proofs::DeclaredLemmas::fields_are))]
 pub fn block_fields(deployment: &Deployment, block: u32) -> &[FieldCode]
     ensures { result.now ≡ block_fields (deployed_of deployment.now.parts) block }
 {
     fields_in(deployment.codes(), block)
 }
 
-#[tactic(auto, using(crate::proofs::DeclaredLemmas::relation_is))]
 fn relation_of<'a>(deployment: &'a Deployment, block: u32, name: &Name) -> Option<&'a RelationCode>
     ensures { option_copied result ≡ relation_of (deployed_of deployment.now.parts) block name.now }
 {
@@ -107,7 +105,6 @@ pub fn leads_to(deployment: &Deployment, block: u32, relation: &Name, child: u32
 }
 
 /// The type of the attribute of activities that has this key, in some block.
-#[tactic(auto, using(crate::proofs::DeclaredLemmas::kind_is))]
 pub fn attribute_kind(deployment: &Deployment, key: &Text) -> Option<Kind>
     ensures { result ≡ attribute_kind (deployed_of deployment.now.parts) key.now }
 {
@@ -176,12 +173,17 @@ fn root_of(deployment: &Deployment, service: &Service) -> u32
     block.unwrap_or(0)
 }
 
+fn service_in(services: &[Service], service: u32) -> Option<&Service>
+    ensures { option_copied result ≡ slice_get services.now service }
+{
+    services.get(service as usize)
+}
+
 /// Whether the service is there, with this block as that of its root.
-#[tactic(auto, using(crate::proofs::DeclaredLemmas::service_is))]
 pub fn has_root(deployment: &Deployment, service: u32, block: u32) -> bool
     ensures { result ≡ option_map_or (λ v. v.root == block) (service_at (deployed_of deployment.now.parts) service) false }
 {
-    match deployment.services().get(service as usize) {
+    match service_in(deployment.services(), service) {
         Some(service) => root_of(deployment, service) == block,
         None => false,
     }
@@ -218,7 +220,6 @@ pub fn has_table(deployment: &Deployment, table: u32) -> bool
 }
 
 /// The attributes of the rows of a table.
-#[tactic(auto, using(crate::proofs::DeclaredLemmas::attributes_are))]
 pub fn table_attributes(deployment: &Deployment, table: u32) -> &[FieldCode]
     ensures { result.now ≡ table_attributes (deployed_of deployment.now.parts) table }
 {
@@ -242,12 +243,17 @@ fn unique_in(profiles: &[ProfileSpec], profile: u32) -> &[Name]
     }
 }
 
+fn table_at(tables: &[Table], table: usize) -> Option<&Table>
+    ensures { option_copied result ≡ slice_get tables.now table }
+{
+    tables.get(table)
+}
+
 /// The attributes in which the rows of a table differ.
-#[tactic(auto, using(crate::proofs::DeclaredLemmas::unique_are, crate::proofs::DeclaredLemmas::none_unique))]
 pub fn table_unique(deployment: &Deployment, table: usize) -> &[Name]
     ensures { result.now ≡ table_unique (deployed_of deployment.now.parts) table }
 {
-    match deployment.tables().get(table) {
+    match table_at(deployment.tables(), table) {
         Some(table) => unique_in(deployment.profiles(), profile_of(deployment, table)),
         None => &[],
     }

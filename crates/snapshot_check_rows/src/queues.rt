@@ -1,5 +1,5 @@
 //! Whether events that wait, the marks beside head events, suspensions, timers and rows of profile tables are those of a well-formed state.
-ghost use Rattle.std.specs.Prelude.{◌≡◌, nat_lt, length, map};
+ghost use Rattle.std.specs.Prelude.{◌≡◌, nat_lt, length, map, not};
 ghost use Rattle.std.specs.List.{list_all};
 ghost use Rattle.deploy_model.specs.Resolving.{deployed_of};
 ghost use Rattle.rows_sorted.specs.Keys.{Rises};
@@ -89,16 +89,22 @@ fn is_end(event: &Event) -> bool
     event.name.as_bytes() == BuiltInEvent::ActivityEnd.name().as_bytes()
 }
 
-/// Whether no event is an activity's end.
-#[tactic(auto, using(crate::proofs::QueueLemmas::none_ends))]
-fn has_no_end(events: &[Queued]) -> bool
-    ensures { result ≡ has_no_end (map (λ q. q.event) events.now) }
+/// Whether none of the rows has an activity's end.
+fn are_no_ends(events: &[Queued]) -> bool
+    ensures { result ≡ list_all (λ q. not (is_end q.event)) events.now }
 {
     events.iter().all(|row| !is_end(&row.event))
 }
 
+/// Whether no event is an activity's end.
+fn has_no_end(events: &[Queued]) -> bool
+    ensures { result ≡ has_no_end (map (λ q. q.event) events.now) }
+{
+    are_no_ends(events)
+}
+
 /// Whether the last event is an activity's end, and no other.
-#[tactic(auto, using(crate::proofs::QueueLemmas::end_last, crate::proofs::QueueLemmas::none_last))]
+#[tactic(auto, using(crate::proofs::QueueLemmas::none_last))]
 fn has_end_last(events: &[Queued]) -> bool
     ensures { result ≡ has_end_last (map (λ q. q.event) events.now) }
 {
