@@ -1,5 +1,0 @@
-pub mod Keys
-pub mod Tops
-pub mod Roots
-pub mod Closing
-pub mod Divided
