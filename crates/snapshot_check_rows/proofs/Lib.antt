@@ -1,0 +1,6 @@
+pub mod FitLemmas
+pub mod DeclaredLemmas
+pub mod FoundLemmas
+pub mod EntityLemmas
+pub mod ActivityLemmas
+pub mod QueueLemmas
