@@ -4,7 +4,8 @@ ghost use Rattle.slee_container.specs.declared.container.Mode.{Mode as Lines};
 ghost use Rattle.slee_descriptor.specs.declared.deployment.Deployment.{Deployment as Served};
 ghost use Rattle.slee_disk.specs.MemoryDisk.{state_of};
 ghost use Rattle.slee_run.specs.Given.{IsDeployment};
-ghost use Rattle.slee_run.specs.Headline.{IsLegalRun, Plays};
+ghost use Rattle.slee_run.specs.Headline.{Plays};
+ghost use Rattle.slee_run.specs.Orderly.{IsOrderlyRun};
 ghost use Rattle.slee_run.specs.Words.{texts};
 ghost use Rattle.slee_run.specs.Twice.{IsUnbroken, IsOneHistory};
 
@@ -61,7 +62,7 @@ fn play(
     disk: MemoryDisk,
     selectors: &Selectors,
 ) -> (Status, MemoryDisk)
-    ensures { IsLegalRun (texts words.now) (Some deploy) (Some lines) (Some out.old.held) (Some out.new.held) (state_of disk) (state_of result.1) result.0 }
+    ensures { IsOrderlyRun (texts words.now) (Some deploy) (Some lines) (Some out.old.held) (Some out.new.held) (state_of disk) (state_of result.1) result.0 }
 {
     let mut deploy = MemorySource::new(deploy, PIECE, Blob::new(alloc));
     let mut signals = MemorySource::new(lines, PIECE, Blob::new(alloc));
