@@ -18,6 +18,12 @@ use rows_leaves::{Leaves, Run};
 /// The rank of an attachment that is the first to its activity.
 const FIRST_RANK: u64 = 1 << 63;
 
+/// How far at most an attachment stands behind the one before it.
+///
+/// Children of one entity are mostly attached one after the other in the order in which they are listed: each such one
+/// takes this little of the ranks that are left before what follows them, so that ranks anew are rare.
+const RANK_STEP: u64 = 1 << 16;
+
 /// The attachment stands in its place, and those to its activity have ranks anew.
 fn insert_anew(tree: &Tree, rows: &mut Leaves<Placed>, spare: &mut Vec<Link>, link: Link)
     requires listing { IsListing tree.now.rows (attachments rows.old.rows) }
@@ -99,7 +105,9 @@ fn rank_between(low: Option<u64>, high: Option<u64>) -> Option<u64>
         (Some(low), None) => low.checked_add(RANK_GAP),
         (None, Some(high)) => high.checked_sub(RANK_GAP),
         (Some(low), Some(high)) => {
-            if low < high && 1 < high - low {
+            if low < high && RANK_STEP < (high - low) / 2 {
+                Some(low + RANK_STEP)
+            } else if low < high && 1 < high - low {
                 Some(low + (high - low) / 2)
             } else {
                 None

@@ -84,7 +84,7 @@ all_apply me (x ∷ xs) s = applies me x s && all_apply me xs (after_effect x s)
 abbrev pub Apply : ℕ → List Effect → State → Type 0
 Apply me xs s = IsTrue (all_apply me xs s)
 
--- Those of these effects that apply, each at its turn; one that doesn't apply does nothing. That all effects of a delivery apply is a law that is owed (docs/DECISIONS).
+-- Those of these effects that apply, each at its turn; one that doesn't apply does nothing. That all effects of a delivery apply is a law of legal histories.
 abbrev pub applying : ℕ → List Effect → State → List Effect
 applying me [] s = []
 applying me (x ∷ xs) s = if applies me x s then x ∷ applying me xs (after_effect x s) else applying me xs s

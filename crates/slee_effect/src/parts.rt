@@ -203,7 +203,8 @@ pub(crate) fn read_option(alloc: Global, bytes: &[u8]) -> Result<(Option<Text>, 
     Ok((Some(text), rest))
 }
 
-pub(crate) fn read_keep(bytes: &[u8]) -> Result<(Keep, &[u8]), PartFault>
+/// Reads what a timer keeps of the occurrences that were missed; Bad where no byte is left, or it tells none.
+pub fn read_keep(bytes: &[u8]) -> Result<(Keep, &[u8]), PartFault>
     ensures part { Gives (λ x. (x.0, x.1.now)) result (keep_at bytes.now) }
     ensures memory { result ≢ Err PartFault.NoMemory }
 {

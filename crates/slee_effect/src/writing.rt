@@ -94,7 +94,7 @@ fn put_effect(effect: &Effect, into: &mut Vec<u8>) -> Result<(), NoMemory>
         } => {
             put_one(tag::SET_TIMER, *activity, into)?;
             put_moments(*start, *period, *times, into)?;
-            put_keep(*keep, into)
+            write_keep(*keep, into)
         }
         Effect::CancelTimer { timer } => put_one(tag::CANCEL_TIMER, *timer, into),
         Effect::Bind { name, activity } => {
@@ -239,7 +239,8 @@ fn put_moments(start: u64, period: u64, times: u64, into: &mut Vec<u8>) -> Resul
     write_u64(times, into)
 }
 
-fn put_keep(keep: Keep, into: &mut Vec<u8>) -> Result<(), NoMemory>
+/// Adds the byte of what a timer keeps of the occurrences that were missed.
+pub fn write_keep(keep: Keep, into: &mut Vec<u8>) -> Result<(), NoMemory>
     ensures { OnOk result (into.new.items ≡ into.old.items ++ spelled_keep keep) }
 {
     let byte = match keep {

@@ -1,6 +1,5 @@
 //! Items without parts of their own: numbers, texts, pairs, services, names, timers, suspensions.
 ghost use Rattle.std.specs.Prelude.{◌≡◌};
-ghost use Rattle.slee_effect.specs.Reading.{keep_at};
 ghost use Rattle.slee_value.specs.Reading.{Gives};
 ghost use Rattle.router_state.specs.Parsing.{state_at};
 
@@ -9,8 +8,9 @@ use crate::named::stray;
 use crate::parts::Pair;
 use router_state::{Named, Service, ServiceState, Suspension, Timer};
 use slee_descriptor::Deployment;
+use slee_effect::read_keep;
 use slee_value::{
-    ActivityId, Keep, PartFault, Text, TimerId, ValueBad, read_part, read_text, read_u32, read_u64,
+    ActivityId, PartFault, Text, TimerId, ValueBad, read_part, read_text, read_u32, read_u64,
 };
 use std::alloc::Global;
 
@@ -137,25 +137,6 @@ impl Item for Named {
             activity: ActivityId(activity),
         };
         Ok((named, rest))
-    }
-}
-
-/// The byte for each answer to occurrences that were missed.
-const KEEP_ALL: u8 = 0;
-
-const KEEP_LAST: u8 = 1;
-
-const KEEP_NONE: u8 = 2;
-
-fn read_keep(bytes: &[u8]) -> Result<(Keep, &[u8]), PartFault>
-    ensures { Gives (λ x. (x.0, x.1.now)) result (keep_at bytes.now) }
-{
-    match bytes {
-        [] => Err(ended()),
-        [KEEP_ALL, rest @ ..] => Ok((Keep::All, rest)),
-        [KEEP_LAST, rest @ ..] => Ok((Keep::Last, rest)),
-        [KEEP_NONE, rest @ ..] => Ok((Keep::NoneMissed, rest)),
-        [_, ..] => Err(stray(bytes)),
     }
 }
 

@@ -77,13 +77,11 @@ event_put d event text fields start w x y z name own one two three four =
     ∙ ap (λ t. start ++ (spelled_u64 event.id.0 ++ (spelled_text t ++ (spelled_option (λ service. spelled_text (service_key d service)) event.target ++ listed spelled_pair fields)))) name
     ∙ ap (λ (fs : List (List ℕ × Value)). start ++ (spelled_u64 event.id.0 ++ (spelled_text event.name ++ (spelled_option (λ service. spelled_text (service_key d service)) event.target ++ listed spelled_pair fs)))) own
 
--- a timer up to what it keeps
-pub timer_put : (row : Timer) (byte : ℕ) (start u v w x y z : List ℕ) → spelled_keep row.keep ≡ byte ∷ []
-    → u ≡ start ++ spelled_u64 row.number.0 → v ≡ u ++ spelled_u64 row.activity.0 → w ≡ v ++ spelled_u64 row.next → x ≡ w ++ spelled_u64 row.period → y ≡ x ++ spelled_u64 row.left → z ≡ y ++ byte ∷ []
+-- a timer with what it keeps
+pub timer_put : (row : Timer) (start u v w x y z : List ℕ)
+    → u ≡ start ++ spelled_u64 row.number.0 → v ≡ u ++ spelled_u64 row.activity.0 → w ≡ v ++ spelled_u64 row.next → x ≡ w ++ spelled_u64 row.period → y ≡ x ++ spelled_u64 row.left → z ≡ y ++ spelled_keep row.keep
     → z ≡ start ++ spelled_timer row
-timer_put row byte start u v w x y z keep one two three four five six =
-    six_put start (spelled_u64 row.number.0) (spelled_u64 row.activity.0) (spelled_u64 row.next) (spelled_u64 row.period) (spelled_u64 row.left) (byte ∷ []) u v w x y z one two three four five six
-    ∙ ap (λ k. start ++ (spelled_u64 row.number.0 ++ (spelled_u64 row.activity.0 ++ (spelled_u64 row.next ++ (spelled_u64 row.period ++ (spelled_u64 row.left ++ k)))))) (sym keep)
+timer_put row start = six_put start (spelled_u64 row.number.0) (spelled_u64 row.activity.0) (spelled_u64 row.next) (spelled_u64 row.period) (spelled_u64 row.left) (spelled_keep row.keep)
 
 -- the clock, the count of inputs and the next numbers
 pub counts_put : (s : State) (start u v w x y z : List ℕ)

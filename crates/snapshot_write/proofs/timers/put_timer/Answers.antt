@@ -4,5 +4,5 @@ use Rattle.snapshot_write.proofs.timers.put_timer.Goals as goal
 
 pub returns : goal.returns
 returns c =
-    timer_put c.args.row.now c.keep_byte.result c.args.into.now.items _ _ _ _ _ _ c.keep_byte.ensures
-    c.in_ok-write_u64.ensures.ok c.in_ok-write_u64-2.ensures.ok c.in_ok-write_u64-3.ensures.ok c.in_ok-write_u64-4.ensures.ok c.in_ok-write_u64-5.ensures.ok c.in_ok-push.ensures.items
+    timer_put c.args.row.now c.args.into.now.items _ _ _ _ _ _
+    c.in_ok-write_u64.ensures.ok c.in_ok-write_u64-2.ensures.ok c.in_ok-write_u64-3.ensures.ok c.in_ok-write_u64-4.ensures.ok c.in_ok-write_u64-5.ensures.ok c.write_keep.ensures
