@@ -54,6 +54,13 @@ abbrev pub halted : Option Stop → Option Stop
 halted None = Some stops.NoMemory
 halted (Some stop) = Some stop
 
+-- a stop for want of room is lifted where the journal is compacted
+abbrev pub lifted : Option Stop → Option Stop
+lifted None = None
+lifted (Some stops.DiskFault) = Some stops.DiskFault
+lifted (Some (stops.Full length adding)) = None
+lifted (Some stops.NoMemory) = Some stops.NoMemory
+
 -- A stop has its cause. Want of memory is told by the caller.
 abbrev pub IsStopOf : Origin → ℕ → List Entry → DiskState → Option Stop → Type 0
 IsStopOf o limit history disk None = ⊤
