@@ -1,5 +1,5 @@
 -- A journal that is compacted.
-use Rattle.std.proofs.Common.{◌≡◌, ⊎_elim, inl, inr, ℕ, zero, suc, ◌<◌, ◌≤◌, ◌^◌, List, [], ◌∷◌, ◌++◌, length, take, drop, map, Bool, true, false, refl, sym, ◌∙◌, ap, subst, append-nil, Option, Some, Ok, Err, IsTrue, arith}
+use Rattle.std.proofs.Common.{◌≡◌, ⊎_elim, inl, inr, ℕ, zero, suc, ◌<◌, ◌≤◌, ◌^◌, List, [], ◌∷◌, ◌++◌, length, take, drop, map, Bool, true, false, refl, sym, ◌∙◌, ap, subst, append-nil, Option, Some, None, Ok, Err, IsTrue, arith}
 use mathlib.Core.List.{IsPrefix}
 use Rattle.slee_disk.specs.Causes.{Rose}
 use Rattle.slee_disk.specs.Sides.{Sides}
@@ -46,6 +46,14 @@ pub record Renewing {D : Type 0} (disk_of : D → DiskState) (v w : View D) (tex
   pub limit : w.limit ≡ v.limit
   pub leaves : IsTrue (is_clean (disk_of v.disk)) → LeavesInRenewal disk_of v text w
 
+-- where no entry stands, nothing waits in the batch
+pub none_waits : {D : Type 0} (j : View D) (disk : DiskState) (o : Origin) (history : List Entry) (acked : ℕ) (stop : Option Stop) → IsSound j disk o history acked stop → is_down stop ≡ false → history ≡ [] → j.batch ≡ []
+none_waits {D} j disk o history acked stop sound up none = sound.batch up ∙ ap (λ (h : List Entry). records_behind o h acked) none ∙ empty acked
+  where
+    empty : (n : ℕ) → records_behind o [] n ≡ []
+    empty zero = refl
+    empty (suc n) = refl
+
 module _ {D : Type 0} (disk_of : D → DiskState) (j j2 : View D) (d : Deployed) (p : Program) (o : Origin) (first : o.initial ≡ initial d p) (history : List Entry) (acked : ℕ) (stop : Option Stop) (b : Served) (s : State)
     (kept : IsSoundWith j (disk_of j.disk) o history acked stop b s) (up : is_down stop ≡ false) (none : history ≡ []) (text : List ℕ) (is_text : text ≡ snapshot_text written_format s) (short : IsShort s One)
     (renews : Renewing disk_of j j2 text) (idle : j2.batch ≡ []) where
@@ -74,13 +82,8 @@ module _ {D : Type 0} (disk_of : D → DiskState) (j j2 : View D) (d : Deployed)
       behind_program written_format o.initial.deployment o.initial.program o.snapshot o.start sound.based (choices_in written_format o.found) s state_is
       ∙ ap (λ (t : State). t.program) first
 
-  -- nothing waits in the batch
   nothing : j.batch ≡ []
-  nothing = sound.batch up ∙ ap (λ (h : List Entry). records_behind o h acked) none ∙ empty acked
-    where
-      empty : (n : ℕ) → records_behind o [] n ≡ []
-      empty zero = refl
-      empty (suc n) = refl
+  nothing = none_waits j old o history acked stop sound up none
 
   clean : IsTrue o.told → IsTrue (is_clean old)
   clean told = sound.rest told up
@@ -122,8 +125,8 @@ module _ {D : Type 0} (disk_of : D → DiskState) (j j2 : View D) (d : Deployed)
         records = inl (ap records_of same ∙ r.records ∙ ap (λ (h : List Entry). o.found ++ records_since o h) (part_none told) ∙ append-nil o.found);
       })
       (λ keeps.
-      let then = based_stands d p o.deployment s s after.head [] based after image refl refl keeps in
-      record { state = ap (λ (t : State). restart t o.deployment image) first ∙ then.0; records = inr then.1 })
+      let stood = based_stands d p o.deployment s s after.head [] based after image refl refl keeps in
+      record { state = ap (λ (t : State). restart t o.deployment image) first ∙ stood.0; records = inr stood.1 })
       stands
 
   pub compaction_leaves : IsTrue o.told → LeavesOnly old new (StandsThrough o (state_held (held o j history acked stop)))
@@ -177,7 +180,7 @@ module _ {D : Type 0} (disk_of : D → DiskState) (j j2 : View D) (d : Deployed)
           (subst (λ (x : Bool). IsSound j2 new (origin_after x) history acked (lifted stop)) (sym whole)
           (subst (λ (h : List Entry). IsSound j2 new (origin_after false) h acked (lifted stop)) (sym none)
           (subst (λ k. IsSound j2 new (origin_after false) [] k (lifted stop)) (sym none_acked) (lifted_sound stop up))));
-      state = sym (ap (replay s) none);
+      state = based_after.state ∙ sym (ap (replay (base_of (origin_after torn))) none);
       own = kept.own;
     }
 
@@ -185,8 +188,8 @@ module _ {D : Type 0} (disk_of : D → DiskState) (j j2 : View D) (d : Deployed)
       abbrev was : Held D
       was = held o j history acked stop
 
-      abbrev then : Held D
-      then = held (origin_after torn) j2 history acked last
+      abbrev new_held : Held D
+      new_held = held (origin_after torn) j2 history acked last
 
       origin_is : origin_after torn ≡ origin_anew new (state_held was) o (origin_after torn)
       origin_is = λ i. record {
@@ -219,7 +222,7 @@ module _ {D : Type 0} (disk_of : D → DiskState) (j j2 : View D) (d : Deployed)
             number_is = goes.generation_is ∙ ap (λ (x : Kept). x.head.generation) target;
           }
 
-      pub compacted : Compacts old new was (Ok n) then
+      pub compacted : Compacts old new was (Ok n) new_held
       compacted = record {
         ends = record {
           same = λ i. record { disk = j2.disk; origin = origin_after torn; limit = renews.limit i; history = history; acked = acked; stop = is_last i };
@@ -306,6 +309,11 @@ full_compacted {D} disk_of j j2 o history acked stop b s kept up none same text 
     let sized : size (renewed j.stage j.kept text).head [] ≡ size_anew o.deployment (state_held (held o j history acked stop)) =
     omega (arith, ap length kept.sound.named, ap length is_text, ap (λ (t : State). length (snapshot_text written_format t)) kept.state) in
     subst (λ (v : View D). Compacts (disk_of j.disk) (disk_of v.disk) (held o j history acked stop) (Err (begin_faults.Full size_of adding)) (held o v history acked stop)) (sym same) (record {
-      ends = (refl, full.0, full.1 ∙ sized, omega (arith, full.1, full.2));
+      ends = (refl, (full.0, full.1 ∙ sized, omega (arith, full.1, full.2)));
       any_moment = (nothing_compacted disk_of j o history acked stop b s kept up none).any_moment;
     })
+
+pub same_compacted : {D : Type 0} (disk_of : D → DiskState) (j j2 : View D) (o : Origin) (history : List Entry) (acked : ℕ) (stop : Option Stop) (b : Served) (s : State) → IsSoundWith j (disk_of j.disk) o history acked stop b s → is_down stop ≡ false → history ≡ []
+    → j2 ≡ j → Compacts (disk_of j.disk) (disk_of j2.disk) (held o j history acked stop) (Err begin_faults.NoMemory) (held o j2 history acked stop)
+same_compacted {D} disk_of j j2 o history acked stop b s kept up none same =
+    subst (λ (v : View D). Compacts (disk_of j.disk) (disk_of v.disk) (held o j history acked stop) (Err begin_faults.NoMemory) (held o v history acked stop)) (sym same) (nothing_compacted disk_of j o history acked stop b s kept up none)

@@ -4,4 +4,5 @@ pub mod Recovers
 pub mod Replays
 pub mod Steps
 pub mod Opens
+pub mod Takes
 pub mod Compacts

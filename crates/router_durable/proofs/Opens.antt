@@ -15,6 +15,7 @@ use Rattle.commit_journal.specs.declared.stage.Stage.TheVariants as stages
 use Rattle.commit_journal.specs.declared.format.Format.{Format}
 use Rattle.commit_journal.specs.declared.format.Format.TheVariants.{One, Two}
 use Rattle.commit_journal.specs.declared.record.Record.{Record}
+use Rattle.commit_journal.specs.declared.fault.BeginFault.{BeginFault}
 use Rattle.commit_journal.specs.declared.fault.JournalFault.{JournalFault}
 use Rattle.commit_journal.specs.declared.fault.JournalFault.TheVariants as journal_faults
 use Rattle.commit_journal.specs.Beginning.{MayLeave, size_left}
@@ -43,7 +44,9 @@ use Rattle.router_durable.specs.declared.fault.OpenFault.{OpenFault}
 use Rattle.router_durable.specs.declared.fault.OpenFault.TheVariants as faults
 use Rattle.router_durable.specs.Anew.{size_anew, is_first, is_anew, left_by, kept_left, IsFullAnew}
 use Rattle.router_durable.specs.Choices.{after_all, written_format}
-use Rattle.router_durable.specs.Core.{IsSound, IsSoundWith}
+use Rattle.router_durable.specs.Compacting.{Compacts}
+use Rattle.router_durable.specs.Core.{Held, IsSound, IsSoundWith}
+use Rattle.router_durable.specs.declared.fault.Stop.{Stop}
 use Rattle.router_durable.specs.Facts.{AreRead, Origin, origin_of, told_on, snapshot_in, snapshot_on, base_of, records_since, RestartsIn, StandsBefore}
 use Rattle.router_durable.specs.Opening.{fault_of, IsOpenCause, IsReplayCause, IsSmall, IsUntouched, IsUntouchedFor, IsLeftAlone, IsRefused, LeavesAs, LeavesOf, Leaves, Opens, StandsFor}
 use Rattle.router_durable.specs.Recovery.{misfit, choices_in, Past, unless_misfit, past_from, past_on, past_of, past, end_of, restart, records_of, records}
@@ -57,8 +60,8 @@ use Rattle.router_durable.proofs.Steps.{prefix_refl, held, is_held}
 
 module _ {D : Type 0} (d : Deployed) (p : Program) (deployment : List ℕ) (sides : Sides) (v : View D) (opened : IsOpenedAs deployment (recovered deployment sides) v)
     (are : v.records ≡ located (first_gate v.kept.head) v.kept.payloads) where
-  abbrev first : State
-  first = initial d p
+  abbrev state_zero : State
+  state_zero = initial d p
 
   pub payloads_are : map payload_of v.records ≡ v.kept.payloads
   payloads_are = ap (map payload_of) are ∙ payloads_located (first_gate v.kept.head) v.kept.payloads
@@ -66,17 +69,17 @@ module _ {D : Type 0} (d : Deployed) (p : Program) (deployment : List ℕ) (side
   none_of : v.kept ≡ kept_first deployment → v.records ≡ []
   none_of is = are ∙ ap (λ (k : Kept). located (first_gate k.head) k.payloads) is
 
-  past_blank : v.kept ≡ kept_first deployment → past_on first v.kept.side v.kept.head v.records ≡ Ok (record { start = first; choices = [] })
+  past_blank : v.kept ≡ kept_first deployment → past_on state_zero v.kept.side v.kept.head v.records ≡ Ok (record { start = state_zero; choices = [] })
   past_blank is =
-      let one : past_on first v.kept.side v.kept.head v.records ≡ past_on first A (kept_first deployment).head v.records = ap (λ (k : Kept). past_on first k.side k.head v.records) is in
-      let two : past_on first A (kept_first deployment).head v.records ≡ past_on first A (kept_first deployment).head [] = ap (past_on first A (kept_first deployment).head) (none_of is) in
-      let three : past_on first A (kept_first deployment).head [] ≡ Ok (record { start = first; choices = [] }) = refl in
+      let one : past_on state_zero v.kept.side v.kept.head v.records ≡ past_on state_zero A (kept_first deployment).head v.records = ap (λ (k : Kept). past_on state_zero k.side k.head v.records) is in
+      let two : past_on state_zero A (kept_first deployment).head v.records ≡ past_on state_zero A (kept_first deployment).head [] = ap (past_on state_zero A (kept_first deployment).head) (none_of is) in
+      let three : past_on state_zero A (kept_first deployment).head [] ≡ Ok (record { start = state_zero; choices = [] }) = refl in
       one ∙ two ∙ three
 
-  past_by : past first deployment sides ≡ past_on first v.kept.side v.kept.head v.records
+  past_by : past state_zero deployment sides ≡ past_on state_zero v.kept.side v.kept.head v.records
   past_by = ⊎_elim
-      (λ x. let read : past first deployment sides ≡ past_of first (Ok (Some v.kept)) = ap (past_of first) x.1 in read ∙ ap (past_on first v.kept.side v.kept.head) (sym are))
-      (λ x. let read : past first deployment sides ≡ past_of first (Ok None) = ap (past_of first) x.1 in read ∙ sym (past_blank x.2))
+      (λ x. let read : past state_zero deployment sides ≡ past_of state_zero (Ok (Some v.kept)) = ap (past_of state_zero) x.1 in read ∙ ap (past_on state_zero v.kept.side v.kept.head) (sym are))
+      (λ x. let read : past state_zero deployment sides ≡ past_of state_zero (Ok None) = ap (past_of state_zero) x.1 in read ∙ sym (past_blank x.2))
       opened
 
   pub records_by : records deployment sides ≡ map payload_of v.records
@@ -85,7 +88,7 @@ module _ {D : Type 0} (d : Deployed) (p : Program) (deployment : List ℕ) (side
       (λ x. ap records_of x.1 ∙ sym (ap (map payload_of) (none_of x.2)))
       opened
 
-  pub state_by : (start s : State) → Replays d p v.kept.head v.records start s → restart first deployment sides ≡ Ok s
+  pub state_by : (start s : State) → Replays d p v.kept.head v.records start s → restart state_zero deployment sides ≡ Ok s
   state_by start s replays =
       let n = format_number v.kept.head.format in
       ap end_of past_by
@@ -93,7 +96,7 @@ module _ {D : Type 0} (d : Deployed) (p : Program) (deployment : List ℕ) (side
       ∙ ap (λ m. end_of (unless_misfit v.kept.side m (record { start = start; choices = choices_in n (map payload_of v.records) }))) replays.fits
       ∙ ap (λ (t : State). Ok t) (sym replays.state)
 
-  pub fault_by : (wrong : Wrong) → past_on first v.kept.side v.kept.head v.records ≡ Err wrong → restart first deployment sides ≡ Err wrong
+  pub fault_by : (wrong : Wrong) → past_on state_zero v.kept.side v.kept.head v.records ≡ Err wrong → restart state_zero deployment sides ≡ Err wrong
   fault_by wrong is = ap end_of (past_by ∙ is)
 
   -- sides that stand for the same are read as the same
@@ -212,8 +215,8 @@ module _ {D : Type 0} (disk_of : D → DiskState) (d : Deployed) (p : Program) (
     bytes : IsTrue was.told → origin.counting ≡ on w.kept.side now.seen
     bytes is = told_bytes now.told (on w.kept.side now.seen) (told is)
 
-    end : ℕ
-    end = length (spelled w.kept.head w.kept.payloads)
+    abbrev last_gate : ℕ
+    last_gate = length (spelled w.kept.head w.kept.payloads)
 
     pub fresh_sound : IsSound w now origin [] 0 None
     fresh_sound = record {
@@ -234,9 +237,9 @@ module _ {D : Type 0} (disk_of : D → DiskState) (d : Deployed) (p : Program) (
       rest = λ is up. (durable is).clean;
       whole = λ up. refl;
       left = λ is whole down. absurd (cc down);
-      counted = λ is. ap payloads_on (bytes is) ∙ payloads_on_stands w.kept end [] now.seen (durable is).whole ∙ payloads is;
-      text = λ is. ap snapshot_on (bytes is) ∙ text_on_stands w.kept end [] now.seen (durable is).whole;
-      sized = λ is. ap length (bytes is) ∙ length-stands w.kept end now.seen (durable is).whole ∙ ap (size w.kept.head) (payloads is);
+      counted = λ is. ap payloads_on (bytes is) ∙ payloads_on_stands w.kept last_gate [] now.seen (durable is).whole ∙ payloads is;
+      text = λ is. ap snapshot_on (bytes is) ∙ text_on_stands w.kept last_gate [] now.seen (durable is).whole;
+      sized = λ is. ap length (bytes is) ∙ length-stands w.kept last_gate now.seen (durable is).whole ∙ ap (size w.kept.head) (payloads is);
       safe = record {
         told = told;
         later = later;
@@ -251,9 +254,9 @@ module _ {D : Type 0} (disk_of : D → DiskState) (d : Deployed) (p : Program) (
     fresh_sound_with b t is own = record { sound = fresh_sound; state = is ∙ based.state; own = own }
 
 -- what the side keeps then
-pub leaves_kept : {D : Type 0} (disk_of : D → DiskState) (first : State) (deployment : List ℕ) (opened : D) (read : List Record) (start : State) (w : View D) (torn : Bool) (kept : Kept) → w.kept ≡ kept → w.kept.head.deployment ≡ deployment
-    → map payload_of w.records ≡ kept.payloads → IsTrue (disk_of w.disk).told → IsDurable w.kept (disk_of w.disk) → Leaves deployment kept (disk_of w.disk).seen (origin_of disk_of first deployment opened read start w torn)
-leaves_kept {D} disk_of first deployment opened read start w torn kept is named are told durable = record {
+pub leaves_kept : {D : Type 0} (disk_of : D → DiskState) (state_zero : State) (deployment : List ℕ) (opened : D) (read : List Record) (start : State) (w : View D) (torn : Bool) (kept : Kept) → w.kept ≡ kept → w.kept.head.deployment ≡ deployment
+    → map payload_of w.records ≡ kept.payloads → IsTrue (disk_of w.disk).told → IsDurable w.kept (disk_of w.disk) → Leaves deployment kept (disk_of w.disk).seen (origin_of disk_of state_zero deployment opened read start w torn)
+leaves_kept {D} disk_of state_zero deployment opened read start w torn kept is named are told durable = record {
   keeps = subst (λ (b : List ℕ). recovered b (disk_of w.disk).seen ≡ Ok (Some w.kept)) named durable.seen ∙ ap (λ (k : Kept). Ok (Some k)) is;
   snapshot = ap (λ (k : Kept). k.head.snapshot) is;
   found = are;
@@ -293,11 +296,15 @@ looks_alone old new failed looks = record {
   moments = leaves_call old new old.images failed (λ image now. now) looks.passes looks.images;
 }
 
+leaves_of : (kept : Kept) (f : Format) (old new : DiskState) → ((image : Sides) → new.images image → old.images image) → LeavesOf kept f old new
+leaves_of kept One old new same = leaves_itself (other kept.side) 0 old new same
+leaves_of kept Two old new same = leaves_itself kept.side (size kept.head kept.payloads) old new same
+
 -- nothing else may be left than before
 pub leaves_same : (read : Result (Option Kept) Wrong) (old new : DiskState) → ((image : Sides) → new.images image → old.images image) → LeavesAs read old new
 leaves_same (Err wrong) old new same = same
 leaves_same (Ok None) old new same = leaves_itself A 0 old new same
-leaves_same (Ok (Some kept)) old new same = leaves_itself kept.side (size kept.head kept.payloads) old new same
+leaves_same (Ok (Some kept)) old new same = leaves_of kept kept.head.format old new same
 
 -- of what was read so much is left alone
 leaves_taken : (stage : Stage) (kept : Kept) (f : Format) (old mid new : DiskState) → Looks old mid ⊥ → LeavesTaken stage kept f mid new → LeavesTaken stage kept f old new
@@ -343,24 +350,24 @@ size_renewed : (deployment : List ℕ) (s : State) (stage : Stage) (kept : Kept)
 size_renewed deployment s stage kept named = omega (arith, ap length named)
 
 untouched_then : (a b c : DiskState) → IsUntouched a b → IsUntouched b c → IsUntouched a c
-untouched_then a b c first second = record {
-  told = second.told ∙ first.told;
-  seen = second.seen ∙ first.seen;
-  images = λ image now. first.images image (second.images image now);
-  settled = λ side is. second.settled side (first.settled side is);
+untouched_then a b c one two = record {
+  told = two.told ∙ one.told;
+  seen = two.seen ∙ one.seen;
+  images = λ image now. one.images image (two.images image now);
+  settled = λ side is. two.settled side (one.settled side is);
 }
 
 untouched_for : (fault : OpenFault) (a b c : DiskState) → IsUntouched a b → IsUntouchedFor fault b c → IsUntouchedFor fault a c
-untouched_for faults.DiskFault a b c first second = tt
-untouched_for (faults.BadJournal side at kind) a b c first second = untouched_then a b c first second
-untouched_for (faults.OtherDeployment kept_len place) a b c first second = untouched_then a b c first second
-untouched_for (faults.Full size adding) a b c first second = untouched_then a b c first second
-untouched_for faults.NoMemory a b c first second = untouched_then a b c first second
+untouched_for faults.DiskFault a b c one two = tt
+untouched_for (faults.BadJournal side at kind) a b c one two = untouched_then a b c one two
+untouched_for (faults.OtherDeployment kept_len place) a b c one two = untouched_then a b c one two
+untouched_for (faults.Full size adding) a b c one two = untouched_then a b c one two
+untouched_for faults.NoMemory a b c one two = untouched_then a b c one two
 
 module _ {D : Type 0} (disk_of : D → DiskState) (a : D) (d : Deployed) (p : Program) (keepable : IsKeepable d p) (deployment : List ℕ) (j : View D) (o : Opened disk_of (disk_of a) deployment j)
     (start s : State) (replays : Replays d p j.kept.head j.records start s) (w : View D) (takes : Takes disk_of s j w) where
-  abbrev old : DiskState
-  old = disk_of a
+  abbrev old_disk : DiskState
+  old_disk = disk_of a
 
   abbrev now_disk : DiskState
   now_disk = disk_of w.disk
@@ -368,24 +375,24 @@ module _ {D : Type 0} (disk_of : D → DiskState) (a : D) (d : Deployed) (p : Pr
   abbrev zero_state : State
   zero_state = initial d p
 
-  told_there : IsTrue old.told → IsTrue (disk_of j.disk).told
+  told_there : IsTrue old_disk.told → IsTrue (disk_of j.disk).told
   told_there told = subst IsTrue (sym o.looks.passes.told) told
 
   can : CanBeKept s
   can = replayed_kept d p keepable j.kept.head j.records start s replays
 
-  pub state_found : IsTrue old.told → restart zero_state deployment old.seen ≡ Ok s
-  state_found told = state_by d p deployment old.seen j (o.opened told) (o.records told) start s replays
+  pub state_found : IsTrue old_disk.told → restart zero_state deployment old_disk.seen ≡ Ok s
+  state_found told = state_by d p deployment old_disk.seen j (o.opened told) (o.records told) start s replays
 
   -- what stands as before
-  module _ (told : IsTrue old.told) (image : Sides) (stands : Stands j.stage j.kept image) where
-    same_read : recovered deployment image ≡ recovered deployment old.seen
-    same_read = stands_same d p deployment old.seen j (o.opened told) (o.records told) image o.named stands
+  module _ (told : IsTrue old_disk.told) (image : Sides) (stands : Stands j.stage j.kept image) where
+    same_read : recovered deployment image ≡ recovered deployment old_disk.seen
+    same_read = stands_same d p deployment old_disk.seen j (o.opened told) (o.records told) image o.named stands
 
     pub state_before : restart zero_state deployment image ≡ Ok s
-    state_before = ap (λ r. end_of (past_of zero_state r)) same_read ∙ state_found told
+    state_before = ap (λ (r : Result (Option Kept) Wrong). end_of (past_of zero_state r)) same_read ∙ state_found told
 
-    pub records_before : records deployment image ≡ records deployment old.seen
+    pub records_before : records deployment image ≡ records deployment old_disk.seen
     records_before = ap records_of same_read
 
   -- a side that is taken over stands for the state
@@ -395,45 +402,45 @@ module _ {D : Type 0} (disk_of : D → DiskState) (a : D) (d : Deployed) (p : Pr
         based_left d p deployment j.stage j.kept j.records start s o.named replays can (replayed_deployment d p keepable j.kept.head j.records start s replays)
         (replayed_program d p keepable j.kept.head j.records start s replays) short
 
-    payloads_then : IsTrue old.told → map payload_of (records_left j.records j.kept.head.format) ≡ (kept_taken s j).payloads
-    payloads_then told = left_payloads s j.stage j.kept j.records j.kept.head.format (payloads_are d p deployment old.seen j (o.opened told) (o.records told))
+    payloads_then : IsTrue old_disk.told → map payload_of (records_left j.records j.kept.head.format) ≡ (kept_taken s j).payloads
+    payloads_then told = left_payloads s j.stage j.kept j.records j.kept.head.format (payloads_are d p deployment old_disk.seen j (o.opened told) (o.records told))
 
-  anew_first : j.kept.head.format ≡ One → IsTrue old.told → IsTrue (is_anew (recovered deployment old.seen))
+  anew_first : j.kept.head.format ≡ One → IsTrue old_disk.told → IsTrue (is_anew (recovered deployment old_disk.seen))
   anew_first is told = ⊎_elim
       (λ x. ap is_anew x.1 ∙ ap is_first is)
       (λ x. ap is_anew x.1)
       (o.opened told)
 
-  anew_blank : j.stage ≡ stages.Blank → IsTrue old.told → IsTrue (is_anew (recovered deployment old.seen))
+  anew_blank : j.stage ≡ stages.Blank → IsTrue old_disk.told → IsTrue (is_anew (recovered deployment old_disk.seen))
   anew_blank blank told = ⊎_elim
       (λ x. let never : Found ≡ stages.Blank = sym x.0 ∙ blank in absurd (cc never))
       (λ x. ap is_anew x.1)
       (o.opened told)
 
   -- by which format it is
-  records_stand : (f : Format) → j.kept.head.format ≡ f → IsTrue old.told → (image : Sides) → records deployment image ≡ (left_by s j.stage j.kept f).payloads
-      → (records deployment image ≡ records deployment old.seen) ⊎ (IsTrue (is_anew (recovered deployment old.seen)) × (records deployment image ≡ []))
+  records_stand : (f : Format) → j.kept.head.format ≡ f → IsTrue old_disk.told → (image : Sides) → records deployment image ≡ (left_by s j.stage j.kept f).payloads
+      → (records deployment image ≡ records deployment old_disk.seen) ⊎ (IsTrue (is_anew (recovered deployment old_disk.seen)) × (records deployment image ≡ []))
   records_stand One is told image are = inr (anew_first is told, are)
-  records_stand Two is told image are = inl (are ∙ sym (payloads_are d p deployment old.seen j (o.opened told) (o.records told)) ∙ sym (records_by d p deployment old.seen j (o.opened told) (o.records told)))
+  records_stand Two is told image are = inl (are ∙ sym (payloads_are d p deployment old_disk.seen j (o.opened told) (o.records told)) ∙ sym (records_by d p deployment old_disk.seen j (o.opened told) (o.records told)))
 
-  taken_stands : IsTrue old.told → (image : Sides) → StandsOrTaken s j image → StandsFor zero_state deployment s old.seen image
+  taken_stands : IsTrue old_disk.told → (image : Sides) → StandsOrTaken s j image → StandsFor zero_state deployment s old_disk.seen image
   taken_stands told image stands = ⊎_elim
       (λ before. record { state = state_before told image before; records = inl (records_before told image before) })
       (λ taken.
-      let then = based_stands d p deployment s (start_left s start j.kept.head.format) (kept_taken s j).head (records_left j.records j.kept.head.format) (based_then taken.0) (kept_taken s j) image refl
+      let stood = based_stands d p deployment s (start_left s start j.kept.head.format) (kept_taken s j).head (records_left j.records j.kept.head.format) (based_then taken.0) (kept_taken s j) image refl
       (sym (payloads_then taken.0 told)) taken.1 in
-      record { state = then.0; records = records_stand j.kept.head.format refl told image (then.1 ∙ payloads_then taken.0 told) })
+      record { state = stood.0; records = records_stand j.kept.head.format refl told image (stood.1 ∙ payloads_then taken.0 told) })
       stands
 
   -- from the opening's start on
-  all_leaves : IsTrue (is_clean old) → LeavesOnly old now_disk (StandsOrTaken s j)
+  all_leaves : IsTrue (is_clean old_disk) → LeavesOnly old_disk now_disk (StandsOrTaken s j)
   all_leaves clean =
-      leaves_then old (disk_of j.disk) now_disk (StandsOrTaken s j)
-      (leaves_what old (disk_of j.disk) _ _ (o.stays clean).leaves (λ image same. inl (subst (Stands j.stage j.kept) (sym same) (o.seen (clean_told old clean)))))
+      leaves_then old_disk (disk_of j.disk) now_disk (StandsOrTaken s j)
+      (leaves_what old_disk (disk_of j.disk) _ _ (o.stays clean).leaves (λ image same. inl (subst (Stands j.stage j.kept) (sym same) (o.seen (clean_told old_disk clean)))))
       (takes.leaves (o.stays clean).clean)
 
-  state_leaves : IsTrue (is_clean old) → LeavesOnly old now_disk (StandsFor zero_state deployment s old.seen)
-  state_leaves clean = leaves_what old now_disk _ _ (all_leaves clean) (taken_stands (clean_told old clean))
+  state_leaves : IsTrue (is_clean old_disk) → LeavesOnly old_disk now_disk (StandsFor zero_state deployment s old_disk.seen)
+  state_leaves clean = leaves_what old_disk now_disk _ _ (all_leaves clean) (taken_stands (clean_told old_disk clean))
 
   -- ---- it is taken over
 
@@ -449,22 +456,22 @@ module _ {D : Type 0} (disk_of : D → DiskState) (a : D) (d : Deployed) (p : Pr
         subst (λ (h : Head). Based d p deployment s start_then h w.records) (sym taken.head)
         (subst (λ (rs : List Record). Based d p deployment s start_then (kept_taken s j).head rs) (sym taken.records) (based_then taken.short))
 
-    payloads_now : IsTrue old.told → map payload_of w.records ≡ (kept_taken s j).payloads
+    payloads_now : IsTrue old_disk.told → map payload_of w.records ≡ (kept_taken s j).payloads
     payloads_now told = ap (map payload_of) taken.records ∙ payloads_then taken.short told
 
-    kept_now : IsTrue old.told → w.kept ≡ kept_taken s j
+    kept_now : IsTrue old_disk.told → w.kept ≡ kept_taken s j
     kept_now told = taken.kept (told_there told)
 
-    told_now : IsTrue old.told → IsTrue now_disk.told
+    told_now : IsTrue old_disk.told → IsTrue now_disk.told
     told_now told = subst IsTrue (sym takes.told) (told_there told)
 
-    since_then : IsTrue (is_clean old) → (image : Sides) → now_disk.since old.moment image → RestartsIn origin_then [] 0 image ⊎ StandsBefore origin_then image
+    since_then : IsTrue (is_clean old_disk) → (image : Sides) → now_disk.since old_disk.moment image → RestartsIn origin_then [] 0 image ⊎ StandsBefore origin_then image
     since_then clean image left =
-        let told = clean_told old clean in
+        let told = clean_told old_disk clean in
         ⊎_elim
         (λ before. inr (record {
           state = state_before told image before ∙ ap (λ (t : State). Ok t) based_now.state;
-          records = records_before told image before ∙ records_by d p deployment old.seen j (o.opened told) (o.records told);
+          records = records_before told image before ∙ records_by d p deployment old_disk.seen j (o.opened told) (o.records told);
         }))
         (λ is. inl (keeps_restarts disk_of d p deployment s start_then w a j.records can based_now taken.stage taken.batch (kept_taken s j) image (sym taken.head) (sym (payloads_now told)) is.1))
         ((all_leaves clean).each image left)
@@ -476,7 +483,7 @@ module _ {D : Type 0} (disk_of : D → DiskState) (a : D) (d : Deployed) (p : Pr
           (λ told. ap (λ (k : Kept). k.payloads) (kept_now told) ∙ sym (payloads_now told))
           (λ clean. (all_leaves clean).later) (omega (arith, o.looks.passes.faults, takes.rising)) since_then b t is own
 
-    fits_then : IsTrue old.told → IsTrue (is_anew (recovered deployment old.seen)) → size_anew deployment s ≤ limit
+    fits_then : IsTrue old_disk.told → IsTrue (is_anew (recovered deployment old_disk.seen)) → size_anew deployment s ≤ limit
     fits_then told anew = by j.kept.head.format refl taken.fits
       where
         by : (f : Format) → j.kept.head.format ≡ f → size_taken j.stage j.kept f (left_by s j.stage j.kept f) ≤ j.limit → size_anew deployment s ≤ limit
@@ -484,13 +491,13 @@ module _ {D : Type 0} (disk_of : D → DiskState) (a : D) (d : Deployed) (p : Pr
         by Two is fits = ⊎_elim
             (λ x. let never : false ≡ true = sym (ap is_anew x.1 ∙ ap is_first is) ∙ anew in absurd (cc never))
             (λ x.
-            let first : Ok s ≡ Ok zero_state = sym (state_found told) ∙ ap (λ r. end_of (past_of zero_state r)) x.1 in
+            let first : Ok s ≡ Ok zero_state = sym (state_found told) ∙ ap (λ (r : Result (Option Kept) Wrong). end_of (past_of zero_state r)) x.1 in
             let same : s ≡ zero_state = cc first in
             let sized : size j.kept.head [] ≤ j.limit = subst (λ (g : Stage). size_begun g j.kept.head ≤ j.limit) x.0 fits in
             omega (arith, sized, limited, size_first d p deployment j.kept.head o.named (o.plain x.0), ap (size_anew deployment) same))
             (o.opened told)
 
-    pub opens_then : Opens old now_disk zero_state deployment limit (held origin_then w [] 0 None)
+    pub opens_then : Opens old_disk now_disk zero_state deployment limit (held origin_then w [] 0 None)
     opens_then = record {
       history = refl;
       acked = refl;
@@ -498,13 +505,13 @@ module _ {D : Type 0} (disk_of : D → DiskState) (a : D) (d : Deployed) (p : Pr
       limited = taken.limit ∙ limited;
       origin = refl;
       state = λ told. state_found told ∙ ap (λ (t : State). Ok t) based_now.state;
-      before = λ told. sym (records_by d p deployment old.seen j (o.opened told) (o.records told));
+      before = λ told. sym (records_by d p deployment old_disk.seen j (o.opened told) (o.records told));
       left = λ told.
-          let left : kept_taken s j ≡ kept_left deployment (base_of origin_then) (recovered deployment old.seen) =
-          left_read deployment s (recovered deployment old.seen) j (o.opened told) ∙ ap (λ (t : State). kept_left deployment t (recovered deployment old.seen)) based_now.state in
+          let left : kept_taken s j ≡ kept_left deployment (base_of origin_then) (recovered deployment old_disk.seen) =
+          left_read deployment s (recovered deployment old_disk.seen) j (o.opened told) ∙ ap (λ (t : State). kept_left deployment t (recovered deployment old_disk.seen)) based_now.state in
           leaves_kept disk_of zero_state deployment a j.records start_then w false _ (kept_now told ∙ left) based_now.named (payloads_now told ∙ ap (λ (k : Kept). k.payloads) left) (told_now told) (taken.durable (told_there told));
       fits = λ told anew. subst (λ (t : State). size_anew deployment t ≤ limit) based_now.state (fits_then told anew);
-      any_moment = λ clean. subst (λ (t : State). LeavesOnly old now_disk (StandsFor zero_state deployment t old.seen)) based_now.state (state_leaves clean);
+      any_moment = λ clean. subst (λ (t : State). LeavesOnly old_disk now_disk (StandsFor zero_state deployment t old_disk.seen)) based_now.state (state_leaves clean);
       held = is_held w now_disk origin_then [] 0 None (sound_opened_alone);
     }
       where
@@ -534,35 +541,37 @@ module _ {D : Type 0} (disk_of : D → DiskState) (a : D) (d : Deployed) (p : Pr
     small_then faults.DiskFault large = tt
     small_then faults.NoMemory large = tt
 
-    blank_state : j.stage ≡ stages.Blank → IsTrue old.told → restart zero_state deployment old.seen ≡ Ok zero_state
-    blank_state blank told = ⊎_elim
+    blank_state : j.stage ≡ stages.Blank → IsTrue old_disk.told → restart zero_state deployment old_disk.seen ≡ Ok zero_state
+    blank_state blank told = ⊎_elim {C = restart zero_state deployment old_disk.seen ≡ Ok zero_state}
         (λ x. let never : Found ≡ stages.Blank = sym x.0 ∙ blank in absurd (cc never))
-        (λ x. ap (λ r. end_of (past_of zero_state r)) x.1)
+        (λ x.
+        let read : restart zero_state deployment old_disk.seen ≡ end_of (past_of zero_state (Ok None)) = ap (λ (r : Result (Option Kept) Wrong). end_of (past_of zero_state r)) x.1 in
+        read)
         (o.opened told)
 
-    cause_then : (fault : OpenFault) → IsLarge (size_taken j.stage j.kept j.kept.head.format (kept_taken s j)) j.limit fault → IsTrue old.told → IsOpenCause zero_state limit deployment old.seen fault
+    cause_then : (fault : OpenFault) → IsLarge (size_taken j.stage j.kept j.kept.head.format (kept_taken s j)) j.limit fault → IsTrue old_disk.told → IsOpenCause zero_state limit deployment old_disk.seen fault
     cause_then (faults.BadJournal side at kind) large told = absurd large
     cause_then (faults.OtherDeployment kept_len place) large told = absurd large
     cause_then (faults.Full size_of adding) large told = ⊎_elim
         (λ x. (s, state_found told, anew_first x.0 told, x.1))
         (λ x.
-        let first : restart zero_state deployment old.seen ≡ Ok zero_state = blank_state x.0 told in
+        let first : restart zero_state deployment old_disk.seen ≡ Ok zero_state = blank_state x.0 told in
         (zero_state, first, anew_blank x.0 told, x.1))
         (full_by j.kept.head.format refl size_of adding large)
     cause_then faults.DiskFault large told = tt
     cause_then faults.NoMemory large told = tt
 
-    pub refused_then : IsRefused old now_disk zero_state deployment limit fault
+    pub refused_then : IsRefused old_disk now_disk zero_state deployment limit fault
     refused_then = record {
       cause = λ told. cause_then fault refused.cause told;
       small = small_then fault refused.cause;
       failed = λ is. let up = refused.rose is in omega (arith, up, o.looks.passes.faults);
-      untouched = untouched_for fault old (disk_of j.disk) now_disk (looks_untouched old (disk_of j.disk) ⊥ o.looks) refused.untouched;
+      untouched = untouched_for fault old_disk (disk_of j.disk) now_disk (looks_untouched old_disk (disk_of j.disk) ⊥ o.looks) refused.untouched;
       any_moment = λ clean t is.
-          let found : Ok s ≡ Ok t = sym (state_found (clean_told old clean)) ∙ is in
+          let found : Ok s ≡ Ok t = sym (state_found (clean_told old_disk clean)) ∙ is in
           let same : s ≡ t = cc found in
-          subst (λ (u : State). LeavesOnly old now_disk (StandsFor zero_state deployment u old.seen)) same (state_leaves clean);
-      stays = λ told. leaves_read deployment (recovered deployment old.seen) j old (disk_of j.disk) now_disk (o.opened told) o.looks (takes.stays (told_there told));
+          subst (λ (u : State). LeavesOnly old_disk now_disk (StandsFor zero_state deployment u old_disk.seen)) same (state_leaves clean);
+      stays = λ told. leaves_read deployment (recovered deployment old_disk.seen) j old_disk (disk_of j.disk) now_disk (o.opened told) o.looks (takes.stays (told_there told));
       left_alone = λ told wrong is. let never : Ok s ≡ Err wrong = sym (state_found told) ∙ is in absurd (cc never);
     }
 
@@ -677,3 +686,11 @@ pub with_held : {D : Type 0} (old new : DiskState) (first : State) (bytes : List
 with_held old new first bytes limit j o p h same empty opens =
     subst (λ (x : Origin). Opens old new first bytes limit (held x j h 0 None)) (sym same)
     (subst (λ (x : List Entry). Opens old new first bytes limit (held p j x 0 None)) (sym empty) opens)
+
+-- the same over an origin that is the same
+pub rebased : {D : Type 0} (j : View D) (disk : DiskState) (o p : Origin) (h : List Entry) (acked : ℕ) (stop : Option Stop) (b : Served) (s : State) → o ≡ p → IsSoundWith j disk p h acked stop b s → IsSoundWith j disk o h acked stop b s
+rebased j disk o p h acked stop b s same sound = subst (λ (x : Origin). IsSoundWith j disk x h acked stop b s) (sym same) sound
+
+pub with_origin : {D : Type 0} (before after : DiskState) (old : Held D) (r : Result ℕ BeginFault) (o p : Origin) (j : View D) (h : List Entry) (acked : ℕ) (stop : Option Stop) → o ≡ p
+    → Compacts before after old r (held p j h acked stop) → Compacts before after old r (held o j h acked stop)
+with_origin before after old r o p j h acked stop same compacts = subst (λ (x : Origin). Compacts before after old r (held x j h acked stop)) (sym same) compacts

@@ -202,3 +202,13 @@ pub snapshot_cause : (first : State) (side which : Side) (head : Head) (rs : Lis
     → IsReplayCause (past_on first side head rs) (faults.BadJournal which 0 kinds.Snapshot)
 snapshot_cause first side which head rs is_side none =
     ap (past_from side (format_number head.format) rs) none ∙ ap (λ (x : Side). Err (Bad x 0 kinds.Snapshot)) (sym is_side)
+
+-- a side that was replayed
+pub replays_on : (d : Deployed) (p : Program) (head : Head) (rs list : List Record) (n : ℕ) (s start t : State) → n ≡ format_number head.format → list ≡ rs → start ≡ s
+    → state_of_snapshot (format_number head.format) d p head.snapshot ≡ Some s → misfit n s list ≡ None → t ≡ after_all s (choices_in n (map payload_of list)) → Replays d p head rs start t
+replays_on d p head rs list n s start t is_n is_list is_start started fits state =
+    subst (λ (u : State). Replays d p head rs u t) (sym is_start) (record {
+      started = started;
+      fits = ap (λ (l : List Record). misfit (format_number head.format) s l) (sym is_list) ∙ ap (λ k. misfit k s list) (sym is_n) ∙ fits;
+      state = state ∙ ap (λ k. after_all s (choices_in k (map payload_of list))) is_n ∙ ap (λ (l : List Record). after_all s (choices_in (format_number head.format) (map payload_of l))) is_list;
+    })

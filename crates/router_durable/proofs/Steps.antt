@@ -401,12 +401,12 @@ module _ {D : Type 0} (j : View D) (disk : DiskState) (o : Origin) (history : Li
       let is : recovered o.deployment image ≡ Ok (Some j.kept) = subst (λ (d : List ℕ). recovered d image ≡ Ok (Some j.kept)) sound.named keeps in
       ap records_of is ∙ sound.kept told up ∙ ap (λ (ps : List (List ℕ)). ps ++ records_since o (take acked history)) (sym (sound.counted told))
 
-  based_on : state_of_snapshot written_format o.initial.deployment o.initial.program j.kept.head.snapshot ≡ Some o.start
-  based_on = ap (state_of_snapshot written_format o.initial.deployment o.initial.program) sound.stands ∙ sound.based
+  stands_on : state_of_snapshot written_format o.initial.deployment o.initial.program j.kept.head.snapshot ≡ Some o.start
+  stands_on = ap (state_of_snapshot written_format o.initial.deployment o.initial.program) sound.stands ∙ sound.based
 
   pub again_now : IsTrue o.told → is_down stop ≡ false → RestartsIn o history acked disk.seen
   again_now told up =
-      restarts_in o history (take acked history) acked j.kept disk.seen sound.found sound.named based_on sound.format (sound.seen told up) (sound.kept told up)
+      restarts_in o history (take acked history) acked j.kept disk.seen sound.found sound.named stands_on sound.format (sound.seen told up) (sound.kept told up)
       (legal_front (base_of o) (take acked history) (drop acked history) (subst (Legal (base_of o)) (sym (take_drop acked history)) sound.legal))
       (again_front (base_of o) (take acked history) (drop acked history) (subst (λ (h : List Entry). AreReadAgain (base_of o) (choices_of h)) (sym (take_drop acked history)) sound.again))
       (drop acked history, take_drop acked history) (omega (arith, length_take acked history sound.within))

@@ -21,10 +21,14 @@ impl<'d, D: Disk> Core<'d, D> {
         };
         match self.journal.renew(&text) {
             Ok(generation) => {
-                self.opened = Snapshot::of(self.journal.disk());
-                self.read = Snapshot::of(&self.journal);
-                self.begun = Snapshot::of(&self.journal);
-                self.start = Snapshot::of(&self.state);
+                let opened = Snapshot::of(self.journal.disk());
+                let read = Snapshot::of(&self.journal);
+                let begun = Snapshot::of(&self.journal);
+                let start = Snapshot::of(&self.state);
+                self.opened = opened;
+                self.read = read;
+                self.begun = begun;
+                self.start = start;
                 self.stop = lifted(self.stop);
                 Ok(generation)
             }
