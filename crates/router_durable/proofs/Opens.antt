@@ -254,9 +254,9 @@ module _ {D : Type 0} (disk_of : D → DiskState) (d : Deployed) (p : Program) (
     fresh_sound_with b t is own = record { sound = fresh_sound; state = is ∙ based.state; own = own }
 
 -- what the side keeps then
-pub leaves_kept : {D : Type 0} (disk_of : D → DiskState) (state_zero : State) (deployment : List ℕ) (opened : D) (read : List Record) (start : State) (w : View D) (torn : Bool) (kept : Kept) → w.kept ≡ kept → w.kept.head.deployment ≡ deployment
-    → map payload_of w.records ≡ kept.payloads → IsTrue (disk_of w.disk).told → IsDurable w.kept (disk_of w.disk) → Leaves deployment kept (disk_of w.disk).seen (origin_of disk_of state_zero deployment opened read start w torn)
-leaves_kept {D} disk_of state_zero deployment opened read start w torn kept is named are told durable = record {
+pub leaves_kept : {D : Type 0} (disk_of : D → DiskState) (begin : State) (deployment : List ℕ) (opened : D) (read : List Record) (start : State) (w : View D) (torn : Bool) (kept : Kept) → w.kept ≡ kept → w.kept.head.deployment ≡ deployment
+    → map payload_of w.records ≡ kept.payloads → IsTrue (disk_of w.disk).told → IsDurable w.kept (disk_of w.disk) → Leaves deployment kept (disk_of w.disk).seen (origin_of disk_of begin deployment opened read start w torn)
+leaves_kept {D} disk_of begin deployment opened read start w torn kept is named are told durable = record {
   keeps = subst (λ (b : List ℕ). recovered b (disk_of w.disk).seen ≡ Ok (Some w.kept)) named durable.seen ∙ ap (λ (k : Kept). Ok (Some k)) is;
   snapshot = ap (λ (k : Kept). k.head.snapshot) is;
   found = are;

@@ -238,7 +238,9 @@ fn started<D: Disk>(planning: Planning<'_>, journal: &Journal<D>) -> Result<Stat
     ensures bad { IfErr result (λ e. IsReplayCause (past_on (initial_of planning.entry.deployment.now.parts planning.entry.deployment.now.codes) journal.now.kept.side journal.now.kept.head journal.now.records) e) }
 {
     let Planning {
-        alloc, deployment, ..
+        alloc,
+        deployment,
+        ..
     } = planning;
     let snapshot = journal.snapshot();
     if snapshot.is_empty() {

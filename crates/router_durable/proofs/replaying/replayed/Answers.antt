@@ -1,9 +1,5 @@
-use Rattle.std.proofs.Common.{◌≡◌, None, ap, map, sym, subst, ◌∙◌}
-use Rattle.commit_journal.specs.Spelling.{format_number}
-use Rattle.commit_journal.specs.Views.{payload_of}
-use Rattle.router_durable.specs.Choices.{after_all}
+use Rattle.std.proofs.Common.{ap}
 use Rattle.router_durable.specs.Facts.{initial_of}
-use Rattle.router_durable.specs.Recovery.{choices_in, misfit}
 use Rattle.router_durable.proofs.Replays.{replay_cause, replays_on}
 use Rattle.router_durable.proofs.replaying.replayed.Goals as goal
 

@@ -1,6 +1,4 @@
-use Rattle.std.proofs.Common.{None, Some, refl, sym, ◌∙◌}
-use Rattle.deploy_model.specs.Resolving.{deployed_of}
-use Rattle.script_types.specs.ProgramOf.{kept_program}
+use Rattle.std.proofs.Common.{Err, None, Some, ap, sym, ◌∙◌}
 use Rattle.router_durable.specs.Facts.{initial_of}
 use Rattle.router_durable.proofs.Replays.{first_stands, snapshot_stands, snapshot_cause}
 use Rattle.router_durable.proofs.replaying.started.Goals as goal
@@ -15,4 +13,4 @@ returns-in-Ok-from_bytes-clause-started g c =
 pub returns-in-Err-Bad-clause-bad : goal.returns-in-Err-Bad-clause-bad
 returns-in-Err-Bad-clause-bad g c =
     snapshot_cause (initial_of c.args.planning.deployment.now.parts c.args.planning.deployment.now.codes) c.args.journal.now.kept.side c.side.result c.args.journal.now.kept.head c.args.journal.now.records c.side.ensures.side
-    (snapshot_stands _ _ _ _ c.snapshot-snapshot.result.now c.snapshot-snapshot.ensures (sym c.is_empty.ensures ∙ c.if-is_empty.false) _ c.format.ensures.format None (c.from_bytes.ensures.bad refl))
+    (snapshot_stands _ _ _ _ c.snapshot-snapshot.result.now c.snapshot-snapshot.ensures (sym c.is_empty.ensures ∙ c.if-is_empty.false) _ c.format.ensures.format None (c.in-Err-Bad.ensures.bad (ap (λ f. Err f) c.in-Err-Bad.field-0-is)))

@@ -28,7 +28,7 @@ invariant_of-self g c =
     rebased c.renew.new.self _ _ _ _ _ _ _ _
     (same_origin g.D.Disk.disk _ _ _ _ _ _ _ _ _ _ _ (c.of-opened.ensures ∙ c.disk.ensures) c.of-read.ensures c.of-begun.ensures (ap (λ v. v.state) c.of-start.ensures))
     (compacted_sound g.D.Disk.disk c.self.inside.journal c.renew.new.self _ _ _ refl _ _ _ _ _ c.self.invariant up none _ (c.deref.ensures.value ∙ c.in-Ok.ensures.text) c.in-Ok.ensures.short
-    (record { told = r.runs.told; rising = r.runs.rising; limit = r.others.1; leaves = r.any_moment }) ok.goes_on.empty c.in-Ok-renew.generation ok.goes_on ok.renewed ok.fits _ (c.self.invariant.sound.whole up) _ c.lifted.ensures)
+    (record { told = r.runs.told; rising = r.runs.rising; limit = r.others.1; leaves = r.any_moment }) ok.goes_on.empty c.in-Ok-renew.generation ok.goes_on ok.renewed ok.fits _ (c.self.invariant.sound.whole up) _ c.lifted-self-inside.ensures)
 
 pub returns-in-Ok-renew : goal.returns-in-Ok-renew
 returns-in-Ok-renew g c =
@@ -36,10 +36,10 @@ returns-in-Ok-renew g c =
     let none = ap (λ v. v.history) c.self.view_is ∙ c.requires.none in
     let r = c.renew.ensures in
     let ok = c.in-Ok-renew.ensures in
-    rw (← c.self.view_is) (with_origin _ _ _ _ _ _ _ _ _ _
+    rw (← c.self.view_is) (with_origin _ _ _ _ _ _ c.renew.new.self _ _ _
     (same_origin g.D.Disk.disk _ _ _ _ _ _ _ _ _ _ _ (c.of-opened.ensures ∙ c.disk.ensures) c.of-read.ensures c.of-begun.ensures (ap (λ v. v.state) c.of-start.ensures))
     (compacted g.D.Disk.disk c.self.inside.journal c.renew.new.self _ _ _ refl _ _ _ _ _ c.self.invariant up none _ (c.deref.ensures.value ∙ c.in-Ok.ensures.text) c.in-Ok.ensures.short
-    (record { told = r.runs.told; rising = r.runs.rising; limit = r.others.1; leaves = r.any_moment }) ok.goes_on.empty c.in-Ok-renew.generation ok.goes_on ok.renewed ok.fits _ (c.self.invariant.sound.whole up) _ c.lifted.ensures))
+    (record { told = r.runs.told; rising = r.runs.rising; limit = r.others.1; leaves = r.any_moment }) ok.goes_on.empty c.in-Ok-renew.generation ok.goes_on ok.renewed ok.fits _ (c.self.invariant.sound.whole up) _ c.lifted-self-inside.ensures))
 
 pub invariant_of-self-in-Err-DiskFault : goal.invariant_of-self-in-Err-DiskFault
 invariant_of-self-in-Err-DiskFault g c =
