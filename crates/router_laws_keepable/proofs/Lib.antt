@@ -1,0 +1,4 @@
+pub mod Members
+pub mod Counting
+pub mod Naming
+pub mod Keepable
