@@ -12,13 +12,15 @@ use Rattle.deploy_json.proofs.NoFault.{sound}
 use Rattle.deploy_json.specs.Checking.{read_as, reading_of}
 use Rattle.deploy_json.specs.Reading.{parts_of}
 use Rattle.deploy_json.specs.Rows.{parts_row}
-use Rattle.router_laws_deployed.proofs.Declared.{read_document}
+use Rattle.router_laws_deployed.proofs.Declared.{declared_rise, read_document}
 use Rattle.router_laws_deployed.proofs.Readings.{reading_parts}
 use Rattle.router_laws_keepable.proofs.Counting.{parts_few}
+use Rattle.router_laws_keepable.proofs.Holding.{parts_have_names}
 use Rattle.router_laws_keepable.proofs.Naming.{read_names}
 use Rattle.router_laws_kept.specs.Kept.{IsKeepable}
 use Rattle.router_laws_named.proofs.Deployments.{named_parts}
 use Rattle.router_laws_read.proofs.WholeReadings.{reading_as_read}
+use Rattle.router_laws_reading.specs.Holding.{CanHold}
 use Rattle.router_laws_snapshots.specs.Named.{IsNamed}
 
 mapped_length : {A B : Type 0} (f : A → B) (xs : List A) → length (map f xs) ≡ length xs
@@ -37,10 +39,16 @@ parts_named bytes parts short is = named_parts parts (no_fault bytes parts is) (
 pub named_read : (bytes : List ℕ) (d : Deployment) → length bytes < 2 ^ 32 → reading_of bytes ≡ Ok (read_as d) → IsNamed (deployed_of d.parts)
 named_read bytes d short is = parts_named bytes d.parts short (reading_parts bytes d is)
 
+held_read : (bytes : List ℕ) (d : Deployment) → reading_of bytes ≡ Ok (read_as d) → CanHold (deployed_of d.parts)
+held_read bytes d is =
+    let parts = reading_parts bytes d is in
+    record { names = parts_have_names d.parts (read_names bytes d.parts parts); rise = declared_rise bytes d.parts parts }
+
 pub keepable_read : (bytes : List ℕ) (d : Deployment) → length bytes < 2 ^ 32 → reading_of bytes ≡ Ok (read_as d) → IsKeepable (deployed_of d.parts) (kept_program d.codes)
 keepable_read bytes d short is = record {
   read = reading_as_read bytes d is;
   named = named_read bytes d short is;
+  held = held_read bytes d is;
   few = few (length (deployed_of d.parts).tables) (length d.parts.tables) (length bytes) (mapped_length (resolving.table_of (key_number (λ (p : ProfileSpec). p.key) d.parts.profiles)) d.parts.tables) (parts_few bytes (parts_row d.parts) (reading_parts bytes d is)).tables short;
 }
   where
