@@ -44,13 +44,21 @@ held_read bytes d is =
     let parts = reading_parts bytes d is in
     record { names = parts_have_names d.parts (read_names bytes d.parts parts); rise = declared_rise bytes d.parts parts }
 
+pub tables_read : (bytes : List ℕ) (d : Deployment) → length bytes < 2 ^ 63 → reading_of bytes ≡ Ok (read_as d) → length (deployed_of d.parts).tables + 1 < 2 ^ 64
+tables_read bytes d short is =
+    few (length (deployed_of d.parts).tables) (length d.parts.tables) (length bytes) (mapped_length (resolving.table_of (key_number (λ (p : ProfileSpec). p.key) d.parts.profiles)) d.parts.tables)
+    (parts_few bytes (parts_row d.parts) (reading_parts bytes d is)).tables short
+  where
+    few : (k m n : ℕ) → k ≡ m → m ≤ n + 1 → n < 2 ^ 63 → k + 1 < 2 ^ 64
+    few k m n same within short = omega (arith, same, within, short)
+
 pub keepable_read : (bytes : List ℕ) (d : Deployment) → length bytes < 2 ^ 32 → reading_of bytes ≡ Ok (read_as d) → IsKeepable (deployed_of d.parts) (kept_program d.codes)
 keepable_read bytes d short is = record {
   read = reading_as_read bytes d is;
   named = named_read bytes d short is;
   held = held_read bytes d is;
-  few = few (length (deployed_of d.parts).tables) (length d.parts.tables) (length bytes) (mapped_length (resolving.table_of (key_number (λ (p : ProfileSpec). p.key) d.parts.profiles)) d.parts.tables) (parts_few bytes (parts_row d.parts) (reading_parts bytes d is)).tables short;
+  few = tables_read bytes d (shorter (length bytes) short) is;
 }
   where
-    few : (k m n : ℕ) → k ≡ m → m ≤ n + 1 → n < 2 ^ 32 → k + 1 < 2 ^ 64
-    few k m n same within short = omega (arith, same, within, short)
+    shorter : (n : ℕ) → n < 2 ^ 32 → n < 2 ^ 63
+    shorter n short = omega (arith, short)

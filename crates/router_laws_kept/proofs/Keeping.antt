@@ -30,8 +30,8 @@ room_first d program few = record { entity = refl; activity = under (length d.ta
     under : (n : ℕ) → n < 2 ^ 64 → nat_lt n (2 ^ 64) ≡ true
     under n less = grind (arith, nat_tests, less)
 
-pub kept_first : (d : Deployed) (p : Program) → IsKeepable d p → CanBeKept (initial d p)
-kept_first d p keepable = record { well = well_initial d p (room_first d p keepable.few); deployment = keepable }
+pub well_first : (d : Deployed) (p : Program) → length d.tables + 1 < 2 ^ 64 → IsWell (initial d p)
+well_first d p few = well_initial d p (room_first d p few)
 
 pub snapshot_deployed : (format : ℕ) (d : Deployed) (p : Program) (bytes : List ℕ) (s : State) → state_of_snapshot format d p bytes ≡ Some s → (s.deployment ≡ d) × (s.program ≡ p)
 snapshot_deployed format d p bytes s is = elim (text_is format d p bytes s is) [
@@ -39,11 +39,19 @@ snapshot_deployed format d p bytes s is = elim (text_is format d p bytes s is) [
   | inr snapshot ↦ (snapshot.deployment, snapshot.program)
 ]
 
-pub kept_snapshot : (format : ℕ) (d : Deployed) (p : Program) (bytes : List ℕ) (s : State) → IsKeepable d p → state_of_snapshot format d p bytes ≡ Some s → CanBeKept s
-kept_snapshot format d p bytes s keepable is = elim (text_is format d p bytes s is) [
-  | inl first ↦ subst CanBeKept (sym first.1) (kept_first d p keepable)
-  | inr snapshot ↦ record { well = snapshot.well; deployment = same_keepable s.deployment d s.program p snapshot.deployment snapshot.program keepable }
+pub snapshot_well : (format : ℕ) (d : Deployed) (p : Program) (bytes : List ℕ) (s : State) → length d.tables + 1 < 2 ^ 64 → state_of_snapshot format d p bytes ≡ Some s → IsWell s
+snapshot_well format d p bytes s few is = elim (text_is format d p bytes s is) [
+  | inl first ↦ subst IsWell (sym first.1) (well_first d p few)
+  | inr snapshot ↦ snapshot.well
 ]
+
+pub kept_first : (d : Deployed) (p : Program) → IsKeepable d p → CanBeKept (initial d p)
+kept_first d p keepable = record { well = well_first d p keepable.few; deployment = keepable }
+
+pub kept_snapshot : (format : ℕ) (d : Deployed) (p : Program) (bytes : List ℕ) (s : State) → IsKeepable d p → state_of_snapshot format d p bytes ≡ Some s → CanBeKept s
+kept_snapshot format d p bytes s keepable is =
+    let same = snapshot_deployed format d p bytes s is in
+    record { well = snapshot_well format d p bytes s keepable.few is; deployment = same_keepable s.deployment d s.program p same.0 same.1 keepable }
 
 pub kept_replay : (s : State) (h : List Entry) → CanBeKept s → Legal s h → CanBeKept (replay s h)
 kept_replay s h kept legal = record {
