@@ -1,5 +1,5 @@
 -- Rows that are listed one after another.
-use Rattle.std.proofs.Common.{◌≡◌, ℕ, ◌+◌, ◌<◌, ◌≤◌, ◌==◌, Bool, true, false, List, [], ◌∷◌, ◌++◌, drop, get_or, length, take, refl, sym, ap, subst, ◌∙◌, arith, inl, inr}
+use Rattle.std.proofs.Common.{◌≡◌, ℕ, ◌+◌, ◌<◌, ◌≤◌, ◌==◌, true, false, List, [], ◌∷◌, ◌++◌, drop, get_or, length, take, refl, sym, ap, subst, ◌∙◌, arith, inl, inr}
 use Rattle.std.specs.Prelude.{IsTrue, if◌then◌else◌, nat_lt}
 use Rattle.std.specs.List.{AllByRecursion}
 use Rattle.std.proofs.lemmas.Bool.{cases_Bool}
@@ -18,6 +18,7 @@ use Rattle.rows_index.proofs.RowLemmas.{other_key}
 use Rattle.router_state.specs.Trees.{is_root, root_name_before}
 use Rattle.router_state.specs.declared.rows.Entity.{Entity}
 use Rattle.router_state.specs.declared.rows.RootName.{RootName}
+use Rattle.router_state.specs.declared.rows.Stem.TheVariants as stems
 use Rattle.router_roots.specs.Roots.{name_entry, roots_among, service_entry}
 use Rattle.router_roots.proofs.NameLemmas.{names_rise}
 use Rattle.router_roots.proofs.ServiceLemmas.{entities_rise}
@@ -55,6 +56,11 @@ module _ {Row : Type 0} (entry : Row → Entry) where
       index_put entry x front (front ++ x ∷ []) entries index
       (all_from_all (λ row. ((entry row).number == (entry x).number) ≡ false) (λ row. is_key (entry_key (entry row)) (entry_key (entry x)) ≡ false) (λ row other. other_key (entry row).key (entry x).key (entry row).number (entry x).number other) front apart)
       (λ f. sum_pushed f x front)
+
+-- a root is put under its service
+pub root_put : (row : Entity) (service : ℕ) (old new : List Entry) → row.stem ≡ stems.Root service → new ≡ put entry_before (record { key = service; number = row.number.0 }) old
+    → new ≡ (if is_root row.stem then put entry_before (service_entry row) old else old)
+root_put row service old new is put_so = rw is put_so
 
 -- one entity more was looked at
 root_step : (front : List Entity) (x : Entity) (old new : List Entry) → AreOthers service_entry x front → new ≡ (if is_root x.stem then put entry_before (service_entry x) old else old)

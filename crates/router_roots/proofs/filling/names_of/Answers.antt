@@ -1,5 +1,5 @@
 -- one name more is listed
-use Rattle.std.proofs.Common.{◌≡◌, arith, ap, ◌∙◌, List}
+use Rattle.std.proofs.Common.{arith}
 use Rattle.router_roots.proofs.FillLemmas.{name_more, names_all}
 use Rattle.router_roots.proofs.filling.names_of.Goals as goal
 
