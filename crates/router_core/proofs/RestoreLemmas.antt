@@ -1,6 +1,6 @@
 -- A state that is read of bytes, tested and stored: what the parts come to.
-use Rattle.std.proofs.Common.{◌≡◌, ℕ, ◌<◌, ◌^◌, Bool, true, false, List, [], Some, None, length, get_or, sym, subst, ◌∙◌}
-use Rattle.std.specs.Prelude.{Ok}
+use Rattle.std.proofs.Common.{◌≡◌, ℕ, ◌<◌, ◌^◌, Bool, true, false, List, [], Some, None, length, get_or, refl, sym, subst, ◌∙◌}
+use Rattle.std.specs.Prelude.{Ok, Err, Result}
 use Rattle.deploy_model.specs.Deployed.{Deployed}
 use Rattle.deploy_model.specs.Resolving.{deployed_of}
 use Rattle.script_types.specs.Program.{Program}
@@ -14,7 +14,17 @@ use Rattle.router_laws_snapshots.proofs.Restored.{restored_is}
 use Rattle.router_laws_reading.proofs.WholeStates.{ill_restored, well_restored}
 use Rattle.router_roots.specs.Roots.{AreListed, AreRootsOf}
 use Rattle.router_roots.specs.Views.{RootsView}
+use Rattle.snapshot_read.specs.declared.fault.ReadFault.{ReadFault}
+use Rattle.snapshot_read.specs.declared.fault.ReadFault.TheVariants as reads
+use Rattle.router_core.specs.Restoring.{fault_of}
 use Rattle.router_core.specs.States.{IsOwn, IsSteady}
+use Rattle.router_core.specs.declared.fault.StateFault.{StateFault}
+use Rattle.router_core.specs.declared.fault.StateFault.TheVariants as faults
+
+-- the state's fault is Bad where that of its rows is
+pub bad_read : {X : Type 0} (e : ReadFault) (r : StateFault) (result : Result X StateFault) → result ≡ Err r → r ≡ fault_of e → result ≡ Err faults.Bad → e ≡ reads.Bad
+bad_read reads.Bad r result is same bad = refl
+bad_read reads.NoMemory r result is same bad = absurd cc
 
 -- bytes of which rows of a well-formed state were read
 pub well_read : (format : ℕ) (d : Deployed) (p : Program) (bytes : List ℕ) (s : State) (well : Bool) → ((i : ℕ) → get_or bytes i 0 < 256) → parsed format d p bytes ≡ Ok (s, []) → well ≡ is_well s → well ≡ true → restored format d p bytes ≡ Some s
