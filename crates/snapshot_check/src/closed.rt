@@ -68,7 +68,6 @@ fn is_stopping(state: ServiceState) -> bool
 }
 
 /// Whether the service of this number stops and has no tree.
-#[tactic(auto, using(crate::proofs::ClosedLemmas::tree_there))]
 fn is_stopped(_entities: &[Entity], with_trees: &[u64], number: u64, service: &Service) -> bool
     requires order { IsNonDecreasing with_trees.now }
     requires same { (n : ℕ) → list_any (λ x. x == n) with_trees.now ≡ list_any (λ x. x == n) (services_with_trees _entities.now) }

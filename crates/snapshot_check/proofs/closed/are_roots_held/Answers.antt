@@ -7,8 +7,8 @@ use Rattle.snapshot_check.specs.Tops.{top_key}
 use Rattle.snapshot_check.proofs.HeldLemmas.{held_is}
 use Rattle.snapshot_check.proofs.closed.are_roots_held.Goals as goal
 
-pub tops_of_links-held-requires : goal.tops_of_links-held-requires
-tops_of_links-held-requires c = subst (Rises top_key) (sym c.as_slice-listed.ensures.value) c.in_ok-tops.ensures.order
+pub tops_of_links-requires : goal.tops_of_links-requires
+tops_of_links-requires c = subst (Rises top_key) (sym c.as_slice-listed.ensures.value) c.in_ok-tops.ensures.order
 
 pub are_roots_among-requires : goal.are_roots_among-requires
 are_roots_among-requires c = subst IsNonDecreasing (sym c.as_slice-found.ensures.value) c.in_ok-sorted.ensures.order

@@ -1,5 +1,5 @@
 -- each test fails or passes in its turn
-use Rattle.std.proofs.Common.{◌≡◌, Bool, true, false, List, sym, ap, ◌∙◌, subst}
+use Rattle.std.proofs.Common.{◌≡◌, Bool, true, false, sym, ap, ◌∙◌, subst}
 use Rattle.std.specs.Prelude.{◌&&◌}
 use Rattle.std.specs.List.{list_all}
 use Rattle.rows_sorted.specs.Keys.{Rises}
@@ -18,17 +18,17 @@ second_of a b c one is = λ i. sym one i && (sym is i && c)
 last_of : (a b c d : Bool) → a ≡ true → b ≡ true → d ≡ c → d ≡ (a && (b && c))
 last_of a b c d one two is = is ∙ (λ i. sym one i && (sym two i && c))
 
-pub are_roots_held-held-requires-clause-order : goal.are_roots_held-held-requires-clause-order
-are_roots_held-held-requires-clause-order c = subst (Rises entity_key) (sym c.as_slice-entities.ensures.value) c.requires.order.entities
+pub are_roots_held-requires-clause-order : goal.are_roots_held-requires-clause-order
+are_roots_held-requires-clause-order c = subst (Rises entity_key) (sym c.as_slice-entities.ensures.value) c.requires.order.entities
 
-pub are_roots_held-held-requires-clause-lower : goal.are_roots_held-held-requires-clause-lower
-are_roots_held-held-requires-clause-lower c = ap (list_all is_lower) c.as_slice-entities.ensures.value ∙ c.requires.lower
+pub are_roots_held-requires-clause-lower : goal.are_roots_held-requires-clause-lower
+are_roots_held-requires-clause-lower c = ap (list_all is_lower) c.as_slice-entities.ensures.value ∙ c.requires.lower
 
-pub are_nulls_in_use-used-requires-clause-links : goal.are_nulls_in_use-used-requires-clause-links
-are_nulls_in_use-used-requires-clause-links c = subst (Rises link_key) (sym c.as_slice-links.ensures.value) c.requires.order.links
+pub are_nulls_in_use-requires-clause-links : goal.are_nulls_in_use-requires-clause-links
+are_nulls_in_use-requires-clause-links c = subst (Rises link_key) (sym c.as_slice-links.ensures.value) c.requires.order.links
 
-pub are_nulls_in_use-used-requires-clause-events : goal.are_nulls_in_use-used-requires-clause-events
-are_nulls_in_use-used-requires-clause-events c = subst (Rises queued_key) (sym c.as_slice-events.ensures.value) c.requires.order.events
+pub are_nulls_in_use-requires-clause-events : goal.are_nulls_in_use-requires-clause-events
+are_nulls_in_use-requires-clause-events c = subst (Rises queued_key) (sym c.as_slice-events.ensures.value) c.requires.order.events
 
 pub returns-then-not-held : goal.returns-then-not-held
 returns-then-not-held c =

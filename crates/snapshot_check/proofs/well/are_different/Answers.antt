@@ -11,7 +11,6 @@ use Rattle.router_state.specs.WellEntities.{all_differ, differ_in_name, is_named
 use Rattle.router_state.specs.WellQueues.{differ_in_number}
 use Rattle.router_state.specs.declared.rows.Activity.{Activity}
 use Rattle.router_state.specs.declared.rows.Entity.{Entity}
-use Rattle.router_state.specs.declared.rows.ProfileRow.{ProfileRow}
 use Rattle.router_state.specs.declared.rows.Queued.{Queued}
 use Rattle.router_state.specs.declared.rows.RootName.{RootName}
 use Rattle.snapshot_rows.specs.declared.rows.Rows.{Rows}
@@ -41,21 +40,21 @@ third_of a b c d one two is = λ i. sym one i && (sym two i && (sym is i && d))
 last_of : (a b c d e : Bool) → a ≡ true → b ≡ true → c ≡ true → e ≡ d → e ≡ (a && (b && (c && d)))
 last_of a b c d e one two three is = is ∙ (λ i. sym one i && (sym two i && (sym three i && d)))
 
-pub have_own_roots-roots-requires-clause-order : goal.have_own_roots-roots-requires-clause-order
-have_own_roots-roots-requires-clause-order c = subst (Rises entity_key) (sym c.as_slice-entities.ensures.value) c.requires.order.entities
+pub have_own_roots-requires-clause-order : goal.have_own_roots-requires-clause-order
+have_own_roots-requires-clause-order c = subst (Rises entity_key) (sym c.as_slice-entities.ensures.value) c.requires.order.entities
 
-pub have_own_roots-roots-requires-clause-there : goal.have_own_roots-roots-requires-clause-there
-have_own_roots-roots-requires-clause-there c =
+pub have_own_roots-requires-clause-there : goal.have_own_roots-requires-clause-there
+have_own_roots-requires-clause-there c =
     (λ i. list_all (is_root_name (deployed_of c.args.deployment.now.parts) (c.as_slice-entities.ensures.value i) c.args.rows.now.next_activity c.args.rows.now.next_event) (c.as_slice-root_names.ensures.value i))
     ∙ names_there (deployed_of c.args.deployment.now.parts) c.args.rows.now c.requires.fits
 
-pub have_own_roots-roots-requires-clause-named : goal.have_own_roots-roots-requires-clause-named
-have_own_roots-roots-requires-clause-named c =
+pub have_own_roots-requires-clause-named : goal.have_own_roots-requires-clause-named
+have_own_roots-requires-clause-named c =
     (λ i. list_all (is_named (c.as_slice-root_names.ensures.value i)) (c.as_slice-entities.ensures.value i))
     ∙ entities_named (deployed_of c.args.deployment.now.parts) c.args.rows.now c.requires.fits
 
-pub are_unique-unique-requires : goal.are_unique-unique-requires
-are_unique-unique-requires c = subst (Rises profile_row_key) (sym c.as_slice-profiles.ensures.value) c.requires.order.rows
+pub are_unique-requires : goal.are_unique-requires
+are_unique-requires c = subst (Rises profile_row_key) (sym c.as_slice-profiles.ensures.value) c.requires.order.rows
 
 pub returns-then-not-roots : goal.returns-then-not-roots
 returns-then-not-roots c =
