@@ -19,7 +19,7 @@ use Rattle.router_durable.specs.declared.fault.OpenFault.TheVariants as faults
 use Rattle.router_durable.specs.Facts.{base_of}
 use Rattle.router_durable.specs.Opening.{IsRefused, IsSmall, Opens}
 use Rattle.router_durable.specs.Core.{is_down}
-use Rattle.router_durable.specs.Recovery.{Unfit}
+use Rattle.commit_journal.specs.Reading.{Wrong}
 use Rattle.slee_container.specs.declared.container.Limits.{Limits}
 use Rattle.slee_container.specs.declared.container.Mode.{Mode}
 use Rattle.slee_container.specs.declared.container.Mode.TheVariants as modes
@@ -73,7 +73,6 @@ refused_ends : (base : State) (steps : ℕ) (lines : List Signal) (bytes : List 
 refused_ends base steps lines bytes faults.DiskFault short small = (lines, refl)
 refused_ends base steps lines bytes (faults.BadJournal side at kind) short small = refl
 refused_ends base steps lines bytes (faults.OtherDeployment kept_len place) short small = refl
-refused_ends base steps lines bytes faults.FirstFormat short small = refl
 refused_ends base steps lines bytes (faults.Full size adding) short small = absurd (omega (arith, short, small))
 refused_ends base steps lines bytes faults.NoMemory short small = (lines, refl)
 
@@ -81,7 +80,6 @@ refused_unended : (bytes : List ℕ) (fault : OpenFault) → length bytes ≤ de
 refused_unended bytes faults.DiskFault short small = tt
 refused_unended bytes (faults.BadJournal side at kind) short small = tt
 refused_unended bytes (faults.OtherDeployment kept_len place) short small = tt
-refused_unended bytes faults.FirstFormat short small = tt
 refused_unended bytes (faults.Full size adding) short small = absurd (omega (arith, short, small))
 refused_unended bytes faults.NoMemory short small = tt
 
@@ -89,7 +87,6 @@ pub refused_late : (fault : OpenFault) → IsBeforeOpening (status_of fault) →
 refused_late faults.DiskFault early = early
 refused_late (faults.BadJournal side at kind) early = early
 refused_late (faults.OtherDeployment kept_len place) early = early
-refused_late faults.FirstFormat early = early
 refused_late (faults.Full size adding) early = early
 refused_late faults.NoMemory early = early
 
@@ -97,7 +94,6 @@ refused_done : (fault : OpenFault) → status_of fault ≢ statuses.Ok
 refused_done faults.DiskFault is = cc
 refused_done (faults.BadJournal side at kind) is = cc
 refused_done (faults.OtherDeployment kept_len place) is = cc
-refused_done faults.FirstFormat is = cc
 refused_done (faults.Full size adding) is = cc
 refused_done faults.NoMemory is = cc
 
@@ -105,7 +101,6 @@ refused_spent : (fault : OpenFault) (n : ℕ) → status_of fault ≢ statuses.S
 refused_spent faults.DiskFault n is = cc
 refused_spent (faults.BadJournal side at kind) n is = cc
 refused_spent (faults.OtherDeployment kept_len place) n is = cc
-refused_spent faults.FirstFormat n is = cc
 refused_spent (faults.Full size adding) n is = cc
 refused_spent faults.NoMemory n is = cc
 
@@ -113,7 +108,6 @@ refused_words : (fault : OpenFault) → status_of fault ≢ statuses.BadWords
 refused_words faults.DiskFault is = cc
 refused_words (faults.BadJournal side at kind) is = cc
 refused_words (faults.OtherDeployment kept_len place) is = cc
-refused_words faults.FirstFormat is = cc
 refused_words (faults.Full size adding) is = cc
 refused_words faults.NoMemory is = cc
 
@@ -121,7 +115,6 @@ pub refused_unwritten : (fault : OpenFault) → status_of fault ≢ statuses.Wri
 refused_unwritten faults.DiskFault is = cc
 refused_unwritten (faults.BadJournal side at kind) is = cc
 refused_unwritten (faults.OtherDeployment kept_len place) is = cc
-refused_unwritten faults.FirstFormat is = cc
 refused_unwritten (faults.Full size adding) is = cc
 refused_unwritten faults.NoMemory is = cc
 
@@ -129,7 +122,6 @@ refused_shown_at : (bytes : List ℕ) (fault : OpenFault) → length bytes ≤ d
 refused_shown_at bytes faults.DiskFault short small = tt
 refused_shown_at bytes (faults.BadJournal side at kind) short small = tt
 refused_shown_at bytes (faults.OtherDeployment kept_len place) short small = tt
-refused_shown_at bytes faults.FirstFormat short small = tt
 refused_shown_at bytes (faults.Full size adding) short small = absurd (omega (arith, short, small))
 refused_shown_at bytes faults.NoMemory short small = tt
 
@@ -137,7 +129,6 @@ refused_text : (base : State) (fault : OpenFault) → status_line (status_of fau
 refused_text base faults.DiskFault = refl
 refused_text base (faults.BadJournal side at kind) = refl
 refused_text base (faults.OtherDeployment kept_len place) = refl
-refused_text base faults.FirstFormat = refl
 refused_text base (faults.Full size adding) = refl
 refused_text base faults.NoMemory = refl
 
@@ -317,7 +308,7 @@ module _ {D : Type 0} (disk_of : D → DiskState) (x : Document) (old now : Disk
   shown_opened stood (inl is) early = subst IsBeforeOpening is early
   shown_opened stood (inr is) early = subst IsBeforeOpening is early
 
-  shown_answer : (bytes : Result State Unfit) (stood : Status) → (stood ≡ statuses.Ok) ⊎ (stood ≡ statuses.NoMemory) → IsOk bytes → IsAnswerTo bytes stood
+  shown_answer : (bytes : Result State Wrong) (stood : Status) → (stood ≡ statuses.Ok) ⊎ (stood ≡ statuses.NoMemory) → IsOk bytes → IsAnswerTo bytes stood
   shown_answer bytes stood (inl is) ok = subst (λ (s : Status). IsAnswerTo bytes s) (sym is) ok
   shown_answer bytes stood (inr is) ok = subst (λ (s : Status). IsAnswerTo bytes s) (sym is) tt
 
@@ -388,7 +379,6 @@ early_unended statuses.WriteFault early = early
 early_unended statuses.DiskFault early = absurd early
 early_unended (statuses.BadJournal side at kind) early = absurd early
 early_unended (statuses.OtherDeployment kept_len place) early = absurd early
-early_unended statuses.FirstFormat early = absurd early
 early_unended (statuses.Full size adding) early = early
 early_unended (statuses.StepsSpent entries) early = early
 early_unended statuses.NoMemory early = tt
@@ -504,7 +494,6 @@ barred_late (Some bytes) statuses.WriteFault late = tt
 barred_late (Some bytes) statuses.DiskFault late = tt
 barred_late (Some bytes) (statuses.BadJournal side at kind) late = tt
 barred_late (Some bytes) (statuses.OtherDeployment kept_len place) late = tt
-barred_late (Some bytes) statuses.FirstFormat late = tt
 barred_late (Some bytes) (statuses.Full size adding) late = tt
 barred_late (Some bytes) (statuses.StepsSpent entries) late = tt
 barred_late (Some bytes) statuses.NoMemory late = tt
@@ -519,7 +508,6 @@ shown_checked statuses.WriteFault comes fine = absurd comes
 shown_checked statuses.DiskFault comes fine = absurd comes
 shown_checked (statuses.BadJournal side at kind) comes fine = absurd comes
 shown_checked (statuses.OtherDeployment kept_len place) comes fine = absurd comes
-shown_checked statuses.FirstFormat comes fine = absurd comes
 shown_checked (statuses.Full size adding) comes fine = absurd comes
 shown_checked (statuses.StepsSpent entries) comes fine = absurd comes
 shown_checked statuses.NoMemory comes fine = tt
@@ -536,7 +524,6 @@ shown_alone base statuses.WriteFault fine = refl
 shown_alone base statuses.DiskFault fine = refl
 shown_alone base (statuses.BadJournal side at kind) fine = refl
 shown_alone base (statuses.OtherDeployment kept_len place) fine = refl
-shown_alone base statuses.FirstFormat fine = refl
 shown_alone base (statuses.Full size adding) fine = refl
 shown_alone base (statuses.StepsSpent entries) fine = refl
 shown_alone base statuses.NoMemory fine = refl
@@ -639,7 +626,6 @@ early_generated seed count deploy before after stood status early comes barred o
     prints statuses.DiskFault early barred = (refl, barred)
     prints (statuses.BadJournal side at kind) early barred = (refl, barred)
     prints (statuses.OtherDeployment kept_len place) early barred = (refl, barred)
-    prints statuses.FirstFormat early barred = (refl, barred)
     prints (statuses.Full size adding) early barred = (refl, barred)
     prints (statuses.StepsSpent entries) early barred = (refl, barred)
     prints statuses.NoMemory early barred = (refl, barred)
@@ -702,7 +688,6 @@ late_told stood statuses.WriteFault same late early = early
 late_told stood statuses.DiskFault same late early = early
 late_told stood (statuses.BadJournal side at kind) same late early = early
 late_told stood (statuses.OtherDeployment kept_len place) same late early = early
-late_told stood statuses.FirstFormat same late early = early
 late_told stood (statuses.Full size adding) same late early = early
 late_told stood (statuses.StepsSpent entries) same late early = early
 late_told stood statuses.NoMemory same late early = early

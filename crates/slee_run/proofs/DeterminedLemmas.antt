@@ -3,7 +3,7 @@ use Rattle.std.proofs.Common.{◌≡◌, ◌≢◌, ◌⊎◌, inl, inr, ⊎_eli
 use Rattle.std.proofs.lemmas.Bool.{cases_Bool, cases_eq, leb-true, leb-false}
 use Rattle.signal_script.specs.declared.signal.Signal.{Signal}
 use Rattle.slee_disk.specs.Disk.{DiskState}
-use Rattle.commit_journal.specs.Reading.{Bad as WrongAt, Other as OtherFrom}
+use Rattle.commit_journal.specs.Reading.{Wrong, Bad as WrongAt, Other as OtherFrom}
 use Rattle.commit_journal.specs.Spelling.{records_size}
 use Rattle.commit_journal.proofs.Sizes.{records_size-more}
 use Rattle.trace_history.specs.Histories.{inputs_of, choices_of}
@@ -15,7 +15,7 @@ use Rattle.router_steps.specs.Histories.{replay}
 use Rattle.router_steps.specs.Payloads.{payload, payloads}
 use Rattle.router_durable.proofs.HistoryLemmas.{choices_of-append, payloads-append, replay-choices}
 use Rattle.router_durable.specs.Choices.{written_format}
-use Rattle.router_durable.specs.Recovery.{Unfit, Broken, FirstFormat, records}
+use Rattle.router_durable.specs.Recovery.{records}
 use Rattle.deploy_json.specs.declared.fault.ReadFault.{ReadFault}
 use Rattle.deploy_report.specs.declared.counts.Counts.{Counts}
 use Rattle.slee_run.specs.Status.{row_of, status_line}
@@ -141,16 +141,15 @@ data Led (x : Document) (old : DiskState) (base : State) (steps : ℕ) (lines : 
   Full : (size adding : ℕ) → status ≡ statuses.Full size adding → size ≡ size_behind x old base history → AddsFirst (replay base history) adding rest → journal_limit < size + adding
       → Led x old base steps lines history rest status
 
-led : (x : Document) (old : DiskState) (base : State) (steps : ℕ) (lines : List Signal) (history : List Entry) (status : Status) (bytes : Result State Unfit) (s : State) → EndsOn base steps lines history status → (one : IsByOne base steps lines history status)
+led : (x : Document) (old : DiskState) (base : State) (steps : ℕ) (lines : List Signal) (history : List Entry) (status : Status) (bytes : Result State Wrong) (s : State) → EndsOn base steps lines history status → (one : IsByOne base steps lines history status)
     → IsSized x base history old status → bytes ≡ Ok s → IsAnswerTo bytes status → (IsByFault status → ⊥) → Led x old base steps lines history one.rest status
 led x old base steps lines history statuses.Ok bytes s ends one sized ok answer fine = Done refl (one.done refl) ends
 led x old base steps lines history statuses.BadWords bytes s ends one sized ok answer fine = absurd ends
 led x old base steps lines history statuses.ReadFault bytes s ends one sized ok answer fine = absurd (fine tt)
 led x old base steps lines history statuses.WriteFault bytes s ends one sized ok answer fine = absurd ends
 led x old base steps lines history statuses.DiskFault bytes s ends one sized ok answer fine = absurd (fine tt)
-led x old base steps lines history (statuses.BadJournal side at kind) bytes s ends one sized ok answer fine = absurd (let never : Ok s ≡ Err (Broken (WrongAt side at kind)) = sym ok ∙ answer in cc)
-led x old base steps lines history (statuses.OtherDeployment kept_len place) bytes s ends one sized ok answer fine = absurd (let never : Ok s ≡ Err (Broken (OtherFrom kept_len place)) = sym ok ∙ answer in cc)
-led x old base steps lines history statuses.FirstFormat bytes s ends one sized ok answer fine = absurd (let never : Ok s ≡ Err FirstFormat = sym ok ∙ answer in cc)
+led x old base steps lines history (statuses.BadJournal side at kind) bytes s ends one sized ok answer fine = absurd (let never : Ok s ≡ Err (WrongAt side at kind) = sym ok ∙ answer in cc)
+led x old base steps lines history (statuses.OtherDeployment kept_len place) bytes s ends one sized ok answer fine = absurd (let never : Ok s ≡ Err (OtherFrom kept_len place) = sym ok ∙ answer in cc)
 led x old base steps lines history (statuses.Full size adding) bytes s ends one sized ok answer fine = Full size adding refl (sized.full size adding refl) (one.full size adding refl) ends.above
 led x old base steps lines history (statuses.StepsSpent entries) bytes s ends one sized ok answer fine = Spent entries refl ends.0 (one.spent entries refl) ends.1
 led x old base steps lines history statuses.NoMemory bytes s ends one sized ok answer fine = absurd (fine tt)
@@ -230,7 +229,6 @@ early_fault base steps lines history statuses.WriteFault ends early = absurd end
 early_fault base steps lines history statuses.DiskFault ends early = tt
 early_fault base steps lines history (statuses.BadJournal side at kind) ends early = absurd early
 early_fault base steps lines history (statuses.OtherDeployment kept_len place) ends early = absurd early
-early_fault base steps lines history statuses.FirstFormat ends early = absurd early
 early_fault base steps lines history (statuses.Full size adding) ends early = absurd early
 early_fault base steps lines history (statuses.StepsSpent entries) ends early = absurd early
 early_fault base steps lines history statuses.NoMemory ends early = tt
@@ -257,7 +255,6 @@ checked_as bytes text statuses.WriteFault at is fine = absurd at
 checked_as bytes text statuses.DiskFault at is fine = absurd at
 checked_as bytes text (statuses.BadJournal side place kind) at is fine = absurd at
 checked_as bytes text (statuses.OtherDeployment kept_len place) at is fine = absurd at
-checked_as bytes text statuses.FirstFormat at is fine = absurd at
 checked_as bytes text (statuses.Full size adding) at is fine = absurd at
 checked_as bytes text (statuses.StepsSpent entries) at is fine = absurd at
 checked_as bytes text statuses.NoMemory at is fine = absurd (fine tt)
@@ -289,23 +286,21 @@ one_check bytes x y s t (Large is prints more) (Large also writes much) = same_l
 -- ---- bytes that stand for no state
 
 -- the status that tells what is wrong
-abbrev said : Unfit → Status
-said (Broken (WrongAt side at kind)) = statuses.BadJournal side at kind
-said (Broken (OtherFrom kept_len place)) = statuses.OtherDeployment kept_len place
-said FirstFormat = statuses.FirstFormat
+abbrev said : Wrong → Status
+said (WrongAt side at kind) = statuses.BadJournal side at kind
+said (OtherFrom kept_len place) = statuses.OtherDeployment kept_len place
 
-wrong_is : (w x : Unfit) (r q : Result State Unfit) → r ≡ q → r ≡ Err w → q ≡ Err x → said w ≡ said x
+wrong_is : (w x : Wrong) (r q : Result State Wrong) → r ≡ q → r ≡ Err w → q ≡ Err x → said w ≡ said x
 wrong_is w x r q same is also = let one : w ≡ x = cc in ap said one
 
-told_wrong : (base : State) (steps : ℕ) (lines : List Signal) (history : List Entry) (status : Status) (w : Unfit) → EndsOn base steps lines history status → IsAnswerTo (Err w) status → (IsByFault status → ⊥) → status ≡ said w
+told_wrong : (base : State) (steps : ℕ) (lines : List Signal) (history : List Entry) (status : Status) (w : Wrong) → EndsOn base steps lines history status → IsAnswerTo (Err w) status → (IsByFault status → ⊥) → status ≡ said w
 told_wrong base steps lines history statuses.Ok w ends answer fine = absurd (cc)
 told_wrong base steps lines history statuses.BadWords w ends answer fine = absurd ends
 told_wrong base steps lines history statuses.ReadFault w ends answer fine = absurd (fine tt)
 told_wrong base steps lines history statuses.WriteFault w ends answer fine = absurd ends
 told_wrong base steps lines history statuses.DiskFault w ends answer fine = absurd (fine tt)
-told_wrong base steps lines history (statuses.BadJournal side at kind) w ends answer fine = sym (wrong_is w (Broken (WrongAt side at kind)) (Err w) (Err (Broken (WrongAt side at kind))) answer refl refl)
-told_wrong base steps lines history (statuses.OtherDeployment kept_len place) w ends answer fine = sym (wrong_is w (Broken (OtherFrom kept_len place)) (Err w) (Err (Broken (OtherFrom kept_len place))) answer refl refl)
-told_wrong base steps lines history statuses.FirstFormat w ends answer fine = sym (wrong_is w FirstFormat (Err w) (Err FirstFormat) answer refl refl)
+told_wrong base steps lines history (statuses.BadJournal side at kind) w ends answer fine = sym (wrong_is w (WrongAt side at kind) (Err w) (Err (WrongAt side at kind)) answer refl refl)
+told_wrong base steps lines history (statuses.OtherDeployment kept_len place) w ends answer fine = sym (wrong_is w (OtherFrom kept_len place) (Err w) (Err (OtherFrom kept_len place)) answer refl refl)
 told_wrong base steps lines history (statuses.Full size adding) w ends answer fine = absurd (cc)
 told_wrong base steps lines history (statuses.StepsSpent entries) w ends answer fine = absurd (cc)
 told_wrong base steps lines history statuses.NoMemory w ends answer fine = absurd (fine tt)
@@ -331,7 +326,6 @@ between statuses.WriteFault reached unended = absurd reached
 between statuses.DiskFault reached unended = tt
 between (statuses.BadJournal side at kind) reached unended = absurd reached
 between (statuses.OtherDeployment kept_len place) reached unended = absurd reached
-between statuses.FirstFormat reached unended = absurd reached
 between (statuses.Full size adding) reached unended = absurd unended
 between (statuses.StepsSpent entries) reached unended = absurd unended
 between statuses.NoMemory reached unended = tt
@@ -385,7 +379,7 @@ met_state x steps lines other_lines old one other p q s told is lined a b =
     (led x old s steps lines p.history p.ended (found x old) s (subst (λ (t : State). EndsOn t steps lines p.history p.ended) same a.ends) first m is (a.journal.opened told).answer a.fine)
     (led x old s steps lines q.history q.ended (found x old) s (subst (λ (t : State). EndsOn t steps lines q.history q.ended) also back) second n is (b.journal.opened told).answer b.fine)
 
-met_wrong : (x : Document) (steps : ℕ) (lines other_lines : List Signal) (old one other : DiskState) (p q : Outcome) (w : Unfit) → IsTrue old.told → found x old ≡ Err w
+met_wrong : (x : Document) (steps : ℕ) (lines other_lines : List Signal) (old one other : DiskState) (p q : Outcome) (w : Wrong) → IsTrue old.told → found x old ≡ Err w
     → IsMet x steps lines old one p → IsMet x steps other_lines old other q → Same p.history q.history p.ended q.ended
 met_wrong x steps lines other_lines old one other p q w told is a b = (
   told_wrong p.base steps lines p.history p.ended w a.ends (subst (λ r. IsAnswerTo r p.ended) is (a.journal.opened told).answer) a.fine
@@ -393,22 +387,21 @@ met_wrong x steps lines other_lines old one other p q w told is a b = (
   (a.journal.opened told).none w is ∙ sym ((b.journal.opened told).none w is),
 )
 
-met : (x : Document) (steps : ℕ) (lines other_lines : List Signal) (old one other : DiskState) (p q : Outcome) (r : Result State Unfit) → IsTrue old.told → found x old ≡ r
+met : (x : Document) (steps : ℕ) (lines other_lines : List Signal) (old one other : DiskState) (p q : Outcome) (r : Result State Wrong) → IsTrue old.told → found x old ≡ r
     → (p.base ≡ q.base → lines ≡ other_lines) → IsMet x steps lines old one p → IsMet x steps other_lines old other q → Same p.history q.history p.ended q.ended
 met x steps lines other_lines old one other p q (Ok s) told is lined a b = met_state x steps lines other_lines old one other p q s told is lined a b
 met x steps lines other_lines old one other p q (Err w) told is lined a b = met_wrong x steps lines other_lines old one other p q w told is a b
 
 -- ---- what is shown
 
-shown_wrong : (status : Status) (w : Unfit) → IsShownAt status → IsBarredShow status → IsAnswerTo (Err w) status → (IsByFault status → ⊥) → status ≡ said w
+shown_wrong : (status : Status) (w : Wrong) → IsShownAt status → IsBarredShow status → IsAnswerTo (Err w) status → (IsByFault status → ⊥) → status ≡ said w
 shown_wrong statuses.Ok w at good answer fine = absurd (cc)
 shown_wrong statuses.BadWords w at good answer fine = absurd at
 shown_wrong statuses.ReadFault w at good answer fine = absurd (fine tt)
 shown_wrong statuses.WriteFault w at good answer fine = absurd at
 shown_wrong statuses.DiskFault w at good answer fine = absurd (fine tt)
-shown_wrong (statuses.BadJournal side place kind) w at good answer fine = sym (wrong_is w (Broken (WrongAt side place kind)) (Err w) (Err (Broken (WrongAt side place kind))) answer refl refl)
-shown_wrong (statuses.OtherDeployment kept_len place) w at good answer fine = sym (wrong_is w (Broken (OtherFrom kept_len place)) (Err w) (Err (Broken (OtherFrom kept_len place))) answer refl refl)
-shown_wrong statuses.FirstFormat w at good answer fine = sym (wrong_is w FirstFormat (Err w) (Err FirstFormat) answer refl refl)
+shown_wrong (statuses.BadJournal side place kind) w at good answer fine = sym (wrong_is w (WrongAt side place kind) (Err w) (Err (WrongAt side place kind)) answer refl refl)
+shown_wrong (statuses.OtherDeployment kept_len place) w at good answer fine = sym (wrong_is w (OtherFrom kept_len place) (Err w) (Err (OtherFrom kept_len place)) answer refl refl)
 shown_wrong (statuses.Full size adding) w at good answer fine = absurd at
 shown_wrong (statuses.StepsSpent entries) w at good answer fine = absurd at
 shown_wrong statuses.NoMemory w at good answer fine = absurd (fine tt)
@@ -425,7 +418,6 @@ shown_fine statuses.WriteFault s at good answer fine = absurd at
 shown_fine statuses.DiskFault s at good answer fine = absurd (fine tt)
 shown_fine (statuses.BadJournal side place kind) s at good answer fine = absurd (cc)
 shown_fine (statuses.OtherDeployment kept_len place) s at good answer fine = absurd (cc)
-shown_fine statuses.FirstFormat s at good answer fine = absurd (cc)
 shown_fine (statuses.Full size adding) s at good answer fine = absurd at
 shown_fine (statuses.StepsSpent entries) s at good answer fine = absurd at
 shown_fine statuses.NoMemory s at good answer fine = absurd (fine tt)
@@ -434,10 +426,9 @@ shown_fine (statuses.BadSignals line kind) s at good answer fine = absurd at
 shown_fine (statuses.TooLarge what) s at good answer fine = absurd good
 shown_fine statuses.NotBuilt s at good answer fine = absurd at
 
-said_text : (a b : State) (w : Unfit) → shown_text a (said w) ≡ shown_text b (said w)
-said_text a b (Broken (WrongAt side at kind)) = refl
-said_text a b (Broken (OtherFrom kept_len place)) = refl
-said_text a b FirstFormat = refl
+said_text : (a b : State) (w : Wrong) → shown_text a (said w) ≡ shown_text b (said w)
+said_text a b (WrongAt side at kind) = refl
+said_text a b (OtherFrom kept_len place) = refl
 
 -- nothing is shown before the journal is opened but by a fault, where the deployment is good
 early_show : (status : Status) → IsShownAt status → IsBarredShow status → IsEarly status → IsByFault status
@@ -448,7 +439,6 @@ early_show statuses.WriteFault at good early = absurd at
 early_show statuses.DiskFault at good early = tt
 early_show (statuses.BadJournal side place kind) at good early = absurd early
 early_show (statuses.OtherDeployment kept_len place) at good early = absurd early
-early_show statuses.FirstFormat at good early = absurd early
 early_show (statuses.Full size adding) at good early = absurd at
 early_show (statuses.StepsSpent entries) at good early = absurd at
 early_show statuses.NoMemory at good early = tt
@@ -472,7 +462,6 @@ show_refused bytes refusal statuses.WriteFault is at barred early fine = absurd 
 show_refused bytes refusal statuses.DiskFault is at barred early fine = absurd (fine tt)
 show_refused bytes refusal (statuses.BadJournal side place kind) is at barred early fine = absurd early
 show_refused bytes refusal (statuses.OtherDeployment kept_len place) is at barred early fine = absurd early
-show_refused bytes refusal statuses.FirstFormat is at barred early fine = absurd early
 show_refused bytes refusal (statuses.Full size adding) is at barred early fine = absurd at
 show_refused bytes refusal (statuses.StepsSpent entries) is at barred early fine = absurd at
 show_refused bytes refusal statuses.NoMemory is at barred early fine = absurd (fine tt)
@@ -532,7 +521,6 @@ generated_as bytes text seed count statuses.WriteFault at is fine = absurd at
 generated_as bytes text seed count statuses.DiskFault at is fine = absurd at
 generated_as bytes text seed count (statuses.BadJournal side place kind) at is fine = absurd at
 generated_as bytes text seed count (statuses.OtherDeployment kept_len place) at is fine = absurd at
-generated_as bytes text seed count statuses.FirstFormat at is fine = absurd at
 generated_as bytes text seed count (statuses.Full size adding) at is fine = absurd at
 generated_as bytes text seed count (statuses.StepsSpent entries) at is fine = absurd at
 generated_as bytes text seed count statuses.NoMemory at is fine = absurd (fine tt)
@@ -655,7 +643,6 @@ module _ (old one other : DiskState) (words : List (List ℕ)) (deploy bytes : L
       by statuses.DiskFault up = refl
       by (statuses.BadJournal side place kind) up = refl
       by (statuses.OtherDeployment kept_len place) up = refl
-      by statuses.FirstFormat up = refl
       by (statuses.Full size adding) up = refl
       by (statuses.StepsSpent entries) up = refl
       by statuses.NoMemory up = refl
@@ -665,7 +652,7 @@ module _ (old one other : DiskState) (words : List (List ℕ)) (deploy bytes : L
       by statuses.NotBuilt up = refl
 
   -- both show one state
-  show_found : (opens : Opens words) (x : Document) → first.over.document ≡ x → second.over.document ≡ x → (r : Result State Unfit) → found x old ≡ r → IsShownAt p.ended → IsShownAt q.ended → IsBarredShow p.ended → IsBarredShow q.ended
+  show_found : (opens : Opens words) (x : Document) → first.over.document ≡ x → second.over.document ≡ x → (r : Result State Wrong) → found x old ≡ r → IsShownAt p.ended → IsShownAt q.ended → IsBarredShow p.ended → IsBarredShow q.ended
       → (p.ended ≡ q.ended) × (shown_text p.base p.ended ≡ shown_text q.base q.ended)
   show_found opens x one_is other_is (Ok s) is a b good better =
       let keeps = same_journal first.over.document x old one p one_is (first.over.journal opens) in

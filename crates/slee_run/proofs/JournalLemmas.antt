@@ -8,7 +8,7 @@ use Rattle.slee_disk.specs.Sides.{Sides}
 use Rattle.slee_disk.specs.Disk.{DiskState, LeavesOnly, is_clean}
 use Rattle.slee_disk.proofs.Moments.{leaves_start, now_since, tells, clean_of, clean_told, clean_settled, clean_only}
 use Rattle.commit_journal.specs.Journal.{payloads_on}
-use Rattle.commit_journal.specs.Reading.{recovered}
+use Rattle.commit_journal.specs.Reading.{Wrong, recovered}
 use Rattle.commit_journal.specs.Spelling.{records_size}
 use Rattle.commit_journal.proofs.Sizes.{records_size-more}
 use Rattle.router_state.specs.State.{State}
@@ -18,7 +18,7 @@ use Rattle.router_durable.specs.declared.fault.Stop.{Stop}
 use Rattle.router_durable.specs.declared.fault.Stop.TheVariants as stops
 use Rattle.router_durable.specs.declared.fault.OpenFault.{OpenFault}
 use Rattle.router_durable.specs.declared.fault.OpenFault.TheVariants as faults
-use Rattle.router_durable.specs.Recovery.{Unfit, restart, records, state_of as state_after}
+use Rattle.router_durable.specs.Recovery.{restart, records, state_of as state_after}
 use Rattle.router_durable.specs.Opening.{IsOpenCause, IsRefused, IsSmall, IsUntouched, IsUntouchedFor, IsLeftAlone, Opens, StandsFor}
 use Rattle.router_durable.proofs.Opens.{leaves_same}
 use Rattle.router_durable.specs.Core.{is_down, IsStopOf, IsHeld}
@@ -38,7 +38,7 @@ use Rattle.slee_run.specs.declared.status.Status.TheVariants as statuses
 -- ---- nothing was played
 
 -- the state that was found, or another
-abbrev pub or_start : State → Result State Unfit → State
+abbrev pub or_start : State → Result State Wrong → State
 or_start s (Ok found) = found
 or_start s (Err wrong) = s
 
@@ -88,7 +88,7 @@ still d = record { told = refl; seen = refl; images = λ image now. now; settled
 pub alone_still : (d : DiskState) → IsLeftAlone d d
 alone_still d = record { untouched = still d; moments = leaves_start d d.images (λ image now. now) }
 
-early_answer : (bytes : Result State Unfit) (status : Status) → IsEarly status → IsAnswerTo bytes status
+early_answer : (bytes : Result State Wrong) (status : Status) → IsEarly status → IsAnswerTo bytes status
 early_answer bytes statuses.Ok early = absurd early
 early_answer bytes statuses.BadWords early = tt
 early_answer bytes statuses.ReadFault early = tt
@@ -96,7 +96,6 @@ early_answer bytes statuses.WriteFault early = absurd early
 early_answer bytes statuses.DiskFault early = absurd early
 early_answer bytes (statuses.BadJournal side at kind) early = absurd early
 early_answer bytes (statuses.OtherDeployment kept_len place) early = absurd early
-early_answer bytes statuses.FirstFormat early = absurd early
 early_answer bytes (statuses.Full size adding) early = absurd early
 early_answer bytes (statuses.StepsSpent entries) early = absurd early
 early_answer bytes statuses.NoMemory early = tt
@@ -113,7 +112,6 @@ early_untouched d statuses.WriteFault early = absurd early
 early_untouched d statuses.DiskFault early = absurd early
 early_untouched d (statuses.BadJournal side at kind) early = absurd early
 early_untouched d (statuses.OtherDeployment kept_len place) early = absurd early
-early_untouched d statuses.FirstFormat early = absurd early
 early_untouched d (statuses.Full size adding) early = absurd early
 early_untouched d (statuses.StepsSpent entries) early = absurd early
 early_untouched d statuses.NoMemory early = tt
@@ -125,7 +123,7 @@ early_untouched d statuses.NotBuilt early = still d
 early_fits : (status : Status) → IsEarly status → (size adding : ℕ) → status ≡ statuses.Full size adding → ⊥
 early_fits status early size adding full = subst IsEarly full early
 
-begins : (start : State) (bytes : Result State Unfit) (status : Status) → IsAnswerTo bytes status → IsOpened bytes (or_start start bytes) [] status
+begins : (start : State) (bytes : Result State Wrong) (status : Status) → IsAnswerTo bytes status → IsOpened bytes (or_start start bytes) [] status
 begins start bytes status answer = record { from = λ s is. ap (or_start start) is; none = λ wrong is. refl; answer = answer }
 
 early_ended : (status : Status) → IsEarly status → IsGood status → status ≢ statuses.NoMemory → ⊥
@@ -136,7 +134,6 @@ early_ended statuses.WriteFault early good more = good
 early_ended statuses.DiskFault early good more = good
 early_ended (statuses.BadJournal side at kind) early good more = good
 early_ended (statuses.OtherDeployment kept_len place) early good more = good
-early_ended statuses.FirstFormat early good more = good
 early_ended (statuses.Full size adding) early good more = early
 early_ended (statuses.StepsSpent entries) early good more = early
 early_ended statuses.NoMemory early good more = more refl
@@ -167,7 +164,6 @@ refused_answer : (x : Document) (old : DiskState) (fault : OpenFault) → length
 refused_answer x old faults.DiskFault short small cause = tt
 refused_answer x old (faults.BadJournal side at kind) short small cause = ap (state_after x.start) cause
 refused_answer x old (faults.OtherDeployment kept_len place) short small cause = ap (state_after x.start) cause
-refused_answer x old faults.FirstFormat short small cause = ap (state_after x.start) cause
 refused_answer x old (faults.Full size adding) short small cause = absurd (omega (arith, short, small))
 refused_answer x old faults.NoMemory short small cause = tt
 
@@ -175,7 +171,6 @@ refused_untouched : (old new : DiskState) (fault : OpenFault) → IsUntouchedFor
 refused_untouched old new faults.DiskFault for = tt
 refused_untouched old new (faults.BadJournal side at kind) for = for
 refused_untouched old new (faults.OtherDeployment kept_len place) for = for
-refused_untouched old new faults.FirstFormat for = for
 refused_untouched old new (faults.Full size adding) for = tt
 refused_untouched old new faults.NoMemory for = tt
 
@@ -183,7 +178,6 @@ refused_still : (old new : DiskState) (fault : OpenFault) → IsUntouchedFor fau
 refused_still old new faults.DiskFault for up = absurd (up refl)
 refused_still old new (faults.BadJournal side at kind) for up = for
 refused_still old new (faults.OtherDeployment kept_len place) for up = for
-refused_still old new faults.FirstFormat for up = for
 refused_still old new (faults.Full size adding) for up = for
 refused_still old new faults.NoMemory for up = for
 
@@ -191,7 +185,6 @@ pub refused_fits : (bytes : List ℕ) (fault : OpenFault) → length bytes ≤ d
 refused_fits bytes faults.DiskFault short small size adding is = cc
 refused_fits bytes (faults.BadJournal side at kind) short small size adding is = cc
 refused_fits bytes (faults.OtherDeployment kept_len place) short small size adding is = cc
-refused_fits bytes faults.FirstFormat short small size adding is = cc
 refused_fits bytes (faults.Full length_of more) short small size adding is = omega (arith, short, small)
 refused_fits bytes faults.NoMemory short small size adding is = cc
 
@@ -199,7 +192,6 @@ refused_ended : (bytes : List ℕ) (fault : OpenFault) → length bytes ≤ depl
 refused_ended bytes faults.DiskFault short small good more = good
 refused_ended bytes (faults.BadJournal side at kind) short small good more = good
 refused_ended bytes (faults.OtherDeployment kept_len place) short small good more = good
-refused_ended bytes faults.FirstFormat short small good more = good
 refused_ended bytes (faults.Full size adding) short small good more = omega (arith, short, small)
 refused_ended bytes faults.NoMemory short small good more = more refl
 
@@ -207,7 +199,6 @@ refused_failed : (old new : DiskState) (fault : OpenFault) → (fault ≡ faults
 refused_failed old new faults.DiskFault failed is = failed refl
 refused_failed old new (faults.BadJournal side at kind) failed is = absurd (cc)
 refused_failed old new (faults.OtherDeployment kept_len place) failed is = absurd (cc)
-refused_failed old new faults.FirstFormat failed is = absurd (cc)
 refused_failed old new (faults.Full size adding) failed is = absurd (cc)
 refused_failed old new faults.NoMemory failed is = absurd (cc)
 
@@ -226,10 +217,10 @@ refused x old new fault short r = record {
 
 -- ---- a container was opened
 
-same_state : (s t : State) (r : Result State Unfit) → r ≡ Ok s → r ≡ Ok t → s ≡ t
+same_state : (s t : State) (r : Result State Wrong) → r ≡ Ok s → r ≡ Ok t → s ≡ t
 same_state s t r p q = cc (sym p ∙ q)
 
-no_fault : (s : State) (w : Unfit) (r : Result State Unfit) → r ≡ Ok s → r ≡ Err w → ⊥
+no_fault : (s : State) (w : Wrong) (r : Result State Wrong) → r ≡ Ok s → r ≡ Err w → ⊥
 no_fault s w r p q = cc
 
 whole_prefix : (part history : List Entry) → IsPrefix part history → length history ≤ length part → part ≡ history
@@ -396,7 +387,7 @@ module _ {D : Type 0} (disk_of : D → DiskState) (x : Document) (old now : Disk
   }
 
 -- the status of an end
-pub end_answer : (bytes : Result State Unfit) (entries : ℕ) (e : End) → IsOk bytes → IsAnswerTo bytes (status_after entries e)
+pub end_answer : (bytes : Result State Wrong) (entries : ℕ) (e : End) → IsOk bytes → IsAnswerTo bytes (status_after entries e)
 end_answer bytes entries ends.Done ok = ok
 end_answer bytes entries ends.Spent ok = ok
 end_answer bytes entries (ends.Full size adding) ok = ok

@@ -1,9 +1,8 @@
 -- What a run is, by what its words ask.
 use Rattle.std.proofs.Common.{◌≡◌, ◌≢◌, ◌⊎◌, inl, inr, ℕ, ◌<◌, ◌≤◌, List, [], length, true, false, refl, sym, ◌∙◌, ap, subst, Option, Some, None, Result, Ok, Err, IsOk, IsTrue, IfSome, MatchOption, arith}
 use Rattle.slee_disk.specs.Disk.{DiskState}
-use Rattle.commit_journal.specs.Reading.{Bad, Other}
+use Rattle.commit_journal.specs.Reading.{Wrong, Bad, Other}
 use Rattle.router_state.specs.State.{State}
-use Rattle.router_durable.specs.Recovery.{Unfit, Broken, FirstFormat}
 use Rattle.signal_script.specs.declared.signal.Signal.{Signal}
 use Rattle.trace_history.specs.declared.entry.Entry.{Entry}
 use Rattle.deploy_json.specs.declared.fault.ReadFault.{ReadFault}
@@ -348,19 +347,18 @@ run_of_trial words deploy signals before after old new status c seeded asks trie
 
 -- ---- without a fault
 
-no_fault : (bytes : Result State Unfit) (wrong : Unfit) → IsOk bytes → bytes ≡ Err wrong → ⊥
+no_fault : (bytes : Result State Wrong) (wrong : Wrong) → IsOk bytes → bytes ≡ Err wrong → ⊥
 no_fault bytes wrong ok is = let never : false ≡ true = subst IsOk is ok in cc
 
-good : (base : State) (steps : ℕ) (lines : List Signal) (history : List Entry) (bytes : Result State Unfit) (ended : Status) → EndsOn base steps lines history ended → IsOk bytes → IsAnswerTo bytes ended
+good : (base : State) (steps : ℕ) (lines : List Signal) (history : List Entry) (bytes : Result State Wrong) (ended : Status) → EndsOn base steps lines history ended → IsOk bytes → IsAnswerTo bytes ended
     → ended ≢ statuses.ReadFault → ended ≢ statuses.DiskFault → IsGood ended
 good base steps lines history bytes statuses.Ok comes ok answer reads keeps = tt
 good base steps lines history bytes statuses.BadWords comes ok answer reads keeps = absurd comes
 good base steps lines history bytes statuses.ReadFault comes ok answer reads keeps = absurd (reads refl)
 good base steps lines history bytes statuses.WriteFault comes ok answer reads keeps = absurd comes
 good base steps lines history bytes statuses.DiskFault comes ok answer reads keeps = absurd (keeps refl)
-good base steps lines history bytes (statuses.BadJournal side at kind) comes ok answer reads keeps = absurd (no_fault bytes (Broken (Bad side at kind)) ok answer)
-good base steps lines history bytes (statuses.OtherDeployment kept_len place) comes ok answer reads keeps = absurd (no_fault bytes (Broken (Other kept_len place)) ok answer)
-good base steps lines history bytes statuses.FirstFormat comes ok answer reads keeps = absurd (no_fault bytes FirstFormat ok answer)
+good base steps lines history bytes (statuses.BadJournal side at kind) comes ok answer reads keeps = absurd (no_fault bytes (Bad side at kind) ok answer)
+good base steps lines history bytes (statuses.OtherDeployment kept_len place) comes ok answer reads keeps = absurd (no_fault bytes (Other kept_len place) ok answer)
 good base steps lines history bytes (statuses.Full size adding) comes ok answer reads keeps = tt
 good base steps lines history bytes (statuses.StepsSpent entries) comes ok answer reads keeps = tt
 good base steps lines history bytes statuses.NoMemory comes ok answer reads keeps = tt
@@ -378,7 +376,6 @@ good_early base steps lines history statuses.WriteFault comes early reads = absu
 good_early base steps lines history statuses.DiskFault comes early reads = absurd early
 good_early base steps lines history (statuses.BadJournal side at kind) comes early reads = absurd early
 good_early base steps lines history (statuses.OtherDeployment kept_len place) comes early reads = absurd early
-good_early base steps lines history statuses.FirstFormat comes early reads = absurd early
 good_early base steps lines history (statuses.Full size adding) comes early reads = tt
 good_early base steps lines history (statuses.StepsSpent entries) comes early reads = tt
 good_early base steps lines history statuses.NoMemory comes early reads = tt
@@ -420,7 +417,6 @@ memory_or statuses.WriteFault = inr (λ e. cc)
 memory_or statuses.DiskFault = inr (λ e. cc)
 memory_or (statuses.BadJournal side at kind) = inr (λ e. cc)
 memory_or (statuses.OtherDeployment kept_len place) = inr (λ e. cc)
-memory_or statuses.FirstFormat = inr (λ e. cc)
 memory_or (statuses.Full size adding) = inr (λ e. cc)
 memory_or (statuses.StepsSpent entries) = inr (λ e. cc)
 memory_or statuses.NoMemory = inl refl
@@ -479,7 +475,6 @@ IsBarredShow statuses.WriteFault = Unit {0}
 IsBarredShow statuses.DiskFault = Unit {0}
 IsBarredShow (statuses.BadJournal side at kind) = Unit {0}
 IsBarredShow (statuses.OtherDeployment kept_len place) = Unit {0}
-IsBarredShow statuses.FirstFormat = Unit {0}
 IsBarredShow (statuses.Full size adding) = Unit {0}
 IsBarredShow (statuses.StepsSpent entries) = Unit {0}
 IsBarredShow statuses.NoMemory = Unit {0}
@@ -488,16 +483,15 @@ IsBarredShow (statuses.BadSignals line kind) = Unit {0}
 IsBarredShow (statuses.TooLarge what) = ⊥
 IsBarredShow statuses.NotBuilt = Unit {0}
 
-shown_or : (bytes : Result State Unfit) (stood : Status) → IsShownAt stood → IsOk bytes → IsAnswerTo bytes stood → stood ≢ statuses.ReadFault → stood ≢ statuses.DiskFault → IsBarredShow stood
+shown_or : (bytes : Result State Wrong) (stood : Status) → IsShownAt stood → IsOk bytes → IsAnswerTo bytes stood → stood ≢ statuses.ReadFault → stood ≢ statuses.DiskFault → IsBarredShow stood
     → (stood ≡ statuses.Ok) ⊎ (stood ≡ statuses.NoMemory)
 shown_or bytes statuses.Ok comes ok answer reads keeps good = inl refl
 shown_or bytes statuses.BadWords comes ok answer reads keeps good = absurd comes
 shown_or bytes statuses.ReadFault comes ok answer reads keeps good = absurd (reads refl)
 shown_or bytes statuses.WriteFault comes ok answer reads keeps good = absurd comes
 shown_or bytes statuses.DiskFault comes ok answer reads keeps good = absurd (keeps refl)
-shown_or bytes (statuses.BadJournal side at kind) comes ok answer reads keeps good = absurd (no_fault bytes (Broken (Bad side at kind)) ok answer)
-shown_or bytes (statuses.OtherDeployment kept_len place) comes ok answer reads keeps good = absurd (no_fault bytes (Broken (Other kept_len place)) ok answer)
-shown_or bytes statuses.FirstFormat comes ok answer reads keeps good = absurd (no_fault bytes FirstFormat ok answer)
+shown_or bytes (statuses.BadJournal side at kind) comes ok answer reads keeps good = absurd (no_fault bytes (Bad side at kind) ok answer)
+shown_or bytes (statuses.OtherDeployment kept_len place) comes ok answer reads keeps good = absurd (no_fault bytes (Other kept_len place) ok answer)
 shown_or bytes (statuses.Full size adding) comes ok answer reads keeps good = absurd comes
 shown_or bytes (statuses.StepsSpent entries) comes ok answer reads keeps good = absurd comes
 shown_or bytes statuses.NoMemory comes ok answer reads keeps good = inr refl
@@ -515,7 +509,6 @@ shown_early statuses.WriteFault comes early reads good = absurd comes
 shown_early statuses.DiskFault comes early reads good = absurd early
 shown_early (statuses.BadJournal side at kind) comes early reads good = absurd early
 shown_early (statuses.OtherDeployment kept_len place) comes early reads good = absurd early
-shown_early statuses.FirstFormat comes early reads good = absurd early
 shown_early (statuses.Full size adding) comes early reads good = absurd comes
 shown_early (statuses.StepsSpent entries) comes early reads good = absurd comes
 shown_early statuses.NoMemory comes early reads good = inr refl
@@ -541,7 +534,6 @@ barred_good bytes statuses.WriteFault barred none = tt
 barred_good bytes statuses.DiskFault barred none = tt
 barred_good bytes (statuses.BadJournal side at kind) barred none = tt
 barred_good bytes (statuses.OtherDeployment kept_len place) barred none = tt
-barred_good bytes statuses.FirstFormat barred none = tt
 barred_good bytes (statuses.Full size adding) barred none = tt
 barred_good bytes (statuses.StepsSpent entries) barred none = tt
 barred_good bytes statuses.NoMemory barred none = tt
@@ -607,7 +599,6 @@ answer bytes text statuses.WriteFault comes is reads = absurd comes
 answer bytes text statuses.DiskFault comes is reads = absurd comes
 answer bytes text (statuses.BadJournal side at kind) comes is reads = absurd comes
 answer bytes text (statuses.OtherDeployment kept_len place) comes is reads = absurd comes
-answer bytes text statuses.FirstFormat comes is reads = absurd comes
 answer bytes text (statuses.Full size adding) comes is reads = absurd comes
 answer bytes text (statuses.StepsSpent entries) comes is reads = absurd comes
 answer bytes text statuses.NoMemory comes is reads = memory_answer bytes
@@ -633,7 +624,6 @@ lines_answer bytes text seed count statuses.WriteFault comes is reads = absurd c
 lines_answer bytes text seed count statuses.DiskFault comes is reads = absurd comes
 lines_answer bytes text seed count (statuses.BadJournal side at kind) comes is reads = absurd comes
 lines_answer bytes text seed count (statuses.OtherDeployment kept_len place) comes is reads = absurd comes
-lines_answer bytes text seed count statuses.FirstFormat comes is reads = absurd comes
 lines_answer bytes text seed count (statuses.Full size adding) comes is reads = absurd comes
 lines_answer bytes text seed count (statuses.StepsSpent entries) comes is reads = absurd comes
 lines_answer bytes text seed count statuses.NoMemory comes is reads = memory_answer bytes
