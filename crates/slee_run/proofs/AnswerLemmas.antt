@@ -36,14 +36,14 @@ use Rattle.slee_container.specs.declared.container.Mode.TheVariants as modes
 use Rattle.slee_container.specs.Container.{View, Setup, IsKept, held_in, state_of}
 use Rattle.slee_container.specs.Opening.{Starts, skipped_by}
 use Rattle.slee_run.specs.Status.{row_of, status_line}
-use Rattle.slee_run.specs.Text.{IsReachedTime, IsUnendedTime, lines_text, output_text, short_text, task_text}
+use Rattle.slee_run.specs.Text.{IsReachedTime, IsUnendedTime, generation_line, lines_text, output_text, short_text, task_text}
 use Rattle.slee_run.specs.Given.{Document, IsDeployment, IsDocument, refusal_of, refusal_of_deploy, lines_in, lines_read}
 use Rattle.slee_run.specs.Checking.{IsBarred, IsCheckedAt, IsLinesFor}
 use Rattle.slee_run.specs.Headline.{EndsOn, ComesOn, IsByOne, IsByOneFrom, IsRefusedAs, IsTendedAt, IsTrialOn, IsTrialOrNone, IsUnread, IsWritten, lines_of_run, trial_steps}
 use Rattle.slee_run.specs.Opening.{journal_limit, found, IsAnswerTo, IsBeforeOpening, IsEarly, IsUntouchedAt}
 use Rattle.slee_run.specs.Stops.{CompactsJournal, DoneOn, IsCompacted, IsSettled, IsUnwritten, KeepsJournal, MeetsJournal, ShowsJournal, left_on}
 use Rattle.slee_run.specs.Playing.{IsPlayed, HadRoom, left, stop_of, status_after}
-use Rattle.slee_run.specs.Answers.{AreInputsFrom, CompactsState, DoesTask, IsDeployedFrom, IsFinished, IsGeneratedBy, IsLinesOut, IsPlayedBy, IsPlayedFrom, IsPlayedOn, IsRefusalBy, IsTaskBy, IsTaskOf, IsTriedBy, IsUnopenedAs, ShowsState, document_of, generation_of, limits_of, status_of, status_of_compacting}
+use Rattle.slee_run.specs.Answers.{AreInputsFrom, CompactsState, DoesTask, IsDeployedFrom, IsFinished, IsGeneratedBy, IsLinesOut, IsPlayedBy, IsPlayedFrom, IsPlayedOn, IsRefusalBy, IsTaskBy, IsTaskOf, IsTriedBy, IsUnopenedAs, ShowsState, document_of, generation_of, limits_of, status_of, status_of_compacting, status_of_renewal}
 use Rattle.slee_run.specs.declared.finishing.Report.{Report}
 use Rattle.slee_run.specs.declared.finishing.Report.TheVariants as reports
 use Rattle.slee_run.specs.declared.playing.End.{End}
@@ -98,6 +98,31 @@ late_told stood statuses.NotBuilt same late early = late (subst IsBeforeOpening 
 
 pub late_written : (before after : Option (List ℕ)) (text : List ℕ) (stood status : Status) → IsWritten before after text stood status → (IsBeforeOpening stood → ⊥) → IsBeforeOpening status → ⊥
 late_written before after text stood status w late early = late_told stood status (λ up found. sym (w.whole up).0) late early
+
+-- ---- what compacting a container answers
+
+pub compacted_out : {D : Type 0} (disk_of : D → DiskState) (old new : View D) (before after : Option (List ℕ)) (generation : ℕ) (status : Status) → Compacts (disk_of old.disk) (disk_of new.disk) old (Ok generation) new
+    → IsWritten before after (generation_line generation ++ status_line statuses.Ok) statuses.Ok status → CompactsState disk_of old new before after status
+compacted_out disk_of old new before after generation status compacts out = record { outcome = Ok generation; compacts = compacts; output = out }
+
+renewal_text : (fault : BeginFault) (s : State) → status_line (status_of_renewal fault) ≡ task_text tasks.Compact s 0 (status_of_renewal fault)
+renewal_text renewals.DiskFault s = refl
+renewal_text (renewals.Full size adding) s = refl
+renewal_text renewals.NoMemory s = refl
+
+pub renewal_out : {D : Type 0} (disk_of : D → DiskState) (old new : View D) (before after : Option (List ℕ)) (fault : BeginFault) (stood status : Status) → Compacts (disk_of old.disk) (disk_of new.disk) old (Err fault) new
+    → stood ≡ status_of_renewal fault → IsWritten before after (status_line stood) stood status → CompactsState disk_of old new before after status
+renewal_out disk_of old new before after fault stood status compacts is out = record {
+  outcome = Err fault;
+  compacts = compacts;
+  output = written_as before after (status_line (status_of_renewal fault)) (task_text tasks.Compact (state_of old) 0 (status_of_renewal fault)) (status_of_renewal fault) status (renewal_text fault (state_of old))
+      (subst (λ (s : Status). IsWritten before after (status_line s) s status) is out);
+}
+
+pub renewal_unwritten : (fault : BeginFault) (stood : Status) → stood ≡ status_of_renewal fault → stood ≢ statuses.WriteFault
+renewal_unwritten renewals.DiskFault stood is e = let never : statuses.DiskFault ≡ statuses.WriteFault = sym is ∙ e in cc
+renewal_unwritten (renewals.Full size adding) stood is e = let never : statuses.Full size adding ≡ statuses.WriteFault = sym is ∙ e in cc
+renewal_unwritten renewals.NoMemory stood is e = let never : statuses.NoMemory ≡ statuses.WriteFault = sym is ∙ e in cc
 
 -- ---- opening was refused
 

@@ -20,7 +20,7 @@ use Rattle.router_durable.specs.declared.fault.Stop.TheVariants as stops
 use Rattle.router_durable.specs.declared.fault.OpenFault.{OpenFault}
 use Rattle.router_durable.specs.declared.fault.OpenFault.TheVariants as faults
 use Rattle.router_durable.specs.Anew.{is_anew, kept_left, left_by, is_first, size_anew}
-use Rattle.router_durable.specs.Recovery.{restart, records}
+use Rattle.router_durable.specs.Recovery.{restart, records, records_of}
 use Rattle.router_durable.specs.Opening.{IsOpenCause, IsRefused, IsSmall, IsUntouched, IsUntouchedFor, IsLeftAlone, Opens, StandsFor}
 use Rattle.router_durable.proofs.Opens.{leaves_same}
 use Rattle.router_durable.specs.Core.{is_down, IsStopOf, IsHeld}
@@ -185,6 +185,24 @@ module _ (x : Document) (d : DiskState) (status : Status) (early : IsEarly statu
     kept = λ told is other up. inr (still d);
     full = λ told is size adding is_full. absurd (early_full status early size adding is_full);
   }
+
+-- ---- what is left behind is what stood, unless it is written anew
+
+abbrev pub IsCurrent : Document → DiskState → Type 0
+IsCurrent x d = (recovered x.bytes d.seen ≡ Ok None) ⊎ (is_anew (recovered x.bytes d.seen) ≡ false)
+
+pub left_records : (x : Document) (d : DiskState) (base : State) → IsCurrent x d → (left_on x d base).payloads ≡ records x.bytes d.seen
+left_records x d base current = by (recovered x.bytes d.seen) current
+  where
+    by_format : (kept : Kept) (f : Format) → is_first f ≡ false → (left_by base kept f).payloads ≡ kept.payloads
+    by_format kept One is = absurd (cc)
+    by_format kept Two is = refl
+
+    by : (r : Result (Option Kept) Wrong) → (r ≡ Ok None) ⊎ (is_anew r ≡ false) → (kept_left x.bytes base r).payloads ≡ records_of r
+    by (Err wrong) current = refl
+    by (Ok None) current = refl
+    by (Ok (Some kept)) (inl is) = absurd (cc)
+    by (Ok (Some kept)) (inr is) = by_format kept kept.head.format is
 
 -- ---- opening was refused
 
@@ -437,6 +455,7 @@ module _ {D : Type 0} (disk_of : D → DiskState) (x : Document) (old : DiskStat
     rest = kept.rest (over.told told) (stands up);
     records = has told last.acked (disk_of last.disk).seen (kept.records (over.told told) (stands up));
     again = again_from (kept.again (over.told told) (stands up)) (whole (stands up));
+    current = ap (λ (d : List ℕ). is_anew (recovered d (disk_of last.disk).seen)) (sym over.deployed) ∙ kept.current (over.told told) (stands up);
   }
 
   kept_now : IsTrue old.told → IsKeptNow x (base_of origin) last.history acked old (disk_of last.disk) status

@@ -39,7 +39,7 @@ run_orderly : (words : List (List ℕ)) (deploy signals before after : Option (L
 run_orderly words deploy signals before after old new status run opens told = by (run.given opens)
   where
     by : IsDocument deploy run.document ⊎ IsBefore run.history old new run.ended → IsOrderly run.base run.history
-    by (inl document) = opened_orderly deploy run.document old run.base run.history run.ended document run.run.legal.legal ((run.journal opens).opened told)
+    by (inl document) = opened_orderly deploy run.document old run.base run.history run.ended document run.run.legal.legal ((run.journal.met opens).opened told)
     by (inr early) = none_orderly run.base run.history early.none
 
 pub orderly : (words : List (List ℕ)) (deploy signals before after : Option (List ℕ)) (old new : DiskState) (status : Status) → IsLegalRun words deploy signals before after old new status → IsOrderlyRun words deploy signals before after old new status

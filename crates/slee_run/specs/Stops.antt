@@ -1,5 +1,5 @@
 -- What a run leaves on the disk, and what a stop of it may leave.
-use Rattle.std.specs.Prelude.{◌≡◌, ◌≢◌, ◌⊎◌, ℕ, ◌+◌, ◌≤◌, List, [], ◌++◌, length, IsTrue, Some, Ok, Err}
+use Rattle.std.specs.Prelude.{◌≡◌, ◌≢◌, ◌⊎◌, ℕ, ◌+◌, ◌≤◌, false, List, [], ◌++◌, length, IsTrue, Some, Ok, Err}
 use mathlib.Core.List.{IsPrefix}
 use Rattle.slee_disk.specs.Causes.{Rose}
 use Rattle.slee_disk.specs.Sides.{Sides}
@@ -60,6 +60,8 @@ pub record IsSettled (x : Document) (base : State) (acked : List Entry) (old new
   pub rest : IsTrue (is_clean new)
   pub records : records x.bytes new.seen ≡ records_behind x old base acked
   pub again : found x new ≡ Ok (replay base acked)
+  -- a side counts, and it is of the second format
+  pub current : is_anew (recovered x.bytes new.seen) ≡ false
 
 -- What a stop now leaves, and what is left where the disk didn't fail.
 pub record IsKeptNow (x : Document) (base : State) (history acked : List Entry) (old new : DiskState) (status : Status) : Type 0 where

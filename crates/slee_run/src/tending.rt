@@ -1,5 +1,5 @@
 //! What is done with a journal that isn't played on: its state is shown, or it is compacted.
-ghost use Rattle.std.specs.Prelude.{◌≡◌, ◌+◌, [], false};
+ghost use Rattle.std.specs.Prelude.{◌≡◌, ◌+◌, ◌++◌, [], false};
 ghost use Rattle.std.specs.Io.KnownBytes.{IsAtEnd};
 ghost use Rattle.script_types.specs.ProgramOf.{IsChecked};
 ghost use Rattle.slee_disk.specs.Causes.{Rose};
@@ -7,7 +7,9 @@ ghost use Rattle.slee_disk.specs.Taken.{ConsumesSome};
 ghost use Rattle.router_durable.specs.Core.{is_down};
 ghost use Rattle.slee_run.specs.Given.{IsDeployment, deploy_limit};
 ghost use Rattle.slee_run.specs.Opening.{IsBeforeOpening};
-ghost use Rattle.slee_run.specs.Text.{task_text};
+ghost use Rattle.slee_run.specs.Headline.{IsWritten};
+ghost use Rattle.slee_run.specs.Status.{status_line};
+ghost use Rattle.slee_run.specs.Text.{generation_line};
 ghost use Rattle.slee_run.specs.Answers.{DoesTask, IsTaskBy, IsTaskOf, document_of, document_on, status_of_renewal};
 
 use crate::finishing::{refuse, status_written};
@@ -154,9 +156,18 @@ fn compact_state<'d, K: Sink, D: Disk>(out: &mut K, container: &mut Container<'d
     ensures write { result ≡ Status.WriteFault → Rose (K.faults out.old) (K.faults out.new) }
 {
     match container.compact() {
-        Ok(generation) => status_written(write_compacted(out, generation), Status::Ok),
+        Ok(generation) => finish_compacted(out, generation),
         Err(fault) => refuse(out, status_of_renewal(fault)),
     }
+}
+
+/// Writes the generation of the new side, and that all is done.
+#[tactic(auto, using(crate::proofs::EndLemmas::written))]
+fn finish_compacted<K: Sink>(out: &mut K, generation: u64) -> Status
+    ensures output { IsWritten (K.contents out.old) (K.contents out.new) (generation_line generation ++ status_line Status.Ok) Status.Ok result }
+    ensures write { result ≡ Status.WriteFault → Rose (K.faults out.old) (K.faults out.new) }
+{
+    status_written(write_compacted(out, generation), Status::Ok)
 }
 
 /// The status of a side that isn't written anew.
