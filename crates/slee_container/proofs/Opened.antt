@@ -15,7 +15,9 @@ use Rattle.router_state.specs.Well.{IsWell}
 use Rattle.router_state.specs.WellEntities.{all_differ}
 use Rattle.router_state.specs.WellQueues.{differ_in_number, has_event_fields, is_event_row}
 use Rattle.router_state.specs.declared.rows.Queued.{Queued}
+use Rattle.router_steps.specs.Histories.{replay}
 use Rattle.router_durable.specs.Core.{Held, IsHeld, state_held}
+use Rattle.router_durable.specs.Facts.{base_of}
 use Rattle.router_durable.specs.Opening.{Opens}
 use Rattle.tx_attempt.specs.declared.ticket.Ticket.{Ticket}
 use Rattle.slee_container.specs.Claims.{AreDrawn}
@@ -56,6 +58,10 @@ takes_none lines skipped history none within = record {
   inputs = ap (λ (h : List Entry). take skipped lines ++ inputs_of h) none ∙ append-nil (take skipped lines);
   within = within;
 }
+
+-- the state that was found is well formed
+pub well_opened : {D : Type 0} (old new : DiskState) (first : State) (bytes : List ℕ) (limit : ℕ) (h : Held D) → Opens old new first bytes limit h → IsWell (state_held h)
+well_opened old new first bytes limit h opens = subst (λ (es : List Entry). IsWell (replay (base_of h.origin) es)) (sym opens.history) opens.held.keepable.well
 
 -- a container over a router that was just opened
 pub steady_begun : {D : Type 0} (h : Held D) (lines : List Signal) (mode : Mode) (inputs skipped : ℕ) → h.history ≡ [] → skipped ≡ skipped_by mode (length lines) inputs

@@ -10,10 +10,9 @@ use Rattle.slee_container.proofs.container.begun.Goals as goal
 
 pub invariant_of-result : goal.invariant_of-result
 invariant_of-result g c =
-    let served = c.deployment-deployment.result.now in
     let skipped = c.skipped_by-skipped.result in
     let is = c.skipped_by-skipped.ensures ∙ ap (λ (l : List Signal). skipped_by c.args.mode (length l) c.inputs.result) c.as_slice.ensures.same in (
       subst (λ (ts : List Ticket). IsSteady c.args.lines.now skipped c.args.core.history skipped (state_held c.args.core) ts) (sym c.new.ensures.items)
-          (steady_begun c.args.core c.args.lines.now c.args.mode c.inputs.result skipped served.parts served.codes c.requires is c.deployment-deployment.ensures.start),
+          (steady_begun c.args.core c.args.lines.now c.args.mode c.inputs.result skipped c.requires.new is c.requires.well),
       c.new-2.ensures.items ∙ sym (ap activities_of c.new.ensures.items),
     )

@@ -1,5 +1,5 @@
 use Rattle.router_durable.specs.Facts.{initial_of}
-use Rattle.slee_container.proofs.Opened.{kept_begun, starts_begun}
+use Rattle.slee_container.proofs.Opened.{kept_begun, starts_begun, well_opened}
 use Rattle.slee_container.proofs.container.Container.open.Goals as goal
 
 pub returns-clause-starts : goal.returns-clause-starts
@@ -11,3 +11,11 @@ pub returns-clause-kept : goal.returns-clause-kept
 returns-clause-kept g c =
     kept_begun g.D.Disk.disk c.in_ok-core.core c.args.lines.now c.args.mode c.args.limits (g.D.Disk.disk c.args.disk) (initial_of c.args.deployment.now.parts c.args.deployment.now.codes) c.args.bytes.now
     c.in_ok-core.ensures.opened c.begun.result c.begun.ensures
+
+pub begun-requires-clause-new : goal.begun-requires-clause-new
+begun-requires-clause-new g c = c.in_ok-core.ensures.opened.history
+
+pub begun-requires-clause-well : goal.begun-requires-clause-well
+begun-requires-clause-well g c =
+    well_opened (g.D.Disk.disk c.args.disk) (g.D.Disk.disk c.in_ok-core.core.disk) (initial_of c.args.deployment.now.parts c.args.deployment.now.codes) c.args.bytes.now c.args.limits.journal c.in_ok-core.core
+    c.in_ok-core.ensures.opened
