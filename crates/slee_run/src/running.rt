@@ -139,7 +139,7 @@ pub fn status_of(fault: OpenFault) -> Status
 }
 
 /// The status of an end, after so many entries.
-fn status_after(entries: u64, end: End) -> Status
+pub(crate) fn status_after(entries: u64, end: End) -> Status
     ensures { result ≡ status_after entries end }
 {
     match end {
