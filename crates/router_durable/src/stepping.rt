@@ -227,13 +227,6 @@ impl<'d, D: Disk> Core<'d, D> {
         &self.history
     }
 
-    /// What is true of each of them, whatever was done with it.
-    pub fn held(&self)
-        ensures { IsHeld (D.disk self.now.disk) self.now }
-    {
-        let _history = &self.history;
-    }
-
     /// How many entries there are since the opening.
     pub fn len(&self) -> u64
         ensures { result ≡ length self.now.history }

@@ -17,7 +17,10 @@ use Rattle.router_steps.specs.Histories.{replay}
 use Rattle.router_steps.specs.Payloads.{payload, payloads}
 use Rattle.router_steps.specs.Steps.{step_entry}
 use Rattle.router_durable.proofs.HistoryLemmas.{choices_of-append, payloads-append, replay-choices}
+use Rattle.commit_journal.specs.declared.fault.BeginFault.{BeginFault}
+use Rattle.commit_journal.specs.declared.fault.BeginFault.TheVariants as renewals
 use Rattle.router_durable.specs.Choices.{written_format}
+use Rattle.router_durable.specs.Compacting.{Compacts, origin_anew}
 use Rattle.router_durable.specs.Core.{Flushes, Held, Makes, halted, state_held}
 use Rattle.router_durable.specs.Facts.{HasRoom, IsFullFor, Origin, base_of, initial_of, records_since, size_added, size_after}
 use Rattle.router_durable.specs.Opening.{Opens}
@@ -126,7 +129,7 @@ module _ {D : Type 0} (h k : Held D) (lines : List Signal) (skipped taken steps 
       elsewhere n m is =
           let one : size ≡ n = cc in
           let two : adding ≡ m = cc in
-          subst (λ (x : ℕ). IsFullNext before h.history taken x m) one (subst (λ (y : ℕ). IsFullNext before h.history taken size y) two (record { choice = c; full = made.step.1; next = next }))
+          subst (λ (x : ℕ). IsFullNext before h.history taken x m) one (subst (λ (y : ℕ). IsFullNext before h.history taken size y) two (record { fewer = omega (arith, few); choice = c; full = made.step.1; next = next }))
   stepped before_it after_it c (Err faults.NoMemory) made few next run = kept_held made.step run
   stepped before_it after_it c (Err faults.Spent) made few next run = absurd made.step
 
@@ -191,5 +194,52 @@ pub documented : {D : Type 0} (old new : DiskState) (bytes : List ℕ) (limit : 
 documented old new bytes limit h d opens read = record {
   deployment = d;
   read = subst (λ (b : List ℕ). reading_of b ≡ Ok (read_as d)) (sym (ap (λ (o : Origin). o.deployment) opens.origin)) read;
-  first = sym (ap (λ (o : Origin). o.start) opens.origin);
+  first = sym (ap (λ (o : Origin). o.initial) opens.origin);
 }
+
+-- ---- the journal is compacted
+
+-- a run that may have no entry has none
+pub no_entries : (s : Setup) (h : List Entry) (taken : ℕ) (stop : Option Stop) → s.steps ≡ 0 → AreOfRun s h taken stop → h ≡ []
+no_entries s [] taken stop none run = refl
+no_entries s (e ∷ es) taken stop none run = absurd (omega (arith, none, run.few))
+
+-- and it isn't stopped with Full
+pub not_full : (s : Setup) (h : List Entry) (taken : ℕ) (stop : Option Stop) → s.steps ≡ 0 → AreOfRun s h taken stop → (size adding : ℕ) → stop ≡ Some (stops.Full size adding) → ⊥
+not_full s h taken stop none run size adding is = let next = run.full size adding is in omega (arith, none, next.fewer)
+
+anew : {D : Type 0} (h k : Held D) (lines : List Signal) (skipped taken steps : ℕ) → steps ≡ 0 → k.history ≡ [] → k.origin.initial ≡ h.origin.initial → k.origin.deployment ≡ h.origin.deployment → base_of k.origin ≡ base_of h.origin
+    → ((size adding : ℕ) → k.stop ≡ Some (stops.Full size adding) → ⊥) → AreOfRun (setup_over h lines skipped steps) h.history taken h.stop → AreOfRun (setup_over k lines skipped steps) k.history taken k.stop
+anew h k lines skipped taken steps none empty initial deployment base never run = record {
+  document = record {
+    deployment = run.document.deployment;
+    read = subst (λ (b : List ℕ). reading_of b ≡ Ok (read_as run.document.deployment)) (sym deployment) run.document.read;
+    first = run.document.first ∙ sym initial;
+  };
+  counted = subst (λ (s : State). s.inputs < 2 ^ 64) (sym base) run.counted;
+  few = subst (λ (es : List Entry). length es ≤ steps) (sym empty) (omega arith);
+  room = λ told. inl empty;
+  full = λ size adding is. absurd (never size adding is);
+}
+
+pub run_compacted : {D : Type 0} (before after : DiskState) (h k : Held D) (r : Result ℕ BeginFault) (lines : List Signal) (skipped taken steps : ℕ) → steps ≡ 0 → Compacts before after h r k
+    → AreOfRun (setup_over h lines skipped steps) h.history taken h.stop → AreOfRun (setup_over k lines skipped steps) k.history taken k.stop
+run_compacted {D = D} before after h k (Ok number) lines skipped taken steps none compacts run =
+    anew h k lines skipped taken steps none (ap (λ x. x.history) same ∙ empty) (ap (λ (o : Origin). o.initial) origin) (ap (λ (o : Origin). o.deployment) origin)
+    (ap base_of origin ∙ ap (λ (es : List Entry). replay (base_of h.origin) es) empty)
+    (λ size adding is. not_full (setup_over h lines skipped steps) h.history taken h.stop none run size adding (sym (ap (λ x. x.stop) same) ∙ is)) run
+  where
+    same : k ≡ record h { disk = k.disk; origin = k.origin }
+    same = compacts.ends.same
+
+    origin : k.origin ≡ origin_anew after (state_held h) h.origin k.origin
+    origin = compacts.ends.origin
+
+    empty : h.history ≡ []
+    empty = no_entries (setup_over h lines skipped steps) h.history taken h.stop none run
+run_compacted {D = D} before after h k (Err (renewals.Full size adding)) lines skipped taken steps none compacts run = kept_held h k lines skipped taken steps compacts.ends.0 run
+run_compacted {D = D} before after h k (Err renewals.NoMemory) lines skipped taken steps none compacts run = kept_held h k lines skipped taken steps compacts.ends run
+run_compacted {D = D} before after h k (Err renewals.DiskFault) lines skipped taken steps none compacts run =
+    let is = compacts.ends.0 in
+    anew h k lines skipped taken steps none (ap (λ x. x.history) is ∙ no_entries (setup_over h lines skipped steps) h.history taken h.stop none run) (ap (λ x. x.origin.initial) is) (ap (λ x. x.origin.deployment) is) (ap (λ x. base_of x.origin) is)
+    (λ size adding is_full. down_not_full size adding (sym (ap (λ x. x.stop) is) ∙ is_full)) run

@@ -24,10 +24,11 @@ setup_over h lines skipped steps = record { origin = h.origin; lines = lines; sk
 pub record IsDocumented (o : Origin) : Type 0 where
   pub deployment : Deployment
   pub read : reading_of o.deployment ≡ Ok (read_as deployment)
-  pub first : initial_of deployment.parts deployment.codes ≡ o.start
+  pub first : initial_of deployment.parts deployment.codes ≡ o.initial
 
 -- A record had no room: that of the next line, or of a choice that takes no line.
 pub record IsFullNext (s : Setup) (history : List Entry) (taken size adding : ℕ) : Type 0 where
+  pub fewer : length history < s.steps
   pub choice : Choice
   pub full : IsFullFor s.origin s.journal history choice size adding
   pub next : IsPrefix (input_of choice) (drop taken s.lines)

@@ -174,14 +174,14 @@ ends_on base steps lines history ends.Done entries count played = record {
 }
 ends_on base steps lines history ends.Spent entries count played =
     (count, record { taken = (played.rest, played.so_far.taken); spent = spent_on (replay base history) steps history played.rest played.ends })
-ends_on base steps lines history (ends.Full size adding) entries count played = record {
+ends_on base steps lines history (ends.Full size adding) entries count played = inl (record {
   taken = (played.rest, played.so_far.taken);
   fewer = played.ends.fewer;
   choice = played.ends.choice;
   may = due_follows (replay base history) played.rest played.ends.more played.ends.choice played.ends.next;
   adds = played.ends.adds;
   above = played.ends.above;
-}
+})
 ends_on base steps lines history ends.DiskFault entries count played = (played.rest, played.so_far.taken)
 ends_on base steps lines history ends.NoMemory entries count played = (played.rest, played.so_far.taken)
 
@@ -219,25 +219,25 @@ alone_on base steps lines history e entries played = record {
     by_spent ends.DiskFault p n is = absurd (cc)
     by_spent ends.NoMemory p n is = absurd (cc)
 
-    by_full : (e : End) (p : IsPlayed journal_limit base steps lines history e) (size adding : ℕ) → status_after entries e ≡ statuses.Full size adding
+    by_full : (e : End) (p : IsPlayed journal_limit base steps lines history e) (size adding : ℕ) → size ≢ 0 → status_after entries e ≡ statuses.Full size adding
         → AddsFirst (replay base history) adding (solo (steps - length history) (replay base history) p.rest)
-    by_full ends.Done p size adding is = absurd (cc)
-    by_full ends.Spent p size adding is = absurd (cc)
-    by_full (ends.Full length_of more) p size adding is =
+    by_full ends.Done p size adding some is = absurd (cc)
+    by_full ends.Spent p size adding some is = absurd (cc)
+    by_full (ends.Full length_of more) p size adding some is =
         let same : more ≡ adding = cc in
         adds_first (steps - length history) (replay base history) p.rest p.ends.more p.ends.choice adding (omega (arith, p.ends.fewer)) p.ends.next (sym same ∙ p.ends.adds)
-    by_full ends.DiskFault p size adding is = absurd (cc)
-    by_full ends.NoMemory p size adding is = absurd (cc)
+    by_full ends.DiskFault p size adding some is = absurd (cc)
+    by_full ends.NoMemory p size adding some is = absurd (cc)
 
 -- nothing was played
-pub alone_at_start : (base : State) (steps : ℕ) (lines : List Signal) (status : Status) → status ≢ statuses.Ok → ((n : ℕ) → status ≢ statuses.StepsSpent n) → ((size adding : ℕ) → status ≢ statuses.Full size adding)
+pub alone_at_start : (base : State) (steps : ℕ) (lines : List Signal) (status : Status) → status ≢ statuses.Ok → ((n : ℕ) → status ≢ statuses.StepsSpent n) → ((size adding : ℕ) → size ≢ 0 → status ≢ statuses.Full size adding)
     → IsByOne base steps lines [] status
 alone_at_start base steps lines status done spent full = record {
   rest = solo steps base lines;
   front = refl;
   done = λ is. absurd (done is);
   spent = λ n is. absurd (spent n is);
-  full = λ size adding is. absurd (full size adding is);
+  full = λ size adding some is. absurd (full size adding some is);
 }
 
 -- ---- text

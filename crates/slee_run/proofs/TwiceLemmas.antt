@@ -70,7 +70,6 @@ early_ends base other steps lines more statuses.WriteFault early found ends = ab
 early_ends base other steps lines more statuses.DiskFault early found ends = absurd early
 early_ends base other steps lines more (statuses.BadJournal side at kind) early found ends = absurd early
 early_ends base other steps lines more (statuses.OtherDeployment kept_len place) early found ends = absurd early
-early_ends base other steps lines more statuses.FirstFormat early found ends = absurd early
 early_ends base other steps lines more (statuses.Full size adding) early found ends = absurd early
 early_ends base other steps lines more (statuses.StepsSpent entries) early found ends = absurd early
 early_ends base other steps lines more statuses.NoMemory early found ends = absurd (found refl)
