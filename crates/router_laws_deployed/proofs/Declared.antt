@@ -71,7 +71,7 @@ members_rise (string s) all = refl
 members_rise (array ds) all = refl
 members_rise (object ms) all = all.0
 
-members_rise_at : (name : Bytes) (d : Data) → IsOrdered d → rises (names (members_at name d)) ≡ true
+pub members_rise_at : (name : Bytes) (d : Data) → IsOrdered d → rises (names (members_at name d)) ≡ true
 members_rise_at name d all = by (get name d) refl
   where
     by : (o : Option Data) → get name d ≡ o → rises (names (members_or_none (option_and_then as_object o))) ≡ true
@@ -132,15 +132,15 @@ rises_rows (f ∷ g ∷ fields) = ap (λ b. is_below f.name g.name && b) (rises_
 
 -- a document that was read
 
-unless_ok : {A : Type 0} (o : Option ReadFault) (r : Result A ReadFault) (x : A) → unless o r ≡ Ok x → r ≡ Ok x
+pub unless_ok : {A : Type 0} (o : Option ReadFault) (r : Result A ReadFault) (x : A) → unless o r ≡ Ok x → r ≡ Ok x
 unless_ok None r x is = is
 unless_ok (Some fault) r x is = absurd (cc)
 
-shape_none : (o : Option Fault) (r : Result PartsRow ReadFault) {p : PartsRow} → unless (option_map shape_read o) r ≡ Ok p → o ≡ None
+pub shape_none : (o : Option Fault) (r : Result PartsRow ReadFault) {p : PartsRow} → unless (option_map shape_read o) r ≡ Ok p → o ≡ None
 shape_none None r is = refl
 shape_none (Some fault) r is = absurd (cc)
 
-value_ordered : (bytes : List ℕ) (d : Data) → value_in bytes ≡ Some d → IsOrdered d
+pub value_ordered : (bytes : List ℕ) (d : Data) → value_in bytes ≡ Some d → IsOrdered d
 value_ordered bytes d is = elim (cases_Bool (is_utf8 bytes)) [
   | inl good ↦ read_ordered bytes d (rw good at is)
   | inr bad ↦ (let none : None ≡ Some d = rw bad at is in absurd (cc))

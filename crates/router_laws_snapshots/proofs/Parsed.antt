@@ -10,7 +10,7 @@ use Rattle.slee_value.proofs.PartLemmas.{reads_u64}
 use Rattle.router_state.specs.State.{State}
 use Rattle.router_state.specs.Masks.{is_mask_of}
 use Rattle.router_state.specs.Queues.{suspended_until}
-use Rattle.router_state.specs.Parsing.{ActivityPart, activity_at, entity_at, link_at, list_at, named_at, row_at, service_at, suspension_at, suspensions_at, timer_at, u64_at}
+use Rattle.router_state.specs.Parsing.{ActivityPart, activity_at, entity_at, filled, link_at, list_at, named_at, row_at, service_at, suspension_at, suspensions_at, timer_at, u64_at}
 use Rattle.router_state.specs.Restoring.{activity_of, attributes_of, delivered_of, entity_of, events_of, fields_of, link_of, masks_of, parsed, root_name_of, services_done_of, suspension_of}
 use Rattle.router_state.specs.Snapshot.{listed, spelled_activity, spelled_activity_2, spelled_before, spelled_behind, spelled_counts, spelled_entity, spelled_link, spelled_name, spelled_row, spelled_service, spelled_state, spelled_state_1, spelled_state_2, spelled_suspension, spelled_suspensions, spelled_timer}
 use Rattle.router_state.specs.declared.rows.Activity.{Activity}
@@ -271,7 +271,7 @@ tail_again : (format : ℕ) (rows : List Suspension) → (format == 2) ≡ false
 tail_again format [] one fit short = refl
 tail_again format (row ∷ rows) one fit short =
     let back = (again_items spelled_suspension FitsSuspension suspension_at again_suspension).back (row ∷ rows) [] fit short in
-    rw one (subst (λ bytes. list_at suspension_at bytes ≡ Ok (row ∷ rows, [])) (append-nil (listed spelled_suspension (row ∷ rows))) back)
+    rw one (subst (λ bytes. (list_at suspension_at bytes >>= λ x. filled x.0 x.1) ≡ Ok (row ∷ rows, [])) (append-nil (listed spelled_suspension (row ∷ rows))) (rw back refl))
 
 -- ---- both formats
 

@@ -192,7 +192,13 @@ row_at d bytes =
 abbrev pub suspension_at : List ℕ → Part Suspension
 suspension_at bytes = u64_at bytes >>= λ a. u64_at a.1 >>= λ until. Ok (record { activity = record { 0 = a.0 }; until = until.0 }, until.1)
 
--- the suspensions that stand at the end in format 1, where something stands there
+-- a list that is spelled only where it has items
+abbrev pub filled : {A : Type 0} → List A → List ℕ → Part (List A)
+filled [] rest = stray rest
+filled (x ∷ xs) rest = Ok (x ∷ xs, rest)
+
+-- the suspensions that stand at the end in format 1, where there are any
 abbrev pub suspensions_at : ℕ → List ℕ → Part (List Suspension)
 suspensions_at format [] = Ok ([], [])
-suspensions_at format (b ∷ rest) = if format == 2 then stray (b ∷ rest) else list_at suspension_at (b ∷ rest)
+suspensions_at format (b ∷ rest) =
+    if format == 2 then stray (b ∷ rest) else (list_at suspension_at (b ∷ rest) >>= λ rows. filled rows.0 rows.1)

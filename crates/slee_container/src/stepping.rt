@@ -103,7 +103,7 @@ impl<'d, D: Disk> Container<'d, D> {
     }
 
     /// Writes what isn't acknowledged yet. Where nothing is left to write, nothing is done.
-    #[tactic(auto, using(crate::proofs::Made::flushed))]
+    #[tactic(auto, using(crate::proofs::Made::flushed, crate::proofs::Turned::run_flushed))]
     pub fn flush(&mut self) -> Result<(), Failed>
         requires live { is_down self.old.stop ≡ false }
         ensures flush { Flushes self.old result self.new }

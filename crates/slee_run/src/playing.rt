@@ -75,7 +75,7 @@ fn close<'d, D: Disk>(container: &mut Container<'d, D>, end: End) -> End
 }
 
 /// Does what is to be done next.
-fn advance<'d, D: Disk>(
+pub(crate) fn advance<'d, D: Disk>(
     alloc: Global,
     container: &mut Container<'d, D>,
     selectors: &Selectors,

@@ -114,7 +114,7 @@ fn play_document<'d, K: Sink, D: Disk>(
 }
 
 /// The status of an end, after so many entries.
-fn status_after(entries: u64, end: End) -> Status
+pub(crate) fn status_after(entries: u64, end: End) -> Status
     ensures { result ≡ status_after entries end }
 {
     match end {

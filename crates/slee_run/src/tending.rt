@@ -1,5 +1,5 @@
 //! What is done with a journal that isn't played on: its state is shown, or it is compacted.
-ghost use Rattle.std.specs.Prelude.{◌≡◌, ◌+◌, ◌++◌, [], false};
+ghost use Rattle.std.specs.Prelude.{◌≡◌, ◌+◌, ◌++◌, false};
 ghost use Rattle.std.specs.Io.KnownBytes.{IsAtEnd};
 ghost use Rattle.script_types.specs.ProgramOf.{IsChecked};
 ghost use Rattle.slee_disk.specs.Causes.{Rose};
@@ -125,7 +125,7 @@ fn do_task<'d, K: Sink, D: Disk>(
     container: &mut Container<'d, D>,
     task: Task,
 ) -> Status
-    requires empty { container.old.history ≡ [] }
+    requires none { container.old.setup.steps ≡ 0 }
     requires live { is_down container.old.stop ≡ false }
     ensures done { DoesTask D.disk task container.old container.new (K.contents out.old) (K.contents out.new) result }
     ensures write { result ≡ Status.WriteFault → Rose (K.faults out.old) (K.faults out.new) }
@@ -150,7 +150,7 @@ fn show_state<'d, K: Sink, D: Disk>(out: &mut K, container: &Container<'d, D>) -
 
 /// Compacts the journal, and writes the generation of the new side.
 fn compact_state<'d, K: Sink, D: Disk>(out: &mut K, container: &mut Container<'d, D>) -> Status
-    requires empty { container.old.history ≡ [] }
+    requires none { container.old.setup.steps ≡ 0 }
     requires live { is_down container.old.stop ≡ false }
     ensures done { DoesTask D.disk Task.Compact container.old container.new (K.contents out.old) (K.contents out.new) result }
     ensures write { result ≡ Status.WriteFault → Rose (K.faults out.old) (K.faults out.new) }

@@ -72,7 +72,7 @@ fn read_counts(bytes: &[u8]) -> Result<(Counts, &[u8]), PartFault>
     Ok((counts, rest))
 }
 
-/// The suspensions that format 1 has at the end, where something stands there.
+/// The suspensions that format 1 has at the end, where there are any.
 fn read_suspensions<'b>(
     alloc: Global,
     deployment: &Deployment,
@@ -87,7 +87,12 @@ fn read_suspensions<'b>(
             if format == LATER_FORMAT {
                 return Err(stray(bytes));
             }
-            read_list(alloc, deployment, format, bytes)
+            let (rows, rest): (Vec<Suspension>, &[u8]) =
+                read_list(alloc, deployment, format, bytes)?;
+            if rows.is_empty() {
+                return Err(stray(rest));
+            }
+            Ok((rows, rest))
         }
     }
 }

@@ -5,6 +5,9 @@ use Rattle.slee_run.proofs.opening.open_journal.Goals as goal
 pub open-requires-clause-own : goal.open-requires-clause-own
 open-requires-clause-own g c = own_read c.args.bytes.now c.args.deployment.now c.requires.given c.requires.checked
 
+pub open-requires-clause-read : goal.open-requires-clause-read
+open-requires-clause-read g c = c.requires.given.read
+
 pub open-requires-clause-keepable : goal.open-requires-clause-keepable
 open-requires-clause-keepable g c = keepable_own c.args.bytes.now c.args.deployment.now c.requires.given
 

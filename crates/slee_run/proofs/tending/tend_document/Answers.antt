@@ -3,8 +3,8 @@ use Rattle.router_durable.specs.Core.{is_down}
 use Rattle.slee_run.proofs.AnswerLemmas.{opened_task, refused_task, unopened_unwritten}
 use Rattle.slee_run.proofs.tending.tend_document.Goals as goal
 
-pub do_task-status-requires-clause-empty : goal.do_task-status-requires-clause-empty
-do_task-status-requires-clause-empty g c = c.in-Ok.ensures.starts.opened.history
+pub do_task-status-requires-clause-none : goal.do_task-status-requires-clause-none
+do_task-status-requires-clause-none g c = c.in-Ok.ensures.starts.steps
 
 pub do_task-status-requires-clause-live : goal.do_task-status-requires-clause-live
 do_task-status-requires-clause-live g c = ap is_down c.in-Ok.ensures.starts.opened.stop

@@ -12,8 +12,8 @@ returns-clause-kept g c =
     kept_begun g.D.Disk.disk c.in_ok-core.core c.args.lines.now c.args.mode c.args.limits (g.D.Disk.disk c.args.disk) (initial_of c.args.deployment.now.parts c.args.deployment.now.codes) c.args.bytes.now
     c.in_ok-core.ensures.opened c.begun.result c.begun.ensures
 
-pub begun-requires-clause-new : goal.begun-requires-clause-new
-begun-requires-clause-new g c = c.in_ok-core.ensures.opened.history
+pub begun-requires-clause-none : goal.begun-requires-clause-none
+begun-requires-clause-none g c = c.in_ok-core.ensures.opened.history
 
 pub begun-requires-clause-well : goal.begun-requires-clause-well
 begun-requires-clause-well g c =
