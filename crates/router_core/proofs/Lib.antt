@@ -8,3 +8,4 @@ pub mod HandlerLemmas
 pub mod AttemptLemmas
 pub mod PartLemmas
 pub mod SelectLemmas
+pub mod RestoreLemmas

@@ -4,11 +4,14 @@
 mod applying;
 mod attempting;
 mod choosing;
+mod fault;
 mod planning;
 mod selecting;
 mod sight;
+mod snapshots;
 mod state;
 
+pub use fault::StateFault;
 pub use router_plans::Plan;
 pub use sight::Sight;
 pub use state::State;

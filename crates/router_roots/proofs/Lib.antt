@@ -4,3 +4,4 @@ pub mod SameLemmas
 pub mod FindLemmas
 pub mod ChangeLemmas
 pub mod BothLemmas
+pub mod FillLemmas

@@ -2,6 +2,7 @@
 #![tactic(auto)]
 
 mod changing;
+mod filling;
 mod finding;
 mod listing;
 mod names;

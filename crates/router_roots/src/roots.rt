@@ -1,18 +1,20 @@
 //! The roots of the state under their services, and those that have a convergence name under the number of it.
-ghost use Rattle.std.specs.Prelude.{◌≡◌, ◌==◌, ◌&&◌, ◌+◌, ◌≤◌, [], not, option_map, OnOk};
+ghost use Rattle.std.specs.Prelude.{◌≡◌, ◌==◌, ◌&&◌, ◌+◌, ◌≤◌, [], not, option_map, IfOk, IsTrue, OnOk};
 ghost use Rattle.std.specs.List.{list_any};
 ghost use Rattle.router_state.specs.State.{State};
 ghost use Rattle.router_state.specs.Changes.{after_change};
-ghost use Rattle.router_state.specs.Trees.{is_root_of};
+ghost use Rattle.router_state.specs.Trees.{is_root_of, root_name_before};
 ghost use Rattle.router_steps.specs.Selection.{root_named};
+ghost use Rattle.rows_sorted.specs.Orders.{rises_by, rises_in};
 ghost use Rattle.router_roots.specs.Room.{added, all_added};
 ghost use Rattle.router_roots.specs.Roots.{AreListed, AreRootsOf};
 
+use crate::filling::{names_of, roots_of};
 use crate::finding::{has_other, named_among};
 use crate::listing::{list_name, list_root, unlist_name, unlist_root};
 use crate::names::name_number;
 use crate::room::all_added;
-use router_state::Change;
+use router_state::{Change, Entity, RootName};
 use router_stores::Stores;
 use rows_index::Entry;
 use rows_leaves::Leaves;
@@ -53,6 +55,18 @@ impl Roots {
             by_service: Leaves::new(alloc),
             by_name: Leaves::new(alloc),
         }
+    }
+
+    /// The roots among these entities, with their names.
+    pub fn of(alloc: Global, entities: &[Entity], names: &[RootName]) -> Result<Self, NoMemory>
+        requires entities { IsTrue (rises_in (λ row. row.number.0) entities.now) }
+        requires names { IsTrue (rises_by root_name_before names.now) }
+        ensures { IfOk result (λ roots. AreListed entities.now names.now roots.by_service roots.by_name) }
+    {
+        Ok(Roots {
+            by_service: roots_of(alloc, entities)?,
+            by_name: names_of(alloc, names)?,
+        })
     }
 
     /// Makes room for the roots that the changes create, and for the names that they give.

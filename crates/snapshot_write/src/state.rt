@@ -1,5 +1,5 @@
 //! The whole state.
-ghost use Rattle.std.specs.Prelude.{◌≡◌, ◌++◌, [], IfOk, OnErr, OnOk, if◌then◌else◌};
+ghost use Rattle.std.specs.Prelude.{◌≡◌, ◌++◌, ◌<◌, ◌^◌, [], IfOk, OnErr, OnOk, if◌then◌else◌, length};
 ghost use Rattle.std.specs.Str.{bytes_eq};
 ghost use Rattle.script_types.specs.ProgramOf.{kept_program};
 ghost use Rattle.deploy_model.specs.Resolving.{deployed_of};
@@ -94,7 +94,8 @@ fn initial_bytes(alloc: Global, deployment: &Deployment) -> Result<Vec<u8>, NoMe
 
 /// The bytes, but none where they are those of the initial state.
 fn unless_initial(alloc: Global, bytes: Vec<u8>, initial: &[u8]) -> Vec<u8>
-    ensures { result.items ≡ (if bytes_eq bytes.items initial.now then [] else bytes.items) }
+    ensures bytes { result.items ≡ (if bytes_eq bytes.items initial.now then [] else bytes.items) }
+    ensures short { length bytes.items < 2 ^ 64 }
 {
     if bytes.as_slice() == initial {
         Vec::new(alloc)
@@ -104,13 +105,15 @@ fn unless_initial(alloc: Global, bytes: Vec<u8>, initial: &[u8]) -> Vec<u8>
 }
 
 /// The snapshot of the state for a journal: its bytes in format 2, and none where it is the initial state of the deployment.
+/// Its bytes are fewer than 2^64.
 pub fn snapshot_text(
     alloc: Global,
     stores: &Stores,
     deployment: &Deployment,
 ) -> Result<Vec<u8>, NoMemory>
     requires { deployed_of deployment.now.parts ≡ stores.now.state.deployment }
-    ensures { IfOk result (λ bytes. bytes.items ≡ snapshot_text 2 stores.now.state) }
+    ensures text { IfOk result (λ bytes. bytes.items ≡ snapshot_text 2 stores.now.state) }
+    ensures short { OnOk result (length (spelled_state 2 stores.now.state) < 2 ^ 64) }
 {
     let bytes = bytes_of(alloc, stores, deployment)?;
     let initial = initial_bytes(alloc, deployment)?;

@@ -1,0 +1,5 @@
+pub mod Members
+pub mod Counting
+pub mod Naming
+pub mod Holding
+pub mod Keepable

@@ -1,0 +1,9 @@
+pub mod Taken
+pub mod TakenEntities
+pub mod TakenActivities
+pub mod TakenOthers
+pub mod TakenStates
+pub mod OwnRows
+pub mod Spelling
+pub mod WholeStates
+pub mod Unread
