@@ -130,7 +130,7 @@ refused_ends : (base : State) (steps : ℕ) (lines : List Signal) (bytes : List 
 refused_ends base steps lines bytes faults.DiskFault small = (lines, refl)
 refused_ends base steps lines bytes (faults.BadJournal side at kind) small = refl
 refused_ends base steps lines bytes (faults.OtherDeployment kept_len place) small = refl
-refused_ends base steps lines bytes (faults.Full size adding) small = inr (record { none = refl; size = small.1.0; above = small.1.2 })
+refused_ends base steps lines bytes (faults.Full size adding) small = inr (record { none = refl; empty = small.1.0; above = small.1.2 })
 refused_ends base steps lines bytes faults.NoMemory small = (lines, refl)
 
 refused_unended : (fault : OpenFault) → IsUnendedTime (row_of (status_of fault)).time

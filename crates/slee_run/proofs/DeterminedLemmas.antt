@@ -150,7 +150,7 @@ led_full : (x : Document) (old : DiskState) (base : State) (steps : ℕ) (lines 
     → (one : IsByOne base steps lines history (statuses.Full size adding)) → (size ≡ size_behind x old base history) ⊎ ((history ≡ []) × IsUnbegun x base old size adding)
     → Led x old base steps lines history one.rest (statuses.Full size adding)
 led_full x old base steps lines history size adding ends one (inr unbegun) = Unbegun size adding refl unbegun.0 unbegun.1
-led_full x old base steps lines history size adding (inr none) one (inl is) = absurd (no_size x old base history (sym none.size ∙ is))
+led_full x old base steps lines history size adding (inr none) one (inl is) = absurd (no_size x old base history (sym none.empty ∙ is))
 led_full x old base steps lines history size adding (inl full) one (inl is) = Full size adding refl is (one.full size adding (λ none. no_size x old base history (sym none ∙ is)) refl) full.above
 
 led : (x : Document) (old : DiskState) (base : State) (steps : ℕ) (lines : List Signal) (history : List Entry) (status : Status) (bytes : Result State Wrong) (s : State) → EndsOn base steps lines history status → (one : IsByOne base steps lines history status)

@@ -156,7 +156,7 @@ pub record IsFullOn (limit : ℕ) (base : State) (steps : ℕ) (lines : List Sig
 -- No entry is made, since a side that opening would write anew would be longer than the limit.
 pub record HasNoSide (limit : ℕ) (history : List Entry) (size adding : ℕ) : Type 0 where
   pub none : history ≡ []
-  pub size : size ≡ 0
+  pub empty : size ≡ 0
   pub above : limit < adding
 
 -- When a run on these lines, in so many entries at most, comes to a status, and what its history is then.
