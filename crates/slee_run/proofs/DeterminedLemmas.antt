@@ -358,7 +358,7 @@ no_fault_disk : (status : Status) → (IsByFault status → ⊥) → status ≢ 
 no_fault_disk status fine is = fine (subst IsByFault (sym is) tt)
 
 -- the steps were reached and came to no end only by a fault, or where something had no room
-HasNoRoom : Status → Type 0
+abbrev HasNoRoom : Status → Type 0
 HasNoRoom status = (size : ℕ) × ((adding : ℕ) × (status ≡ statuses.Full size adding))
 
 between : (status : Status) → IsReachedTime (row_of status).time → IsUnendedTime (row_of status).time → IsByFault status ⊎ HasNoRoom status

@@ -53,13 +53,13 @@ no_history base status = record { legal = tt; front = ([], refl); whole = λ up.
 
 -- behind a side that is written anew there are no records
 none_left : (bytes : List ℕ) (base : State) (r : Result (Option Kept) Wrong) → IsTrue (is_anew r) → (kept_left bytes base r).payloads ≡ []
-none_left bytes base (Err wrong) anew = absurd anew
+none_left bytes base (Err wrong) anew = absurd (cc)
 none_left bytes base (Ok None) anew = refl
 none_left bytes base (Ok (Some kept)) anew = by kept.head.format anew
   where
     by : (f : Format) → IsTrue (is_first f) → (left_by base kept f).payloads ≡ []
     by One first = refl
-    by Two first = absurd first
+    by Two first = absurd (cc)
 
 pub stands_somewhere : (x : Document) (old : DiskState) (base : State) (image : Sides) → StandsFor x.start x.bytes base old.seen image → RestartsSomewhere x old base [] image
 stands_somewhere x old base image stands = by stands.records
@@ -248,7 +248,7 @@ refused_full x old base (faults.Full length_of more) is cause size adding full =
     let same = one_state cause.0 base (found x old) cause.1 is in
     subst (λ (n : ℕ). IsUnbegun x base old n adding) size_is
     (subst (λ (n : ℕ). IsUnbegun x base old length_of n) adding_is
-    (record { anew = cause.2.1; unwritten = (cause.2.2.0, cause.2.2.1 ∙ ap (size_anew x.bytes) same, cause.2.2.2) }))
+    (record { anew = cause.2; unwritten = (cause.3.0, cause.3.1 ∙ ap (size_anew x.bytes) same, cause.3.2) }))
 refused_full x old base faults.NoMemory is cause size adding full = absurd (cc)
 
 refused_begun : (bytes : List ℕ) (fault : OpenFault) → IsSmall journal_limit bytes fault → IsBegun (status_of fault) → ⊥
