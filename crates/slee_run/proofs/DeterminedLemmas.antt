@@ -359,7 +359,7 @@ no_fault_disk status fine is = fine (subst IsByFault (sym is) tt)
 
 -- the steps were reached and came to no end only by a fault, or where something had no room
 abbrev HasNoRoom : Status → Type 0
-HasNoRoom status = (size : ℕ) × ((adding : ℕ) × (status ≡ statuses.Full size adding))
+HasNoRoom status = (size : ℕ) × (adding : ℕ) × (status ≡ statuses.Full size adding)
 
 between : (status : Status) → IsReachedTime (row_of status).time → IsUnendedTime (row_of status).time → IsByFault status ⊎ HasNoRoom status
 between statuses.Ok reached unended = absurd unended
@@ -688,36 +688,36 @@ module _ (old one other : DiskState) (words : List (List ℕ)) (deploy bytes : L
   documents opens a b =
       one_document deploy second.over.document first.over.document (opened_by words deploy bytes old other q second opens b) (opened_by words deploy bytes old one p first opens a)
 
-  both_met : (opens : Opens words) (no : (task : Task) → Tends words task → ⊥) (steps : ℕ) (lines other_lines : List Signal) → (p.base ≡ q.base → lines ≡ other_lines)
+  both_met : (opens : Opens words) (plain : (task : Task) → Tends words task → ⊥) (steps : ℕ) (lines other_lines : List Signal) → (p.base ≡ q.base → lines ≡ other_lines)
       → EndsOn p.base steps lines p.history p.ended → IsByOne p.base steps lines p.history p.ended
       → EndsOn q.base steps other_lines q.history q.ended → IsByOne q.base steps other_lines q.history q.ended → Same p.history q.history p.ended q.ended
-  both_met opens no steps lines other_lines lined a b c d =
+  both_met opens plain steps lines other_lines lined a b c d =
       let same = documents opens (early_fault p.base steps lines p.history p.ended a) (early_fault q.base steps other_lines q.history q.ended c) in
       met first.over.document steps lines other_lines old one other p q (found first.over.document old) told refl lined
-      (record { ends = a; alone = b; met = first.over.journal.met opens; keeps = first.over.journal.keeps opens no; fine = first.fine })
+      (record { ends = a; alone = b; met = first.over.journal.met opens; keeps = first.over.journal.keeps opens plain; fine = first.fine })
       (record {
         ends = c;
         alone = d;
         met = subst (λ (z : Document). MeetsJournal z q.base q.history old other q.ended) same (second.over.journal.met opens);
-        keeps = subst (λ (z : Document). KeepsJournal z q.base q.history q.acked old other q.ended) same (second.over.journal.keeps opens no);
+        keeps = subst (λ (z : Document). KeepsJournal z q.base q.history q.acked old other q.ended) same (second.over.journal.keeps opens plain);
         fine = second.fine;
       })
 
-  play_same : (opens : Opens words) (no : (task : Task) → Tends words task → ⊥) (mode : Mode) (steps : ℕ) (o : Option Status) → refusal_of deploy bytes ≡ o
+  play_same : (opens : Opens words) (plain : (task : Task) → Tends words task → ⊥) (mode : Mode) (steps : ℕ) (o : Option Status) → refusal_of deploy bytes ≡ o
       → MatchOption o (EndsOn p.base steps (lines_of_run mode p.base (lines_in bytes)) p.history p.ended) (λ r. (p.history ≡ []) × IsRefusedAs r p.ended) → IsByOneOn p.base mode steps deploy bytes p.history p.ended
       → MatchOption o (EndsOn q.base steps (lines_of_run mode q.base (lines_in bytes)) q.history q.ended) (λ r. (q.history ≡ []) × IsRefusedAs r q.ended) → IsByOneOn q.base mode steps deploy bytes q.history q.ended
       → Same p.history q.history p.ended q.ended
-  play_same opens no mode steps None is a b c d =
-      both_met opens no steps (lines_of_run mode p.base (lines_in bytes)) (lines_of_run mode q.base (lines_in bytes)) (λ same. ap (λ (s : State). lines_of_run mode s (lines_in bytes)) same) a (b is) c (d is)
-  play_same opens no mode steps (Some refusal) is a b c d = refused_same refusal a c
+  play_same opens plain mode steps None is a b c d =
+      both_met opens plain steps (lines_of_run mode p.base (lines_in bytes)) (lines_of_run mode q.base (lines_in bytes)) (λ same. ap (λ (s : State). lines_of_run mode s (lines_in bytes)) same) a (b is) c (d is)
+  play_same opens plain mode steps (Some refusal) is a b c d = refused_same refusal a c
 
-  trial_same : (opens : Opens words) (no : (task : Task) → Tends words task → ⊥) (seed count : ℕ) (o : Option Status) → MatchOption o (IsTrialOrNone p.base seed count deploy p.history p.ended) (λ r. (p.history ≡ []) × IsRefusedAs r p.ended)
+  trial_same : (opens : Opens words) (plain : (task : Task) → Tends words task → ⊥) (seed count : ℕ) (o : Option Status) → MatchOption o (IsTrialOrNone p.base seed count deploy p.history p.ended) (λ r. (p.history ≡ []) × IsRefusedAs r p.ended)
       → MatchOption o (IsTrialOrNone q.base seed count deploy q.history q.ended) (λ r. (q.history ≡ []) × IsRefusedAs r q.ended) → Same p.history q.history p.ended q.ended
-  trial_same opens no seed count (Some refusal) a b = refused_same refusal a b
-  trial_same opens no seed count None (inr nothing) b = absurd (first.fine (unread_fault p.ended nothing.1))
-  trial_same opens no seed count None (inl x) (inr nothing) = absurd (second.fine (unread_fault q.ended nothing.1))
-  trial_same opens no seed count None (inl x) (inl y) =
-      both_met opens no trial_steps (generated seed count (deployed_of x.deployment.parts)) (generated seed count (deployed_of y.deployment.parts))
+  trial_same opens plain seed count (Some refusal) a b = refused_same refusal a b
+  trial_same opens plain seed count None (inr nothing) b = absurd (first.fine (unread_fault p.ended nothing.1))
+  trial_same opens plain seed count None (inl x) (inr nothing) = absurd (second.fine (unread_fault q.ended nothing.1))
+  trial_same opens plain seed count None (inl x) (inl y) =
+      both_met opens plain trial_steps (generated seed count (deployed_of x.deployment.parts)) (generated seed count (deployed_of y.deployment.parts))
       (λ same. ap (generated seed count) (one_deployed deploy x.deployment y.deployment x.given y.given)) x.ends x.alone y.ends y.alone
 
   -- a deployment that is refused was opened by none

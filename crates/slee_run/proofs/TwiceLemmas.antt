@@ -1,5 +1,5 @@
 -- Two runs over one disk.
-use Rattle.std.proofs.Common.{◌≡◌, ◌≢◌, ◌⊎◌, inl, inr, ℕ, false, List, [], ◌++◌, refl, sym, ◌∙◌, ap, subst, append_assoc, Option, Some, None, Ok, IsTrue, MatchOption, arith}
+use Rattle.std.proofs.Common.{◌≡◌, ◌≢◌, ◌⊎◌, inl, inr, ℕ, false, List, [], ◌++◌, refl, sym, ◌∙◌, ap, subst, append_assoc, append-nil, Option, Some, None, Ok, IsTrue, MatchOption, arith}
 use Rattle.signal_script.specs.declared.signal.Signal.{Signal}
 use Rattle.slee_disk.specs.Sides.{Sides}
 use Rattle.slee_disk.specs.Disk.{DiskState, IsAtRest, is_clean}
@@ -155,8 +155,8 @@ module _ (words : List (List ℕ)) (mode : Mode) (steps : ℕ) (x : Document) (b
       opens : Opens words
       opens = opens_by mode steps words plays
 
-      no : (task : Task) → Tends words task → ⊥
-      no task tends = no_play words (command_of_task task) mode steps tends (task_apart task).0 (task_apart task).1 plays
+      plain : (task : Task) → Tends words task → ⊥
+      plain task tends = no_play words (command_of_task task) mode steps tends (task_apart task).0 (task_apart task).1 plays
 
       told : IsTrue old.told
       told = clean_told old clean
@@ -165,7 +165,7 @@ module _ (words : List (List ℕ)) (mode : Mode) (steps : ℕ) (x : Document) (b
       meets = subst (λ (y : Document). MeetsJournal y r.base r.history old new r.ended) (one_document deploy r.document x document given) (r.journal.met opens)
 
       keeps : KeepsJournal x r.base r.history r.acked old new r.ended
-      keeps = subst (λ (y : Document). KeepsJournal y r.base r.history r.acked old new r.ended) (one_document deploy r.document x document given) (r.journal.keeps opens no)
+      keeps = subst (λ (y : Document). KeepsJournal y r.base r.history r.acked old new r.ended) (one_document deploy r.document x document given) (r.journal.keeps opens plain)
 
       from : r.base ≡ base
       from = (meets.opened told).from base is
