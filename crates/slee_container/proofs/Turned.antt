@@ -66,10 +66,11 @@ fewer steps n up is = elim (cases_Bool (nat_le steps n)) [
 
 -- ---- a run that begins
 
-pub run_begun : {D : Type 0} (h : Held D) (lines : List Signal) (skipped taken steps inputs : ℕ) → IsDocumented h.origin → h.history ≡ [] → h.stop ≡ None → inputs ≡ (state_held h).inputs → inputs < 2 ^ 64
+pub run_begun : {D : Type 0} (h : Held D) (lines : List Signal) (skipped taken steps inputs : ℕ) → IsDocumented h.origin → h.origin.torn ≡ false → h.history ≡ [] → h.stop ≡ None → inputs ≡ (state_held h).inputs → inputs < 2 ^ 64
     → AreOfRun (setup_over h lines skipped steps) h.history taken h.stop
-run_begun h lines skipped taken steps inputs document none live is below = record {
+run_begun h lines skipped taken steps inputs document untorn none live is below = record {
   document = document;
+  whole = λ some. untorn;
   counted = subst (λ (n : ℕ). n < 2 ^ 64) (is ∙ ap (λ (es : List Entry). (replay (base_of h.origin) es).inputs) none) below;
   few = subst (λ (es : List Entry). length es ≤ steps) (sym none) (omega arith);
   room = λ told. inl none;
@@ -96,6 +97,7 @@ module _ {D : Type 0} (h k : Held D) (lines : List Signal) (skipped taken steps 
   grown e more same is room few never run = subst (λ (s : Setup). AreOfRun s k.history more k.stop) (sym same) (record {
     document = run.document;
     counted = run.counted;
+    whole = run.whole;
     few = omega (arith, few, ap length is, length-append h.history (e ∷ []));
     room = λ told. inr (omega (arith, room told, ap (size_after h.origin) is, grown_size h.origin h.history e));
     full = λ size adding is_full. absurd (never size adding is_full);
@@ -108,6 +110,8 @@ module _ {D : Type 0} (h k : Held D) (lines : List Signal) (skipped taken steps 
       subst (λ (s : Setup). AreOfRun s k.history taken k.stop) (sym same) (subst (λ (es : List Entry). AreOfRun before es taken k.stop) (sym is) (record {
         document = run.document;
         counted = run.counted;
+        whole = run.whole;
+    whole = run.whole;
         few = run.few;
         room = run.room;
         full = full;
@@ -162,11 +166,12 @@ run_input {D = D} before after h k signal r lines skipped taken steps xs v is fr
 pub run_flushed : {D T E : Type 0} (h k : Held D) (r : Result T E) (lines : List Signal) (skipped taken steps : ℕ) → Flushes h r k
     → AreOfRun (setup_over h lines skipped steps) h.history taken h.stop → AreOfRun (setup_over k lines skipped steps) k.history taken k.stop
 run_flushed {D = D} h k (Ok done) lines skipped taken steps is run =
-    subst (λ (x : Held D). AreOfRun (setup_over x lines skipped steps) x.history taken x.stop) (sym is) (record { document = run.document; counted = run.counted; few = run.few; room = run.room; full = run.full })
+    subst (λ (x : Held D). AreOfRun (setup_over x lines skipped steps) x.history taken x.stop) (sym is) (record { document = run.document; counted = run.counted; whole = run.whole; few = run.few; room = run.room; full = run.full })
 run_flushed {D = D} h k (Err fault) lines skipped taken steps is run =
     subst (λ (x : Held D). AreOfRun (setup_over x lines skipped steps) x.history taken x.stop) (sym is) (record {
       document = run.document;
       counted = run.counted;
+    whole = run.whole;
       few = run.few;
       room = run.room;
       full = λ size adding is_full. absurd (down_not_full size adding is_full);
@@ -183,6 +188,7 @@ run_halted {D = D} h k lines skipped taken steps is run =
     subst (λ (x : Held D). AreOfRun (setup_over x lines skipped steps) x.history taken x.stop) (sym is) (record {
       document = run.document;
       counted = run.counted;
+    whole = run.whole;
       few = run.few;
       room = run.room;
       full = λ size adding is_full. run.full size adding (halt_full h.stop size adding is_full);
@@ -217,6 +223,7 @@ anew h k lines skipped taken steps none empty initial deployment base never run 
     first = run.document.first ∙ sym initial;
   };
   counted = subst (λ (s : State). s.inputs < 2 ^ 64) (sym base) run.counted;
+  whole = λ some. absurd (omega (arith, none, some));
   few = subst (λ (es : List Entry). length es ≤ steps) (sym empty) (omega arith);
   room = λ told. inl empty;
   full = λ size adding is. absurd (never size adding is);
@@ -243,3 +250,7 @@ run_compacted {D = D} before after h k (Err renewals.DiskFault) lines skipped ta
     let is = compacts.ends.0 in
     anew h k lines skipped taken steps none (ap (λ x. x.history) is ∙ no_entries (setup_over h lines skipped steps) h.history taken h.stop none run) (ap (λ x. x.origin.initial) is) (ap (λ x. x.origin.deployment) is) (ap (λ x. base_of x.origin) is)
     (λ size adding is_full. down_not_full size adding (sym (ap (λ x. x.stop) is) ∙ is_full)) run
+
+-- and it isn't torn
+pub untorn : {D : Type 0} (old new : DiskState) (first : State) (bytes : List ℕ) (limit : ℕ) (h : Held D) → Opens old new first bytes limit h → h.origin.torn ≡ false
+untorn old new first bytes limit h opens = ap (λ (o : Origin). o.torn) opens.origin

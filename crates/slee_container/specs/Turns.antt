@@ -1,5 +1,5 @@
 -- What is true of each run of a container, and a run as plain data, by which those who take turns tell whether a container is of their run.
-use Rattle.std.specs.Prelude.{◌≡◌, ◌⊎◌, ℕ, ◌≤◌, ◌<◌, ◌^◌, if◌then◌else◌, IsTrue, List, [], ◌∷◌, ◌++◌, drop, flat_map, length, Option, Some, Ok}
+use Rattle.std.specs.Prelude.{◌≡◌, ◌⊎◌, ℕ, ◌≤◌, ◌<◌, ◌^◌, if◌then◌else◌, IsTrue, false, List, [], ◌∷◌, ◌++◌, drop, flat_map, length, Option, Some, Ok}
 use mathlib.Core.List.{IsPrefix}
 use Rattle.signal_script.specs.declared.signal.Signal.{Signal}
 use Rattle.signal_script.specs.Signals.{spelled}
@@ -37,6 +37,8 @@ pub record IsFullNext (s : Setup) (history : List Entry) (taken size adding : �
 pub record AreOfRun (s : Setup) (history : List Entry) (taken : ℕ) (stop : Option Stop) : Type 0 where
   pub document : IsDocumented s.origin
   pub counted : (base_of s.origin).inputs < 2 ^ 64
+  -- a run that may have entries is over a journal whose compaction didn't fail
+  pub whole : 0 < s.steps → s.origin.torn ≡ false
   pub few : length history ≤ s.steps
   -- each entry that was made had room
   pub room : IsTrue s.origin.told → (history ≡ []) ⊎ (size_after s.origin history ≤ s.journal)
@@ -63,6 +65,7 @@ setup_told s = record {
   lines = flat_map line_told (drop s.skipped s.lines);
   base = spelled_state told_format (base_of s.origin);
   side = side_told s.origin;
+  records = s.origin.before;
   journal = s.journal;
   steps = s.steps;
   moment = s.origin.moment;

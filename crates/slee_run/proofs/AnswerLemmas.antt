@@ -238,7 +238,7 @@ module _ (x : Document) (before after : Option (List ℕ)) (old new : DiskState)
 
 -- ---- a container was opened
 
-end_words : (entries : ℕ) (e : End) → status_after entries e ≢ statuses.BadWords
+pub end_words : (entries : ℕ) (e : End) → status_after entries e ≢ statuses.BadWords
 end_words entries ends.Done is = cc
 end_words entries ends.Spent is = cc
 end_words entries (ends.Full size adding) is = cc
@@ -281,11 +281,11 @@ run_lines modes.SkipTaken base lines = elim (cases_Bool (nat_le (length lines) b
 abbrev Prints : Report → List Entry → Status → Status → List ℕ → Type 0
 Prints report acked ended stood text = ((stood ≡ ended) × (text ≡ output_text report acked ended)) ⊎ ((stood ≡ statuses.NoMemory) × (text ≡ short_text report acked))
 
-stood_same : (report : Report) (acked : List Entry) (ended stood : Status) (text : List ℕ) → Prints report acked ended stood text → stood ≢ statuses.NoMemory → stood ≡ ended
+pub stood_same : (report : Report) (acked : List Entry) (ended stood : Status) (text : List ℕ) → Prints report acked ended stood text → stood ≢ statuses.NoMemory → stood ≡ ended
 stood_same report acked ended stood text (inl whole) more = whole.0
 stood_same report acked ended stood text (inr short) more = absurd (more short.0)
 
-stood_unwritten : (report : Report) (acked : List Entry) (ended stood : Status) (text : List ℕ) → Prints report acked ended stood text → ended ≢ statuses.WriteFault → stood ≢ statuses.WriteFault
+pub stood_unwritten : (report : Report) (acked : List Entry) (ended stood : Status) (text : List ℕ) → Prints report acked ended stood text → ended ≢ statuses.WriteFault → stood ≢ statuses.WriteFault
 stood_unwritten report acked ended stood text (inl whole) fine is = fine (sym whole.0 ∙ is)
 stood_unwritten report acked ended stood text (inr short) fine is = let never : statuses.NoMemory ≡ statuses.WriteFault = sym short.0 ∙ is in cc
 

@@ -120,7 +120,7 @@ idle_on s (choices.Initial a) none is there front = not_next is_initial s a.0 (n
 idle_on s (choices.Deliver a) none is there front = not_next is_delivery s a.0 (none_next s s.activities a.0 none there) is
 idle_on s (choices.Finish a) none is there front = not_next is_finish s a.0 (none_next s s.activities a.0 none there) is
 
-idle_of : (s : State) → solo_choice s [] ≡ None → is_used_up s ≡ false → (c : Choice) → MayFollow s [] c → ⊥
+pub idle_of : (s : State) → solo_choice s [] ≡ None → is_used_up s ≡ false → (c : Choice) → MayFollow s [] c → ⊥
 idle_of s none fresh c may = idle_on s c (no_least s none fresh) (and_parts (not (is_used_up s)) (is_next s c) may.enabled).1 may.there may.next
 
 -- what was made first
@@ -160,7 +160,7 @@ some_follows s left (Some next) is some = (next.0, due_follows s left next.1 nex
 
 -- ---- how playing ends, as a status
 
-spent_on : (s : State) (steps : ℕ) (history : List Entry) (left : List Signal) → IsSpent s steps history left
+pub spent_on : (s : State) (steps : ℕ) (history : List Entry) (left : List Signal) → IsSpent s steps history left
     → (is_used_up s ≡ true) ⊎ ((length history ≡ steps) × ((c : Choice) × MayFollow s left c))
 spent_on s steps history left (inl up) = inl up
 spent_on s steps history left (inr few) = inr (few.0, some_follows s left (solo_choice s left) refl few.1)

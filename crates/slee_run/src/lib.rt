@@ -6,9 +6,7 @@ mod command;
 mod delivering;
 mod finishing;
 mod generating;
-mod jobs;
 mod laws;
-mod many;
 mod opening;
 mod playing;
 mod printing;
@@ -24,7 +22,6 @@ mod words;
 
 pub use command::Command;
 pub use laws::{command_is_spelled, run_is_determined, spelled_is_command};
-pub use many::{run, run_many};
 pub use status::{Given, Status};
 pub use top::run_one;
 pub use twice::{Twice, play_twice};

@@ -16,5 +16,5 @@ invariant_of-result g c =
       subst (λ (ts : List Ticket). IsSteady c.args.lines.now skipped c.args.core.history skipped (state_held c.args.core) ts) (sym c.new.ensures.items)
           (steady_begun c.args.core c.args.lines.now c.args.mode c.inputs.result skipped c.requires.none is c.requires.well),
       c.new-2.ensures.items ∙ sym (ap activities_of c.new.ensures.items),
-      run_begun c.args.core c.args.lines.now skipped skipped c.args.steps c.inputs.result c.requires.document c.requires.none c.requires.live (search rules) (search rules),
+      run_begun c.args.core c.args.lines.now skipped skipped c.args.steps c.inputs.result c.requires.document c.requires.whole c.requires.none c.requires.live (search rules) (search rules),
     )

@@ -1,3 +1,0 @@
-pub mod HandLemmas
-pub mod MoveLemmas
-pub mod WorkLemmas
