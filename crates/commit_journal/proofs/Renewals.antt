@@ -14,7 +14,7 @@ use Rattle.commit_journal.specs.Spelling.{header, FitsHead, records_size, size}
 use Rattle.commit_journal.specs.Reading.{Kept}
 use Rattle.commit_journal.specs.Gate.{IsOpened}
 use Rattle.commit_journal.specs.Rewriting.{IsRewritten}
-use Rattle.commit_journal.specs.Kept.{StandsIn, Keeps, Stands, with_more, side_renewed, generation_renewed, renewed, StandsOrRenewed}
+use Rattle.commit_journal.specs.Kept.{StandsIn, Stands, with_more, side_renewed, generation_renewed, renewed, StandsOrRenewed}
 use Rattle.commit_journal.specs.Renewal.{LeavesRenewed}
 use Rattle.commit_journal.specs.Journal.{View, payloads_on, kept_by, IsSound, IsDurable, IsSameSide, GoesOn}
 use Rattle.commit_journal.proofs.Rewrites.{first_stands, first_image, next_stands, next_image}

@@ -83,6 +83,7 @@ pub record IsOpen {D : Type 0} (deployment : List ℕ) (limit : ℕ) (v : View D
   pub running : v.stage ≢ Stopped
   pub empty : v.batch ≡ []
   pub named : v.kept.head.deployment ≡ deployment
+  pub plain : v.stage ≡ stages.Blank → v.kept.head.snapshot ≡ []
   pub limited : v.limit ≡ limit
 
 -- a journal that was opened over these sides

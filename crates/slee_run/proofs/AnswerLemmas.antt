@@ -312,7 +312,7 @@ module _ {D : Type 0} (disk_of : D → DiskState) (x : Document) (old : DiskStat
   unplayed = ap (replay first_base) opens.history
 
   -- the lines that are left then are those of the run
-  lines_left : left first ≡ lines_of_run mode first_base lines
+  pub lines_left : left first ≡ lines_of_run mode first_base lines
   lines_left =
       ap (λ (n : ℕ). drop n first.setup.lines) (starts.taken ∙ starts.skipped ∙ ap (λ (s : State). skipped_by mode (length lines) s.inputs) unplayed)
       ∙ ap (λ (l : List Signal). drop (skipped_by mode (length lines) first_base.inputs) l) starts.lined

@@ -1,4 +1,4 @@
-use Rattle.std.proofs.Common.{◌≡◌, ◌≢◌, IsTrue, ap, sym, refl, ◌∙◌, subst, List, ℕ, []}
+use Rattle.std.proofs.Common.{◌≡◌, ◌≢◌, ap, sym, ◌∙◌, subst, List, ℕ, []}
 use Rattle.slee_disk.specs.Disk.{LeavesOnly}
 use Rattle.slee_disk.proofs.Moments.{clean_told, on_ok, tells}
 use Rattle.commit_journal.specs.declared.stage.Stage.TheVariants.{Ready}

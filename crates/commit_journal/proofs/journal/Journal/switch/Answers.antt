@@ -48,7 +48,7 @@ returns-in-Ok-clause-renewed g c =
     rw (← c.self.view_is) (λ told.
     let stands = switched_stands c.self.inside.stage kept c.self.inside.end c.self.inside.batch c.self.inside.limit old c.self.invariant running c.args.snapshot c.args.bytes.now fits bound is new c.rewrite_side.ensures.told opened told in
     record {
-      same = view_kept _ _ _ _ [] _ _ [] _ (switched_kept c.self.inside.stage kept c.self.inside.end c.self.inside.batch c.self.inside.limit old c.self.invariant running c.args.snapshot c.args.bytes.now fits bound is new c.rewrite_side.ensures.told opened _ _ side generation told) none c.in-Ok-clear.ensures.items;
+      same = view_kept _ _ _ _ [] _ _ [] _ (switched_kept c.self.inside.stage kept c.self.inside.end c.self.inside.batch c.self.inside.limit old c.self.invariant running c.args.snapshot c.args.bytes.now fits bound is new c.rewrite_side.ensures.told opened _ _ side generation told) none c.clear.ensures.items;
       durable = switched_durable c.self.inside.stage kept c.self.inside.end c.self.inside.batch c.self.inside.limit old c.self.invariant running c.args.snapshot c.args.bytes.now fits bound is new c.rewrite_side.ensures.told opened _ _ side generation told (c.in-Ok.ensures.rest told);
       written = written_renewed c.self.inside.stage kept c.args.snapshot _ _ new side generation (written_on after (length c.args.bytes.now) new stands (spelled_here after.side after.head c.args.bytes.now fit is _ (opened told).here));
       beside = λ _. (opened told).elsewhere;
