@@ -21,7 +21,7 @@ use Rattle.commit_journal.specs.declared.fault.BeginFault.{BeginFault}
 use Rattle.commit_journal.specs.declared.fault.BeginFault.TheVariants as renewals
 use Rattle.router_durable.specs.Choices.{written_format}
 use Rattle.router_durable.specs.Compacting.{Compacts, origin_anew}
-use Rattle.router_durable.specs.Core.{Flushes, Held, Makes, halted, state_held}
+use Rattle.router_durable.specs.Core.{Flushes, Held, Makes, halted, lifted, state_held}
 use Rattle.router_durable.specs.Facts.{HasRoom, IsFullFor, Origin, base_of, initial_of, records_since, size_added, size_after}
 use Rattle.router_durable.specs.Opening.{Opens}
 use Rattle.router_durable.specs.declared.fault.StepFault.{StepFault}
@@ -210,10 +210,6 @@ pub no_entries : (s : Setup) (h : List Entry) (taken : ℕ) (stop : Option Stop)
 no_entries s [] taken stop none run = refl
 no_entries s (e ∷ es) taken stop none run = absurd (omega (arith, none, run.few))
 
--- and it isn't stopped with Full
-pub not_full : (s : Setup) (h : List Entry) (taken : ℕ) (stop : Option Stop) → s.steps ≡ 0 → AreOfRun s h taken stop → (size adding : ℕ) → stop ≡ Some (stops.Full size adding) → ⊥
-not_full s h taken stop none run size adding is = let next = run.full size adding is in omega (arith, none, next.fewer)
-
 anew : {D : Type 0} (h k : Held D) (lines : List Signal) (skipped taken steps : ℕ) → steps ≡ 0 → k.history ≡ [] → k.origin.initial ≡ h.origin.initial → k.origin.deployment ≡ h.origin.deployment → base_of k.origin ≡ base_of h.origin
     → ((size adding : ℕ) → k.stop ≡ Some (stops.Full size adding) → ⊥) → AreOfRun (setup_over h lines skipped steps) h.history taken h.stop → AreOfRun (setup_over k lines skipped steps) k.history taken k.stop
 anew h k lines skipped taken steps none empty initial deployment base never run = record {
@@ -229,14 +225,21 @@ anew h k lines skipped taken steps none empty initial deployment base never run 
   full = λ size adding is. absurd (never size adding is);
 }
 
+-- a compaction lifts a stop for want of room
+lifted_not_full : (stop : Option Stop) (size adding : ℕ) → lifted stop ≡ Some (stops.Full size adding) → ⊥
+lifted_not_full None size adding is = cc
+lifted_not_full (Some stops.DiskFault) size adding is = cc
+lifted_not_full (Some (stops.Full was more)) size adding is = cc
+lifted_not_full (Some stops.NoMemory) size adding is = cc
+
 pub run_compacted : {D : Type 0} (before after : DiskState) (h k : Held D) (r : Result ℕ BeginFault) (lines : List Signal) (skipped taken steps : ℕ) → steps ≡ 0 → Compacts before after h r k
     → AreOfRun (setup_over h lines skipped steps) h.history taken h.stop → AreOfRun (setup_over k lines skipped steps) k.history taken k.stop
 run_compacted {D = D} before after h k (Ok number) lines skipped taken steps none compacts run =
     anew h k lines skipped taken steps none (ap (λ x. x.history) same ∙ empty) (ap (λ (o : Origin). o.initial) origin) (ap (λ (o : Origin). o.deployment) origin)
     (ap base_of origin ∙ ap (λ (es : List Entry). replay (base_of h.origin) es) empty)
-    (λ size adding is. not_full (setup_over h lines skipped steps) h.history taken h.stop none run size adding (sym (ap (λ x. x.stop) same) ∙ is)) run
+    (λ size adding is. lifted_not_full h.stop size adding (sym (ap (λ x. x.stop) same) ∙ is)) run
   where
-    same : k ≡ record h { disk = k.disk; origin = k.origin }
+    same : k ≡ record h { disk = k.disk; origin = k.origin; stop = lifted h.stop }
     same = compacts.ends.same
 
     origin : k.origin ≡ origin_anew after (state_held h) h.origin k.origin

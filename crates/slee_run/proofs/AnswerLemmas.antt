@@ -28,7 +28,7 @@ use Rattle.router_durable.specs.Choices.{written_format}
 use Rattle.router_durable.specs.Compacting.{Compacts as CompactsRouter, IsCompacted as IsCompactedRouter, Renews}
 use Rattle.router_durable.specs.Facts.{Origin, RestartsIn, base_of}
 use Rattle.router_durable.specs.Opening.{IsSmall, Opens}
-use Rattle.router_durable.specs.Core.{Held, IsStopOf, is_down}
+use Rattle.router_durable.specs.Core.{Held, IsStopOf, is_down, lifted}
 use Rattle.router_durable.specs.Recovery.{restart}
 use Rattle.slee_container.specs.Compacting.{Compacts}
 use Rattle.slee_container.specs.declared.container.Mode.{Mode}
@@ -297,6 +297,13 @@ renewed_to d e same s t also kept generation before after o there renews =
     (subst (λ (u : State). Renews d (snapshot_text written_format u) kept after.seen generation o) also
     (renews kept (subst (λ (c : List ℕ). recovered c before.seen ≡ Ok (Some kept)) (sym same) there)))
 
+-- whether the disk failed stays the same where a stop for want of room is lifted
+lifted_up : (stop : Option Stop) → is_down (lifted stop) ≡ is_down stop
+lifted_up None = refl
+lifted_up (Some stops.DiskFault) = refl
+lifted_up (Some (stops.Full size adding)) = refl
+lifted_up (Some stops.NoMemory) = refl
+
 module _ {D : Type 0} (disk_of : D → DiskState) (x : Document) (old : DiskState) (first : View D) (mode : Mode) (steps : ℕ) (lines : List Signal)
     (starts : Starts old (disk_of first.disk) x.start x.bytes lines mode (limits_of steps) first) where
   abbrev now : DiskState
@@ -516,7 +523,7 @@ module _ {D : Type 0} (disk_of : D → DiskState) (x : Document) (old : DiskStat
       compacted_to : (generation : ℕ) (c : CompactsRouter (disk_of first.disk) (disk_of last.disk) (held_in first) (Ok generation) (held_in last)) → IsTrue old.told → IsCompacted x first_base generation old (disk_of last.disk)
       compacted_to generation c told =
           let told_last : IsTrue last.setup.origin.told = subst IsTrue (sym (ap (λ (o : Origin). o.told) c.ends.origin)) (c.told (over_first.told told)) in
-          let up : is_down last.stop ≡ false = ap (λ (h : Held D). is_down h.stop) c.ends.same ∙ first_up in
+          let up : is_down last.stop ≡ false = ap (λ (h : Held D). is_down h.stop) c.ends.same ∙ lifted_up first.stop ∙ first_up in
           let there = renewed_to first.setup.origin.deployment x.bytes over_first.deployed (state_of first) first_base unplayed (left_on x old first_base) generation (disk_of first.disk) (disk_of last.disk) last.setup.origin (left_first told) (c.ends.renews (over_first.told told)) in
           record {
             rest = kept_last.held.rest told_last up;

@@ -9,6 +9,7 @@ use Rattle.slee_disk.specs.Disk.{DiskState, LeavesOnly, is_clean}
 use Rattle.slee_disk.proofs.Moments.{leaves_start, now_since, tells, clean_of, clean_told, clean_settled, clean_only}
 use Rattle.commit_journal.specs.declared.format.Format.{Format}
 use Rattle.commit_journal.specs.declared.format.Format.TheVariants.{One, Two}
+use Rattle.commit_journal.specs.declared.stage.Stage.TheVariants.{Found}
 use Rattle.commit_journal.specs.Reading.{Kept, Wrong, recovered}
 use Rattle.commit_journal.specs.Spelling.{records_size}
 use Rattle.commit_journal.proofs.Sizes.{records_size-more}
@@ -57,7 +58,7 @@ none_left bytes base (Err wrong) anew = absurd (cc)
 none_left bytes base (Ok None) anew = refl
 none_left bytes base (Ok (Some kept)) anew = by kept.head.format anew
   where
-    by : (f : Format) → IsTrue (is_first f) → (left_by base kept f).payloads ≡ []
+    by : (f : Format) → IsTrue (is_first f) → (left_by base Found kept f).payloads ≡ []
     by One first = refl
     by Two first = absurd (cc)
 
@@ -194,7 +195,7 @@ IsCurrent x d = (recovered x.bytes d.seen ≡ Ok None) ⊎ (is_anew (recovered x
 pub left_records : (x : Document) (d : DiskState) (base : State) → IsCurrent x d → (left_on x d base).payloads ≡ records x.bytes d.seen
 left_records x d base current = by (recovered x.bytes d.seen) current
   where
-    by_format : (kept : Kept) (f : Format) → is_first f ≡ false → (left_by base kept f).payloads ≡ kept.payloads
+    by_format : (kept : Kept) (f : Format) → is_first f ≡ false → (left_by base Found kept f).payloads ≡ kept.payloads
     by_format kept One is = absurd (cc)
     by_format kept Two is = refl
 
