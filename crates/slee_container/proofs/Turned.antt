@@ -111,7 +111,7 @@ module _ {D : Type 0} (h k : Held D) (lines : List Signal) (skipped taken steps 
         document = run.document;
         counted = run.counted;
         whole = run.whole;
-    whole = run.whole;
+        whole = run.whole;
         few = run.few;
         room = run.room;
         full = full;
@@ -171,7 +171,7 @@ run_flushed {D = D} h k (Err fault) lines skipped taken steps is run =
     subst (λ (x : Held D). AreOfRun (setup_over x lines skipped steps) x.history taken x.stop) (sym is) (record {
       document = run.document;
       counted = run.counted;
-    whole = run.whole;
+      whole = run.whole;
       few = run.few;
       room = run.room;
       full = λ size adding is_full. absurd (down_not_full size adding is_full);
@@ -188,7 +188,7 @@ run_halted {D = D} h k lines skipped taken steps is run =
     subst (λ (x : Held D). AreOfRun (setup_over x lines skipped steps) x.history taken x.stop) (sym is) (record {
       document = run.document;
       counted = run.counted;
-    whole = run.whole;
+      whole = run.whole;
       few = run.few;
       room = run.room;
       full = λ size adding is_full. run.full size adding (halt_full h.stop size adding is_full);
