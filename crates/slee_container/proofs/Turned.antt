@@ -29,7 +29,7 @@ use Rattle.router_durable.specs.declared.fault.StepFault.TheVariants as faults
 use Rattle.router_durable.specs.declared.fault.Stop.{Stop}
 use Rattle.router_durable.specs.declared.fault.Stop.TheVariants as stops
 use Rattle.tx_attempt.specs.declared.ticket.Ticket.{Ticket}
-use Rattle.slee_container.specs.Container.{Setup, View, over_router, state_of}
+use Rattle.slee_container.specs.Container.{IsSteady, Setup, View, over_router, state_of}
 use Rattle.slee_container.specs.Steps.{is_made, is_spent, taken_after}
 use Rattle.slee_container.specs.Turns.{AreOfRun, IsDocumented, IsFullNext, setup_over}
 use Rattle.slee_container.proofs.Made.{untaken}
@@ -111,7 +111,6 @@ module _ {D : Type 0} (h k : Held D) (lines : List Signal) (skipped taken steps 
         document = run.document;
         counted = run.counted;
         whole = run.whole;
-        whole = run.whole;
         few = run.few;
         room = run.room;
         full = full;
@@ -161,6 +160,12 @@ run_input {D = D} before after h k signal r lines skipped taken steps xs v is fr
     stepped h k lines skipped taken steps before after (choices.Input signal) r made (fewer steps (length h.history) (is_used_up (state_held h)) few) (left_next lines taken signal line) run
 
 -- ---- other calls
+
+-- what isn't acknowledged is written: the history stays
+pub steady_flushed : {D T E : Type 0} (h k : Held D) (r : Result T E) (lines : List Signal) (skipped taken : ℕ) (claims : List Ticket) → Flushes h r k
+    → IsSteady lines skipped h.history taken (state_held h) claims → IsSteady lines skipped k.history taken (state_held k) claims
+steady_flushed {D = D} h k (Ok done) lines skipped taken claims is steady = subst (λ (x : Held D). IsSteady lines skipped x.history taken (state_held x) claims) (sym is) steady
+steady_flushed {D = D} h k (Err fault) lines skipped taken claims is steady = subst (λ (x : Held D). IsSteady lines skipped x.history taken (state_held x) claims) (sym is) steady
 
 -- what isn't acknowledged is written
 pub run_flushed : {D T E : Type 0} (h k : Held D) (r : Result T E) (lines : List Signal) (skipped taken steps : ℕ) → Flushes h r k
@@ -234,7 +239,7 @@ lifted_not_full (Some stops.NoMemory) size adding is = cc
 
 pub run_compacted : {D : Type 0} (before after : DiskState) (h k : Held D) (r : Result ℕ BeginFault) (lines : List Signal) (skipped taken steps : ℕ) → steps ≡ 0 → Compacts before after h r k
     → AreOfRun (setup_over h lines skipped steps) h.history taken h.stop → AreOfRun (setup_over k lines skipped steps) k.history taken k.stop
-run_compacted {D = D} before after h k (Ok number) lines skipped taken steps none compacts run =
+run_compacted {D = D} old new h k (Ok number) lines skipped taken steps none compacts run =
     anew h k lines skipped taken steps none (ap (λ x. x.history) same ∙ empty) (ap (λ (o : Origin). o.initial) origin) (ap (λ (o : Origin). o.deployment) origin)
     (ap base_of origin ∙ ap (λ (es : List Entry). replay (base_of h.origin) es) empty)
     (λ size adding is. lifted_not_full h.stop size adding (sym (ap (λ x. x.stop) same) ∙ is)) run
@@ -242,14 +247,14 @@ run_compacted {D = D} before after h k (Ok number) lines skipped taken steps non
     same : k ≡ record h { disk = k.disk; origin = k.origin; stop = lifted h.stop }
     same = compacts.ends.same
 
-    origin : k.origin ≡ origin_anew after (state_held h) h.origin k.origin
+    origin : k.origin ≡ origin_anew new (state_held h) h.origin k.origin
     origin = compacts.ends.origin
 
     empty : h.history ≡ []
     empty = no_entries (setup_over h lines skipped steps) h.history taken h.stop none run
-run_compacted {D = D} before after h k (Err (renewals.Full size adding)) lines skipped taken steps none compacts run = kept_held h k lines skipped taken steps compacts.ends.0 run
-run_compacted {D = D} before after h k (Err renewals.NoMemory) lines skipped taken steps none compacts run = kept_held h k lines skipped taken steps compacts.ends run
-run_compacted {D = D} before after h k (Err renewals.DiskFault) lines skipped taken steps none compacts run =
+run_compacted {D = D} old new h k (Err (renewals.Full size adding)) lines skipped taken steps none compacts run = kept_held h k lines skipped taken steps compacts.ends.0 run
+run_compacted {D = D} old new h k (Err renewals.NoMemory) lines skipped taken steps none compacts run = kept_held h k lines skipped taken steps compacts.ends run
+run_compacted {D = D} old new h k (Err renewals.DiskFault) lines skipped taken steps none compacts run =
     let is = compacts.ends.0 in
     anew h k lines skipped taken steps none (ap (λ x. x.history) is ∙ no_entries (setup_over h lines skipped steps) h.history taken h.stop none run) (ap (λ x. x.origin.initial) is) (ap (λ x. x.origin.deployment) is) (ap (λ x. base_of x.origin) is)
     (λ size adding is_full. down_not_full size adding (sym (ap (λ x. x.stop) is) ∙ is_full)) run

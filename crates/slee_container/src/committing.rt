@@ -118,7 +118,7 @@ impl<'d, D: Disk> Container<'d, D> {
 
     /// Makes the delivery that is next on the activity of a claimed ticket, whose attempt saw something else than is seen now,
     /// and lets the claim go. Where the step is refused before it is made, the claim stays.
-    #[tactic(auto, using(crate::proofs::Committed::redoes_ok, crate::proofs::Committed::redoes_err))]
+    #[tactic(auto, using(crate::proofs::Committed::redoes_ok, crate::proofs::Committed::redoes_err, crate::proofs::Made::spent_makes))]
     pub fn redo(&mut self, ticket: &Ticket, attempt: &Attempt) -> Result<Redone, StepFault>
         requires live { self.old.stop ≡ None }
         requires claim { IsClaim ticket.now self.old.claims }

@@ -35,8 +35,9 @@ impl<'d, D: Disk> Container<'d, D> {
     pub(crate) fn is_spent(&self) -> bool
         ensures spent { result ≡ is_spent self.now }
         ensures safe { IsCrashSafe self.now.setup.origin self.now.history self.now.acked (D.disk self.now.disk) }
+        ensures whole { self.now.stop ≡ None → self.now.setup.origin.torn ≡ false }
     {
-        let _history = self.core.history();
+        self.core.held();
         self.steps <= self.core.len() || self.core.state().used_up()
     }
 

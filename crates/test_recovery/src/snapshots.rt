@@ -11,20 +11,29 @@ use test_run::running::{Wanted, disk_of, empty_disk, run_deployed, run_over, tex
 
 const COMPACT: &[&str] = &["compact"];
 
-const fn shown(printed: &'static str) -> Wanted {
-    Wanted { code: 0, printed }
-}
+const SECOND: Wanted = Wanted {
+    code: 0,
+    printed: "generation 2\nstatus 0 ok\n",
+};
 
-const SECOND: Wanted = shown("generation 2\nstatus 0 ok\n");
+const THIRD: Wanted = Wanted {
+    code: 0,
+    printed: "generation 3\nstatus 0 ok\n",
+};
 
-const THIRD: Wanted = shown("generation 3\nstatus 0 ok\n");
+const FOURTH: Wanted = Wanted {
+    code: 0,
+    printed: "generation 4\nstatus 0 ok\n",
+};
 
-const FOURTH: Wanted = shown("generation 4\nstatus 0 ok\n");
+const NOTHING_LEFT: Wanted = Wanted {
+    code: 0,
+    printed: "clock 0\ninputs 3\nservice prepaid active\nstatus 0 ok\n",
+};
 
-const NOTHING_LEFT: Wanted = shown("clock 0\ninputs 3\nservice prepaid active\nstatus 0 ok\n");
-
-const RINGING: Wanted = shown(
-    "clock 0
+const RINGING: Wanted = Wanted {
+    code: 0,
+    printed: "clock 0
 inputs 2
 service prepaid active
 activity a1 active external c1
@@ -32,10 +41,11 @@ entity e1 call root prepaid 0
 attached e1 a1
 status 0 ok
 ",
-);
+};
 
-const RINGS: Wanted = shown(
-    "1 input start c1
+const RINGS: Wanted = Wanted {
+    code: 0,
+    printed: "1 input start c1
   started a1 c1
 2 input fire c1 invite addr=tel:5551
   queued v1 invite a1
@@ -46,10 +56,11 @@ const RINGS: Wanted = shown(
 5 finish a1 v1
 status 0 ok
 ",
-);
+};
 
-const ENDS: Wanted = shown(
-    "1 input end c1
+const ENDS: Wanted = Wanted {
+    code: 0,
+    printed: "1 input end c1
   ending a1
   queued v2 activity-end a1
 2 deliver a1 v2 e1 fine
@@ -59,7 +70,7 @@ const ENDS: Wanted = shown(
   removed e1
 status 0 ok
 ",
-);
+};
 
 // A run goes on from a snapshot as from the records for which it stands.
 const COMPACTED: &[Step] = &[
@@ -83,7 +94,14 @@ fn a_run_goes_on_from_a_snapshot(rt: HostRuntime) -> Result<(), Fail> {
 // A blank journal is begun, and then compacted: the first state has no snapshot.
 const BLANK: &[Step] = &[
     (COMPACT, "", SECOND),
-    (SHOW, "", shown("clock 0\ninputs 0\nstatus 0 ok\n")),
+    (
+        SHOW,
+        "",
+        Wanted {
+            code: 0,
+            printed: "clock 0\ninputs 0\nstatus 0 ok\n",
+        },
+    ),
 ];
 
 const SECOND_EMPTY: &[u8] = b"\x01SLEEJ2\x02\0\0\0\0\0\0\0\x02\0\0\0{}\0\0\0\0\0";
@@ -122,7 +140,10 @@ fn bytes_of_a_compacted_journal(rt: HostRuntime) -> Result<(), Fail> {
 const ONE_START_FIRST: &[u8] =
     b"\x01SLEEJ1\x01\0\0\0\0\0\0\0\x02\0\0\0{}\0\0\0\0\x01\x0d\0\0\0\x01\x08\0\0\0start c1\0";
 
-const STARTED: Wanted = shown("clock 0\ninputs 1\nactivity a1 active external c1\nstatus 0 ok\n");
+const STARTED: Wanted = Wanted {
+    code: 0,
+    printed: "clock 0\ninputs 1\nactivity a1 active external c1\nstatus 0 ok\n",
+};
 
 // Opening takes the next generation, and compacting the one behind it.
 const TAKEN_OVER: &[Step] = &[
@@ -149,17 +170,24 @@ fn it_is_compacted_behind_that(rt: HostRuntime) -> Result<(), Fail> {
 }
 
 // The side of the first format that counts, by its generation, beside another.
-const BESIDE: &[Step] = &[(SHOW, "", shown("clock 0\ninputs 0\nstatus 0 ok\n"))];
+const BESIDE: &[Step] = &[(
+    SHOW,
+    "",
+    Wanted {
+        code: 0,
+        printed: "clock 0\ninputs 0\nstatus 0 ok\n",
+    },
+)];
 
 #[test]
 fn it_counts_by_its_generation(rt: HostRuntime) -> Result<(), Fail> {
     let first = b"\x01SLEEJ1\x02\0\0\0\0\0\0\0\x02\0\0\0{}\0\0\0\0\0";
     let disk = disk_of(rt.alloc(), first, ONE_START)?;
     let disk = run_each(&rt, rt.alloc(), "{}", disk, BESIDE)?;
-    assert_eq!(rt; disk.side(Side::A), first);
+    assert_eq!(rt; disk.side(Side::A), first.as_slice());
     assert_eq!(rt;
         disk.side(Side::B),
-        b"\x01SLEEJ2\x03\0\0\0\0\0\0\0\x02\0\0\0{}\0\0\0\0\0"
+        b"\x01SLEEJ2\x03\0\0\0\0\0\0\0\x02\0\0\0{}\0\0\0\0\0".as_slice()
     );
     Ok(())
 }
@@ -237,7 +265,16 @@ fn expect_fault(rt: &impl Abort, alloc: Global, disk: &MemoryDisk, call: u64) ->
     assert_eq!(rt; text_of(&ran), "status 7 disk-fault\n");
     for (part, fill) in TEARS {
         let image = ran.disk.image(call, *part, *fill)?;
-        expect_image(rt, alloc, SERVICE, image, shown(SHOWN[8]))?;
+        expect_image(
+            rt,
+            alloc,
+            SERVICE,
+            image,
+            Wanted {
+                code: 0,
+                printed: SHOWN[8],
+            },
+        )?;
     }
     Ok(())
 }

@@ -3,7 +3,7 @@ use Rattle.router_durable.specs.Core.{is_down}
 use Rattle.slee_container.specs.Turns.{setup_over}
 use Rattle.slee_container.proofs.Compacted.{compacts, steady_compacted}
 use Rattle.slee_container.proofs.Turned.{no_entries, run_compacted}
-use Rattle.slee_container.proofs.compacting.Container.compact.Goals as goal
+use Rattle.slee_container.proofs.container.Container.compact.Goals as goal
 
 pub compact-requires-clause-new : goal.compact-requires-clause-new
 compact-requires-clause-new g c =
