@@ -132,6 +132,9 @@ module _ {D : Type 0} (disk_of : D → DiskState) (j j2 : View D) (d : Deployed)
   pub compaction_leaves : IsTrue o.told → LeavesOnly old new (StandsThrough o (state_held (held o j history acked stop)))
   compaction_leaves told = subst (λ (t : State). LeavesOnly old new (StandsThrough o t)) kept.state (leaves_what old new _ _ (leaves_either told) (stands_through told))
 
+  compaction_told : IsTrue o.told → IsTrue new.told
+  compaction_told told = subst IsTrue (sym renews.told) (clean_told old (clean told))
+
   -- how many bytes the side has
   sized : size after.head [] ≡ size_anew o.deployment (state_held (held o j history acked stop))
   sized = omega (arith, ap length sound.named, ap length is_text, ap (λ (t : State). length (snapshot_text written_format t)) kept.state)
@@ -230,6 +233,7 @@ module _ {D : Type 0} (disk_of : D → DiskState) (j j2 : View D) (d : Deployed)
           fits = omega (arith, sized, within);
           renews = renews_then;
         };
+        told = compaction_told;
         any_moment = compaction_leaves;
       }
 
@@ -278,6 +282,7 @@ module _ {D : Type 0} (disk_of : D → DiskState) (j j2 : View D) (d : Deployed)
     pub torn_ends : Compacts old new (held o j history acked stop) (Err begin_faults.DiskFault) (held origin_torn j2 history acked (Some stops.DiskFault))
     torn_ends = record {
       ends = (λ i. record { disk = j2.disk; origin = origin_torn; limit = renews.limit i; history = history; acked = acked; stop = Some stops.DiskFault }, rose, omega (arith, sized, within));
+      told = compaction_told;
       any_moment = compaction_leaves;
     }
 
@@ -288,6 +293,7 @@ pub nothing_compacted : {D : Type 0} (disk_of : D → DiskState) (j : View D) (o
     → Compacts (disk_of j.disk) (disk_of j.disk) (held o j history acked stop) (Err begin_faults.NoMemory) (held o j history acked stop)
 nothing_compacted {D} disk_of j o history acked stop b s kept up none = record {
   ends = refl;
+  told = λ told. clean_told (disk_of j.disk) (kept.sound.rest told up);
   any_moment = λ told. leaves_start (disk_of j.disk) _ (λ image now. still_stands told image now);
 }
   where
@@ -310,6 +316,7 @@ full_compacted {D} disk_of j j2 o history acked stop b s kept up none same text 
     omega (arith, ap length kept.sound.named, ap length is_text, ap (λ (t : State). length (snapshot_text written_format t)) kept.state) in
     subst (λ (v : View D). Compacts (disk_of j.disk) (disk_of v.disk) (held o j history acked stop) (Err (begin_faults.Full size_of adding)) (held o v history acked stop)) (sym same) (record {
       ends = (refl, (full.0, full.1 ∙ sized, omega (arith, full.1, full.2)));
+      told = (nothing_compacted disk_of j o history acked stop b s kept up none).told;
       any_moment = (nothing_compacted disk_of j o history acked stop b s kept up none).any_moment;
     })
 

@@ -27,6 +27,7 @@ use Rattle.router_steps.specs.Payloads.{choice_in, payload, payloads}
 use Rattle.router_steps.specs.Steps.{after, is_enabled, lines_of_step, step_entry}
 use Rattle.router_durable.specs.declared.fault.Stop.{Stop}
 use Rattle.router_durable.specs.declared.fault.Stop.TheVariants as stops
+use Rattle.router_durable.specs.Anew.{is_first, is_anew}
 use Rattle.router_durable.specs.Choices.{AreReadAgain, written_format}
 use Rattle.router_durable.specs.Recovery.{records_of}
 use Rattle.router_durable.specs.Facts.{Origin, base_of, records_since, RestartsIn, IsCrashSafe, HasRecords, HasRecordsOrMore, size_after, size_added, HasRoom, IsFullFor}
@@ -411,6 +412,11 @@ module _ {D : Type 0} (j : View D) (disk : DiskState) (o : Origin) (history : Li
       (again_front (base_of o) (take acked history) (drop acked history) (subst (λ (h : List Entry). AreReadAgain (base_of o) (choices_of h)) (sym (take_drop acked history)) sound.again))
       (drop acked history, take_drop acked history) (omega (arith, length_take acked history sound.within))
 
+  current_now : IsTrue o.told → is_down stop ≡ false → is_anew (recovered o.deployment disk.seen) ≡ false
+  current_now told up =
+      let is : recovered o.deployment disk.seen ≡ Ok (Some j.kept) = subst (λ (d : List ℕ). recovered d disk.seen ≡ Ok (Some j.kept)) sound.named (sound.seen told up) in
+      ap is_anew is ∙ ap is_first sound.format
+
   -- the records that a stop now leaves
   batch_now : IsTrue o.told → o.torn ≡ false → (image : Sides) → disk.images image → HasRecordsOrMore o history acked image
   batch_now told whole image now = elim (cases_Bool (is_down stop)) [
@@ -432,6 +438,7 @@ module _ {D : Type 0} (j : View D) (disk : DiskState) (o : Origin) (history : Li
     rest = sound.rest;
     records = λ told up. records_now told up disk.seen (sound.seen told up);
     again = again_now;
+    current = current_now;
     whole = sound.whole;
     batch = batch_now;
   }

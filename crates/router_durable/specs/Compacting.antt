@@ -59,4 +59,5 @@ Ends before after old (Err begin_faults.DiskFault) new =
 -- A compaction, and what a crash at any moment of it leaves.
 pub record Compacts {D : Type 0} (before after : DiskState) (old : Held D) (result : Result ℕ BeginFault) (new : Held D) : Type 0 where
   pub ends : Ends before after old result new
+  pub told : IsTrue old.origin.told → IsTrue after.told
   pub any_moment : IsTrue old.origin.told → LeavesOnly before after (StandsThrough old.origin (state_held old))
