@@ -3,6 +3,7 @@ use Rattle.std.specs.Prelude.{◌≡◌, ℕ, ◌+◌, ◌<◌, Bool, true, fals
 use Rattle.commit_journal.specs.declared.format.Format.{Format}
 use Rattle.commit_journal.specs.declared.format.Format.TheVariants.{One, Two}
 use Rattle.commit_journal.specs.declared.limits.TheConstants.{SIDE_FRAME}
+use Rattle.commit_journal.specs.declared.stage.Stage.{Stage}
 use Rattle.commit_journal.specs.declared.stage.Stage.TheVariants.{Found}
 use Rattle.commit_journal.specs.Kept.{renewed}
 use Rattle.commit_journal.specs.Reading.{Kept, Wrong}
@@ -30,14 +31,14 @@ is_anew (Err wrong) = false
 is_anew (Ok None) = true
 is_anew (Ok (Some kept)) = is_first kept.head.format
 
--- what a side of this format leaves, once it is opened
-abbrev pub left_by : State → Kept → Format → Kept
-left_by s kept One = renewed Found kept (snapshot_text written_format s)
-left_by s kept Two = kept
+-- what a side of this format leaves, once it is opened, by how far the journal has come
+abbrev pub left_by : State → Stage → Kept → Format → Kept
+left_by s stage kept One = renewed stage kept (snapshot_text written_format s)
+left_by s stage kept Two = kept
 
 -- What a journal keeps once it is opened, of what was recovered: a blank one has a side with the header alone, and one of the first
 -- format goes on with the other side, where a snapshot of the state stands for its records.
 abbrev pub kept_left : List ℕ → State → Result (Option Kept) Wrong → Kept
 kept_left deployment s (Err wrong) = kept_first deployment
 kept_left deployment s (Ok None) = kept_first deployment
-kept_left deployment s (Ok (Some kept)) = left_by s kept kept.head.format
+kept_left deployment s (Ok (Some kept)) = left_by s Found kept kept.head.format

@@ -14,7 +14,7 @@ use Rattle.router_state.specs.State.{State}
 use Rattle.router_durable.specs.declared.fault.Stop.TheVariants as stops
 use Rattle.router_durable.specs.Anew.{size_anew, IsFullAnew}
 use Rattle.router_durable.specs.Choices.{written_format}
-use Rattle.router_durable.specs.Core.{Held, state_held}
+use Rattle.router_durable.specs.Core.{Held, lifted, state_held}
 use Rattle.router_durable.specs.Facts.{Origin, origin_over}
 use Rattle.router_durable.specs.Opening.{Leaves}
 use Rattle.router_durable.specs.Recovery.{restart, records}
@@ -39,9 +39,9 @@ pub record Renews (deployment text : List ℕ) (kept : Kept) (seen : Sides) (num
   pub written : IsWritten (renewed Ready kept text) seen
   pub number_is : number ≡ (renewed Ready kept text).head.generation
 
--- it is compacted: the state stays
+-- it is compacted: the state stays, and there is room again
 pub record IsCompacted {D : Type 0} (before after : DiskState) (old : Held D) (number : ℕ) (new : Held D) : Type 0 where
-  pub same : new ≡ record old { disk = new.disk; origin = new.origin }
+  pub same : new ≡ record old { disk = new.disk; origin = new.origin; stop = lifted old.stop }
   pub origin : new.origin ≡ origin_anew after (state_held old) old.origin new.origin
   pub fits : size_anew old.origin.deployment (state_held old) ≤ old.limit
   pub renews : IsTrue old.origin.told → (kept : Kept) → recovered old.origin.deployment before.seen ≡ Ok (Some kept)
@@ -59,4 +59,5 @@ Ends before after old (Err begin_faults.DiskFault) new =
 -- A compaction, and what a crash at any moment of it leaves.
 pub record Compacts {D : Type 0} (before after : DiskState) (old : Held D) (result : Result ℕ BeginFault) (new : Held D) : Type 0 where
   pub ends : Ends before after old result new
+  pub told : IsTrue old.origin.told → IsTrue after.told
   pub any_moment : IsTrue old.origin.told → LeavesOnly before after (StandsThrough old.origin (state_held old))

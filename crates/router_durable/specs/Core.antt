@@ -9,6 +9,7 @@ use Rattle.commit_journal.specs.declared.limits.TheConstants.{SIDE_FRAME}
 use Rattle.commit_journal.specs.declared.stage.Stage.TheVariants.{Ready}
 use Rattle.commit_journal.specs.Journal.{View, payloads_on}
 use Rattle.commit_journal.specs.Kept.{Keeps}
+use Rattle.commit_journal.specs.Reading.{recovered}
 use Rattle.commit_journal.specs.Spelling.{records_size, size}
 use Rattle.trace_history.specs.Histories.{choices_of}
 use Rattle.trace_history.specs.declared.choice.Choice.{Choice}
@@ -25,6 +26,7 @@ use Rattle.router_durable.specs.declared.fault.Stop.{Stop}
 use Rattle.router_durable.specs.declared.fault.Stop.TheVariants as stops
 use Rattle.router_durable.specs.declared.fault.StepFault.{StepFault}
 use Rattle.router_durable.specs.declared.fault.StepFault.TheVariants as faults
+use Rattle.router_durable.specs.Anew.{is_anew}
 use Rattle.router_durable.specs.Choices.{AreReadAgain, written_format}
 use Rattle.router_durable.specs.Facts.{AreRead, Origin, base_of, records_since, snapshot_on, RestartsIn, IsCrashSafe, HasRecords, HasRecordsOrMore, HasRoom, IsFullFor, IsFull}
 
@@ -53,6 +55,13 @@ is_down (Some stops.NoMemory) = false
 abbrev pub halted : Option Stop → Option Stop
 halted None = Some stops.NoMemory
 halted (Some stop) = Some stop
+
+-- a stop for want of room is lifted where the journal is compacted
+abbrev pub lifted : Option Stop → Option Stop
+lifted None = None
+lifted (Some stops.DiskFault) = Some stops.DiskFault
+lifted (Some (stops.Full length adding)) = None
+lifted (Some stops.NoMemory) = Some stops.NoMemory
 
 -- A stop has its cause. Want of memory is told by the caller.
 abbrev pub IsStopOf : Origin → ℕ → List Entry → DiskState → Option Stop → Type 0
@@ -156,10 +165,11 @@ pub record IsHeld {D : Type 0} (disk : DiskState) (h : Held D) : Type 0 where
   pub counted : IsTrue h.origin.told → payloads_on h.origin.counting ≡ h.origin.found
   pub sized : IsTrue h.origin.told → length h.origin.counting ≡ SIDE_FRAME + length h.origin.deployment + length h.origin.snapshot + records_size h.origin.found
   -- unless the disk failed, nothing is pending, the records are those of the acknowledged entries, and a restart of what is
-  -- read goes on from there
+  -- read goes on from there, from a side of the second format
   pub rest : IsTrue h.origin.told → is_down h.stop ≡ false → IsTrue (is_clean disk)
   pub records : IsTrue h.origin.told → is_down h.stop ≡ false → HasRecords h.origin h.history h.acked disk.seen
   pub again : IsTrue h.origin.told → is_down h.stop ≡ false → RestartsIn h.origin h.history h.acked disk.seen
+  pub current : IsTrue h.origin.told → is_down h.stop ≡ false → is_anew (recovered h.origin.deployment disk.seen) ≡ false
   -- a stop now leaves these records, or also those of the batch that was being written
   pub whole : is_down h.stop ≡ false → h.origin.torn ≡ false
   pub batch : IsTrue h.origin.told → h.origin.torn ≡ false → (image : Sides) → disk.images image → HasRecordsOrMore h.origin h.history h.acked image

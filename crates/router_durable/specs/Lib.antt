@@ -4,5 +4,6 @@ pub mod Anew
 pub mod Facts
 pub mod Core
 pub mod Opening
+pub mod Taking
 pub mod Compacting
 pub mod Replaying
