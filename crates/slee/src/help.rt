@@ -13,6 +13,9 @@ usage: slee WORDS
              a status line
   resume 1 S as play, but behind as many lines as the journal has taken
   show       prints the state that the journal has, and a status line
+  compact    writes a snapshot of that state to the other side of the journal, in
+             place of its records, and prints that side's generation and a status
+             line
   gen SEED COUNT
              prints COUNT (0 to 100000) generated lines; SEED is 0 to 4294967295
   trial SEED COUNT
@@ -20,8 +23,8 @@ usage: slee WORDS
   --help     prints this text
   --version  prints the version
 
-These forms are known and not built yet: compact, and play W S and resume W S with
-W workers (2 to 64).
+These forms are known and not built yet: play W S and resume W S with W workers
+(2 to 64).
 
 Signal lines, each ended by a newline, at most 4096 bytes long, 16777216 in all:
   start NAME                       an external activity of this name starts

@@ -35,10 +35,10 @@ program_is d start s begins own = sym (ap (λ (x : State). x.program) begins) �
 
 -- an attempt that saw nothing else than is seen now
 pub checks_out : {D : Type 0} (v : View D) (t : Ticket) (a : Attempt) (d : Deployment) (delivered : Delivered) → HoldsClaims (state_of v) v.claims → IsClaim t v.claims → IsAttemptOf t a
-    → initial_of d.parts d.codes ≡ v.setup.origin.start → IsOwn d (state_of v) → IsDone v.setup.origin.start.program a → a.outcome ≡ Some delivered → conflict (look (state_of v)) a.known ≡ None
+    → initial_of d.parts d.codes ≡ v.setup.origin.initial → IsOwn d (state_of v) → IsDone v.setup.origin.initial.program a → a.outcome ≡ Some delivered → conflict (look (state_of v)) a.known ≡ None
     → ChecksOut v t a (Ok delivered)
 checks_out v t a d delivered holds is of begins own done outcome none =
-    let done_here : IsDone (state_of v).program a = subst (λ (p : Program). IsDone p a) (program_is d v.setup.origin.start (state_of v) begins own) done in
+    let done_here : IsDone (state_of v).program a = subst (λ (p : Program). IsDone p a) (program_is d v.setup.origin.initial (state_of v) begins own) done in
     let all = ready (state_of v) t a delivered (claim_front (state_of v) v.claims t holds is) (claim_block (state_of v) v.claims t holds is) of done_here outcome none in
     (none, all.seen, all.next, all.delivers)
 

@@ -1,5 +1,5 @@
 -- How steps of a container end, by those of its router.
-use Rattle.std.proofs.Common.{◌≡◌, ℕ, Bool, true, false, if◌then◌else◌, List, [], length, refl, arith, ◌+◌, sym, ◌∙◌, ap, subst, Some, Result, Ok, Err, IsTrue}
+use Rattle.std.proofs.Common.{◌≡◌, ℕ, Bool, true, false, if◌then◌else◌, List, [], length, refl, arith, ◌+◌, sym, ◌∙◌, ap, subst, None, Some, Result, Ok, Err, IsTrue}
 use Rattle.signal_script.specs.declared.signal.Signal.{Signal}
 use Rattle.slee_disk.specs.Disk.{DiskState}
 use Rattle.trace_history.specs.Histories.{input_of}
@@ -70,18 +70,20 @@ untaken taken c r none = by (is_made r)
     by false = refl
 
 -- nothing is made
-pub spent_makes : {D : Type 0} (disk : DiskState) (v : View D) (c : Choice) → IsTrue (is_spent v) → IsCrashSafe v.setup.origin v.history v.acked disk → Makes disk disk v c (Err faults.Spent) v
-spent_makes disk v c spent safe = record {
+pub spent_makes : {D : Type 0} (disk : DiskState) (v : View D) (c : Choice) → v.stop ≡ None → IsTrue (is_spent v) → IsCrashSafe v.setup.origin v.history v.acked disk → (v.stop ≡ None → v.setup.origin.torn ≡ false)
+    → Makes disk disk v c (Err faults.Spent) v
+spent_makes disk v c live spent safe whole = record {
   step = refl;
   taken = refl;
   setup = refl;
-  any_moment = (refused_makes (λ _. disk) (held_in v) c safe).any_moment;
+  any_moment = (refused_makes (λ _. disk) (held_in v) c safe (whole live)).any_moment;
   refused = λ _. spent;
   spent = λ _. refl;
 }
 
-pub wanting_makes : {D : Type 0} (disk : DiskState) (v : View D) (c : Choice) → is_spent v ≡ false → IsCrashSafe v.setup.origin v.history v.acked disk → Makes disk disk v c (Err faults.NoMemory) v
-wanting_makes disk v c fresh safe = made_live disk disk v v c (Err faults.NoMemory) (refused_makes (λ _. disk) (held_in v) c safe) fresh refl refl
+pub wanting_makes : {D : Type 0} (disk : DiskState) (v : View D) (c : Choice) → v.stop ≡ None → is_spent v ≡ false → IsCrashSafe v.setup.origin v.history v.acked disk → (v.stop ≡ None → v.setup.origin.torn ≡ false)
+    → Makes disk disk v c (Err faults.NoMemory) v
+wanting_makes disk v c live fresh safe whole = made_live disk disk v v c (Err faults.NoMemory) (refused_makes (λ _. disk) (held_in v) c safe (whole live)) fresh refl refl
 
 -- ---- a step, and the claims behind it
 

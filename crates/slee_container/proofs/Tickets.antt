@@ -140,7 +140,7 @@ free_unclaimed v a free = not-true (is_claimed v.claims a) (right_of (is_next_by
 
 -- the ticket that the state gives is one of the container
 pub ticket_for : {D : Type 0} (v : View D) (a : ActivityId) (t : Ticket) (n : ℕ) (parts : Parts) (codes : Codes) → n ≡ length v.history → t.number ≡ n → t.activity ≡ a → IsTicket (state_of v) t
-    → initial_of parts codes ≡ v.setup.origin.start → Handles (kept_program codes) t.block t.event.name → IsTicketFor v a t
+    → initial_of parts codes ≡ v.setup.origin.initial → Handles (kept_program codes) t.block t.event.name → IsTicketFor v a t
 ticket_for v a t n parts codes count number activity ticket begins handled = record {
   number = number ∙ count;
   activity = activity;

@@ -82,7 +82,7 @@ pub record IsTicketFor {D : Type 0} (v : View D) (a : ActivityId) (t : Ticket) :
   pub number : t.number ≡ length v.history
   pub activity : t.activity ≡ a
   pub ticket : IsTicket (state_of v) t
-  pub handled : Handles v.setup.origin.start.program t.block t.event.name
+  pub handled : Handles v.setup.origin.initial.program t.block t.event.name
 
 -- What preparing a delivery does: no ticket exactly where the activity's next choice is another, or it is claimed. Only a ticket takes memory.
 abbrev pub Prepares : {D : Type 0} → View D → ActivityId → Result (Option Ticket) NoMemory → View D → Type 0

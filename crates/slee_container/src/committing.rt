@@ -48,7 +48,7 @@ impl<'d, D: Disk> Container<'d, D> {
     fn checked(&self, ticket: &Ticket, attempt: &Attempt) -> Result<Delivered, CommitFault>
         requires claim { IsClaim ticket.now self.now.claims }
         requires attempt { IsAttemptOf ticket.now attempt.now }
-        requires done { IsDone self.now.setup.origin.start.program attempt.now }
+        requires done { IsDone self.now.setup.origin.initial.program attempt.now }
         ensures { ChecksOut self.now ticket.now attempt.now result }
     {
         let sight = Sight::new(self.core.state(), self.core.deployment());
@@ -103,7 +103,7 @@ impl<'d, D: Disk> Container<'d, D> {
         requires live { self.old.stop ≡ None }
         requires claim { IsClaim ticket.now self.old.claims }
         requires attempt { IsAttemptOf ticket.now attempt.now }
-        requires done { IsDone self.old.setup.origin.start.program attempt.now }
+        requires done { IsDone self.old.setup.origin.initial.program attempt.now }
         ensures { Commits (D.disk self.old.disk) (D.disk self.new.disk) self.old ticket.now attempt.now result self.new }
     {
         if self.is_spent() {
@@ -118,12 +118,12 @@ impl<'d, D: Disk> Container<'d, D> {
 
     /// Makes the delivery that is next on the activity of a claimed ticket, whose attempt saw something else than is seen now,
     /// and lets the claim go. Where the step is refused before it is made, the claim stays.
-    #[tactic(auto, using(crate::proofs::Committed::redoes_ok, crate::proofs::Committed::redoes_err))]
+    #[tactic(auto, using(crate::proofs::Committed::redoes_ok, crate::proofs::Committed::redoes_err, crate::proofs::Made::spent_makes))]
     pub fn redo(&mut self, ticket: &Ticket, attempt: &Attempt) -> Result<Redone, StepFault>
         requires live { self.old.stop ≡ None }
         requires claim { IsClaim ticket.now self.old.claims }
         requires attempt { IsAttemptOf ticket.now attempt.now }
-        requires done { IsDone self.old.setup.origin.start.program attempt.now }
+        requires done { IsDone self.old.setup.origin.initial.program attempt.now }
         requires conflict { IsSome (conflict (look (state_of self.old)) attempt.now.known) }
         ensures { Redoes (D.disk self.old.disk) (D.disk self.new.disk) self.old ticket.now.activity result self.new }
     {

@@ -35,8 +35,9 @@ impl<'d, D: Disk> Container<'d, D> {
     pub(crate) fn is_spent(&self) -> bool
         ensures spent { result ≡ is_spent self.now }
         ensures safe { IsCrashSafe self.now.setup.origin self.now.history self.now.acked (D.disk self.now.disk) }
+        ensures whole { self.now.stop ≡ None → self.now.setup.origin.torn ≡ false }
     {
-        let _history = self.core.history();
+        self.core.held();
         self.steps <= self.core.len() || self.core.state().used_up()
     }
 
@@ -103,7 +104,7 @@ impl<'d, D: Disk> Container<'d, D> {
     }
 
     /// Writes what isn't acknowledged yet. Where nothing is left to write, nothing is done.
-    #[tactic(auto, using(crate::proofs::Made::flushed))]
+    #[tactic(auto, using(crate::proofs::Made::flushed, crate::proofs::Turned::run_flushed))]
     pub fn flush(&mut self) -> Result<(), Failed>
         requires live { is_down self.old.stop ≡ false }
         ensures flush { Flushes self.old result self.new }

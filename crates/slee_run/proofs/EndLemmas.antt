@@ -120,7 +120,7 @@ idle_on s (choices.Initial a) none is there front = not_next is_initial s a.0 (n
 idle_on s (choices.Deliver a) none is there front = not_next is_delivery s a.0 (none_next s s.activities a.0 none there) is
 idle_on s (choices.Finish a) none is there front = not_next is_finish s a.0 (none_next s s.activities a.0 none there) is
 
-idle_of : (s : State) → solo_choice s [] ≡ None → is_used_up s ≡ false → (c : Choice) → MayFollow s [] c → ⊥
+pub idle_of : (s : State) → solo_choice s [] ≡ None → is_used_up s ≡ false → (c : Choice) → MayFollow s [] c → ⊥
 idle_of s none fresh c may = idle_on s c (no_least s none fresh) (and_parts (not (is_used_up s)) (is_next s c) may.enabled).1 may.there may.next
 
 -- what was made first
@@ -160,7 +160,7 @@ some_follows s left (Some next) is some = (next.0, due_follows s left next.1 nex
 
 -- ---- how playing ends, as a status
 
-spent_on : (s : State) (steps : ℕ) (history : List Entry) (left : List Signal) → IsSpent s steps history left
+pub spent_on : (s : State) (steps : ℕ) (history : List Entry) (left : List Signal) → IsSpent s steps history left
     → (is_used_up s ≡ true) ⊎ ((length history ≡ steps) × ((c : Choice) × MayFollow s left c))
 spent_on s steps history left (inl up) = inl up
 spent_on s steps history left (inr few) = inr (few.0, some_follows s left (solo_choice s left) refl few.1)
@@ -174,14 +174,14 @@ ends_on base steps lines history ends.Done entries count played = record {
 }
 ends_on base steps lines history ends.Spent entries count played =
     (count, record { taken = (played.rest, played.so_far.taken); spent = spent_on (replay base history) steps history played.rest played.ends })
-ends_on base steps lines history (ends.Full size adding) entries count played = record {
+ends_on base steps lines history (ends.Full size adding) entries count played = inl (record {
   taken = (played.rest, played.so_far.taken);
   fewer = played.ends.fewer;
   choice = played.ends.choice;
   may = due_follows (replay base history) played.rest played.ends.more played.ends.choice played.ends.next;
   adds = played.ends.adds;
   above = played.ends.above;
-}
+})
 ends_on base steps lines history ends.DiskFault entries count played = (played.rest, played.so_far.taken)
 ends_on base steps lines history ends.NoMemory entries count played = (played.rest, played.so_far.taken)
 
@@ -219,25 +219,25 @@ alone_on base steps lines history e entries played = record {
     by_spent ends.DiskFault p n is = absurd (cc)
     by_spent ends.NoMemory p n is = absurd (cc)
 
-    by_full : (e : End) (p : IsPlayed journal_limit base steps lines history e) (size adding : ℕ) → status_after entries e ≡ statuses.Full size adding
+    by_full : (e : End) (p : IsPlayed journal_limit base steps lines history e) (size adding : ℕ) → size ≢ 0 → status_after entries e ≡ statuses.Full size adding
         → AddsFirst (replay base history) adding (solo (steps - length history) (replay base history) p.rest)
-    by_full ends.Done p size adding is = absurd (cc)
-    by_full ends.Spent p size adding is = absurd (cc)
-    by_full (ends.Full length_of more) p size adding is =
+    by_full ends.Done p size adding some is = absurd (cc)
+    by_full ends.Spent p size adding some is = absurd (cc)
+    by_full (ends.Full length_of more) p size adding some is =
         let same : more ≡ adding = cc in
         adds_first (steps - length history) (replay base history) p.rest p.ends.more p.ends.choice adding (omega (arith, p.ends.fewer)) p.ends.next (sym same ∙ p.ends.adds)
-    by_full ends.DiskFault p size adding is = absurd (cc)
-    by_full ends.NoMemory p size adding is = absurd (cc)
+    by_full ends.DiskFault p size adding some is = absurd (cc)
+    by_full ends.NoMemory p size adding some is = absurd (cc)
 
 -- nothing was played
-pub alone_at_start : (base : State) (steps : ℕ) (lines : List Signal) (status : Status) → status ≢ statuses.Ok → ((n : ℕ) → status ≢ statuses.StepsSpent n) → ((size adding : ℕ) → status ≢ statuses.Full size adding)
+pub alone_at_start : (base : State) (steps : ℕ) (lines : List Signal) (status : Status) → status ≢ statuses.Ok → ((n : ℕ) → status ≢ statuses.StepsSpent n) → ((size adding : ℕ) → size ≢ 0 → status ≢ statuses.Full size adding)
     → IsByOne base steps lines [] status
 alone_at_start base steps lines status done spent full = record {
   rest = solo steps base lines;
   front = refl;
   done = λ is. absurd (done is);
   spent = λ n is. absurd (spent n is);
-  full = λ size adding is. absurd (full size adding is);
+  full = λ size adding some is. absurd (full size adding some is);
 }
 
 -- ---- text

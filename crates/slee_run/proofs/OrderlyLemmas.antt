@@ -7,7 +7,8 @@ use Rattle.router_state.specs.State.{State}
 use Rattle.router_steps.specs.Histories.{Legal}
 use Rattle.router_laws_restarts.proofs.OrderlyRuns.{orderly_none, restarted_ordered}
 use Rattle.router_laws_restarts.specs.Orderly.{IsOrderly}
-use Rattle.router_durable.specs.Recovery.{Unfit, restart}
+use Rattle.router_durable.specs.Recovery.{restart}
+use Rattle.commit_journal.specs.Reading.{Wrong}
 use Rattle.slee_run.specs.Given.{Document, IsDocument, deploy_limit, start_of}
 use Rattle.slee_run.specs.Headline.{IsBefore, IsLegalRun, Opens}
 use Rattle.slee_run.specs.Opening.{IsOpened, found}
@@ -28,7 +29,7 @@ found_orderly deploy x disk s h document is legal =
 opened_orderly : (deploy : Option (List ℕ)) (x : Document) (disk : DiskState) (s : State) (h : List Entry) (status : Status) → IsDocument deploy x → Legal s h → IsOpened (found x disk) s h status → IsOrderly s h
 opened_orderly deploy x disk s h status document legal opened = by (found x disk) refl
   where
-    by : (r : Result State Unfit) → found x disk ≡ r → IsOrderly s h
+    by : (r : Result State Wrong) → found x disk ≡ r → IsOrderly s h
     by (Err wrong) is = none_orderly s h (opened.none wrong is)
     by (Ok state) is =
         let same = opened.from state is in
@@ -38,7 +39,7 @@ run_orderly : (words : List (List ℕ)) (deploy signals before after : Option (L
 run_orderly words deploy signals before after old new status run opens told = by (run.given opens)
   where
     by : IsDocument deploy run.document ⊎ IsBefore run.history old new run.ended → IsOrderly run.base run.history
-    by (inl document) = opened_orderly deploy run.document old run.base run.history run.ended document run.run.legal.legal ((run.journal opens).opened told)
+    by (inl document) = opened_orderly deploy run.document old run.base run.history run.ended document run.run.legal.legal ((run.journal.met opens).opened told)
     by (inr early) = none_orderly run.base run.history early.none
 
 pub orderly : (words : List (List ℕ)) (deploy signals before after : Option (List ℕ)) (old new : DiskState) (status : Status) → IsLegalRun words deploy signals before after old new status → IsOrderlyRun words deploy signals before after old new status

@@ -1,9 +1,8 @@
 -- What a run is, by what its words ask.
 use Rattle.std.proofs.Common.{◌≡◌, ◌≢◌, ◌⊎◌, inl, inr, ℕ, ◌<◌, ◌≤◌, List, [], length, true, false, refl, sym, ◌∙◌, ap, subst, Option, Some, None, Result, Ok, Err, IsOk, IsTrue, IfSome, MatchOption, arith}
 use Rattle.slee_disk.specs.Disk.{DiskState}
-use Rattle.commit_journal.specs.Reading.{Bad, Other}
+use Rattle.commit_journal.specs.Reading.{Wrong, Bad, Other}
 use Rattle.router_state.specs.State.{State}
-use Rattle.router_durable.specs.Recovery.{Unfit, Broken, FirstFormat}
 use Rattle.signal_script.specs.declared.signal.Signal.{Signal}
 use Rattle.trace_history.specs.declared.entry.Entry.{Entry}
 use Rattle.deploy_json.specs.declared.fault.ReadFault.{ReadFault}
@@ -14,17 +13,20 @@ use Rattle.slee_container.specs.declared.container.Mode.{Mode}
 use Rattle.slee_container.specs.declared.container.Mode.TheVariants as modes
 use Rattle.slee_run.specs.Words.{command_of}
 use Rattle.slee_run.specs.Status.{status_line}
-use Rattle.slee_run.specs.Text.{shown_text}
+use Rattle.slee_run.specs.Text.{task_text}
 use Rattle.slee_run.specs.Given.{Document, IsDocument, deploy_limit, refusal_of, refusal_of_deploy, unread}
-use Rattle.slee_run.specs.Headline.{command_for, Plays, Shows, Tries, Opens, IsLater, IsOpening, IsOfDeployment, EndsOn, ComesOn, IsBefore, IsByOneFrom, IsTrial, IsTrialOrNone, IsUnread, IsShownAt, IsWritten, IsLegalRun, IsComplete, IsCompleteTrial, IsShown, IsWholeCheck, trial_steps}
+use Rattle.slee_run.specs.Headline.{command_for, command_of_task, Plays, Tends, Tries, Opens, IsLater, IsOpening, IsOfDeployment, EndsOn, ComesOn, IsBefore, IsByOneFrom, IsTask, IsTrial, IsTrialOrNone, IsUnread, IsTendedAt, IsWritten, IsLegalRun, IsComplete, IsCompleteTask, IsCompleteTrial, IsWholeCheck, trial_steps}
+use Rattle.slee_run.specs.Stops.{DoneOn}
 use Rattle.slee_run.specs.Opening.{found, IsAnswerTo, IsEarly, IsGood}
-use Rattle.slee_run.specs.Answers.{Outcome, IsCheckedBy, IsFormOf, IsGeneratedBy, IsPlayedFrom, IsShownBy, IsTriedBy}
+use Rattle.slee_run.specs.Answers.{Outcome, IsCheckedBy, IsFormOf, IsGeneratedBy, IsPlayedFrom, IsTaskBy, IsTriedBy}
 use Rattle.slee_run.specs.Checking.{IsTextFor, IsCheckedAt, IsAnswerFor, IsBarred, IsFaulty, IsGenerated, IsLinesFor}
 use Rattle.slee_run.specs.declared.command.Command.{Command}
 use Rattle.slee_run.specs.declared.command.Command.TheVariants as commands
 use Rattle.slee_run.specs.declared.running.Run.{Run}
 use Rattle.slee_run.specs.declared.generating.Seeded.{Seeded}
 use Rattle.slee_run.specs.declared.top.Form.TheVariants as forms
+use Rattle.slee_run.specs.declared.tending.Task.{Task}
+use Rattle.slee_run.specs.declared.tending.Task.TheVariants as tasks
 use Rattle.slee_run.specs.declared.status.Given.TheVariants as givens
 use Rattle.slee_run.specs.declared.status.Status.{Status}
 use Rattle.slee_run.specs.declared.status.Status.TheVariants as statuses
@@ -79,9 +81,29 @@ later_closed commands.Check later opening = later
 later_closed (commands.Play workers steps) later opening = later opening
 later_closed (commands.Resume workers steps) later opening = later opening
 later_closed commands.Show later opening = later
-later_closed commands.Compact later opening = opening
+later_closed commands.Compact later opening = later
 later_closed (commands.Gen seed count) later opening = later
 later_closed (commands.Trial seed count) later opening = later
+
+-- the words ask for one thing
+pub task_kind : (task : Task) → (Kind (command_of_task task) ≡ 3) ⊎ (Kind (command_of_task task) ≡ 4)
+task_kind tasks.Show = inl refl
+task_kind tasks.Compact = inr refl
+
+pub no_task : (words : List (List ℕ)) (c : Command) → command_of words ≡ Some c → (Kind c ≡ 3 → ⊥) → (Kind c ≡ 4 → ⊥) → (task : Task) → Tends words task → ⊥
+no_task words c asks three four task tends = by (task_kind task)
+  where
+    by : (Kind (command_of_task task) ≡ 3) ⊎ (Kind (command_of_task task) ≡ 4) → ⊥
+    by (inl is) = three (other words c (command_of_task task) asks tends ∙ is)
+    by (inr is) = four (other words c (command_of_task task) asks tends ∙ is)
+
+pub task_apart : (task : Task) → (Kind (command_of_task task) ≡ 1 → ⊥) × (Kind (command_of_task task) ≡ 2 → ⊥)
+task_apart tasks.Show = (λ e. cc, λ e. cc)
+task_apart tasks.Compact = (λ e. cc, λ e. cc)
+
+pub task_now : (task : Task) → IsLater (command_of_task task) → ⊥
+task_now tasks.Show later = later
+task_now tasks.Compact later = later
 
 later_plays : (words : List (List ℕ)) (c : Command) (mode : Mode) (steps : ℕ) → command_of words ≡ Some c → IsLater c → Plays words mode steps → ⊥
 later_plays words c mode steps asks later plays = plays_now mode steps (subst IsLater (one_command (command_of words) c (command_for mode steps) asks plays) later)
@@ -95,6 +117,7 @@ pub run_of_bad : (words : List (List ℕ)) (deploy signals before after : Option
 run_of_bad words deploy signals before after d status none out = record {
   document = nowhere;
   base = base_on nowhere d;
+  generation = 0;
   history = [];
   acked = [];
   text = status_line statuses.BadWords;
@@ -105,7 +128,7 @@ run_of_bad words deploy signals before after d status none out = record {
     bad = λ e. record { same = refl; none = refl; alone = refl };
     later = λ asks. absurd (no_command (command_of words) asks.command none asks.asks);
     plays = λ mode steps is. absurd (no_command (command_of words) (command_for mode steps) none is);
-    shows = λ is. absurd (no_command (command_of words) commands.Show none is);
+    tends = λ task is. absurd (no_command (command_of words) (command_of_task task) none is);
     checks = λ is. absurd (no_command (command_of words) commands.Check none is);
     generates = λ seed count is. absurd (no_command (command_of words) (commands.Gen seed count) none is);
     tries = λ seed count is. absurd (no_command (command_of words) (commands.Trial seed count) none is);
@@ -114,7 +137,12 @@ run_of_bad words deploy signals before after d status none out = record {
     unwritten = λ is. cc;
   };
   given = λ opens. absurd (no_command (command_of words) opens.command none opens.asks);
-  journal = λ opens. absurd (no_command (command_of words) opens.command none opens.asks);
+  journal = record {
+    met = λ opens. absurd (no_command (command_of words) opens.command none opens.asks);
+    keeps = λ opens other. absurd (no_command (command_of words) opens.command none opens.asks);
+    done = λ task is. absurd (no_command (command_of words) (command_of_task task) none is);
+  };
+  bare = λ opens. absurd (no_command (command_of words) opens.command none opens.asks);
   output = out;
 }
 
@@ -124,6 +152,7 @@ pub run_of_later : (words : List (List ℕ)) (deploy signals before after : Opti
 run_of_later words deploy signals before after d status c asks later out = record {
   document = nowhere;
   base = base_on nowhere d;
+  generation = 0;
   history = [];
   acked = [];
   text = status_line statuses.NotBuilt;
@@ -134,7 +163,7 @@ run_of_later words deploy signals before after d status c asks later out = recor
     bad = λ none. absurd (no_command (command_of words) c none asks);
     later = λ e. record { same = refl; none = refl; alone = refl };
     plays = λ mode steps is. absurd (later_plays words c mode steps asks later is);
-    shows = λ is. absurd (later_other words c commands.Show asks later (λ e. e) is);
+    tends = λ task is. absurd (later_other words c (command_of_task task) asks later (task_now task) is);
     checks = λ is. absurd (later_other words c commands.Check asks later (λ e. e) is);
     generates = λ seed count is. absurd (later_other words c (commands.Gen seed count) asks later (λ e. e) is);
     tries = λ seed count is. absurd (later_other words c (commands.Trial seed count) asks later (λ e. e) is);
@@ -143,7 +172,12 @@ run_of_later words deploy signals before after d status c asks later out = recor
     unwritten = λ is. cc;
   };
   given = λ opens. absurd (no_opening words c asks (later_closed c later) opens);
-  journal = λ opens. absurd (no_opening words c asks (later_closed c later) opens);
+  journal = record {
+    met = λ opens. absurd (no_opening words c asks (later_closed c later) opens);
+    keeps = λ opens other. absurd (no_opening words c asks (later_closed c later) opens);
+    done = λ task is. absurd (later_other words c (command_of_task task) asks later (task_now task) is);
+  };
+  bare = λ opens. absurd (no_opening words c asks (later_closed c later) opens);
   output = out;
 }
 
@@ -165,6 +199,7 @@ pub run_of_play : (words : List (List ℕ)) (deploy signals before after : Optio
 run_of_play words deploy signals before after old new status c run asks plays p = record {
   document = p.document;
   base = p.run.base;
+  generation = p.run.generation;
   history = p.run.history;
   acked = p.run.acked;
   text = p.run.text;
@@ -180,7 +215,7 @@ run_of_play words deploy signals before after old new status c run asks plays p 
       words = p.played.words;
       prints = p.played.prints;
     };
-    shows = λ is. absurd (no_play words commands.Show run.mode run.steps is (λ e. cc) (λ e. cc) asked_play);
+    tends = λ task is. absurd (play_task task is);
     checks = λ is. absurd (no_play words commands.Check run.mode run.steps is (λ e. cc) (λ e. cc) asked_play);
     generates = λ seed count is. absurd (no_play words (commands.Gen seed count) run.mode run.steps is (λ e. cc) (λ e. cc) asked_play);
     tries = λ seed count is. absurd (no_play words (commands.Trial seed count) run.mode run.steps is (λ e. cc) (λ e. cc) asked_play);
@@ -189,10 +224,14 @@ run_of_play words deploy signals before after old new status c run asks plays p 
     unwritten = p.played.unwritten;
   };
   given = λ opens. p.given;
-  journal = λ opens. p.played.journal;
+  journal = record { met = λ opens. p.played.met; keeps = λ opens other. p.played.keeps; done = λ task is. absurd (play_task task is) };
+  bare = λ opens. p.played.bare;
   output = p.played.output;
 }
   where
+    play_task : (task : Task) → Tends words task → ⊥
+    play_task task is = no_play words (command_of_task task) run.mode run.steps is (task_apart task).0 (task_apart task).1 (asks ∙ ap (λ (d : Command). Some d) plays.0)
+
     asked_play : command_of words ≡ Some (command_for run.mode run.steps)
     asked_play = asks ∙ ap (λ (d : Command). Some d) plays.0
 
@@ -202,37 +241,59 @@ run_of_play words deploy signals before after old new status c run asks plays p 
         subst (λ (m : Mode). IsFrom deploy signals m steps p.run) one.0 (subst (λ (n : ℕ). IsFrom deploy signals run.mode n p.run) one.1
         (record { few = p.few; comes = p.comes; alone = p.alone }))
 
--- they ask to show
-pub run_of_show : (words : List (List ℕ)) (deploy signals before after : Option (List ℕ)) (old new : DiskState) (status : Status) (c : Command) → command_of words ≡ Some c → c ≡ commands.Show
-    → IsShownBy deploy before after old new status → IsLegalRun words deploy signals before after old new status
-run_of_show words deploy signals before after old new status c asks shows p = record {
+-- they ask for a task
+one_task : (task other : Task) → command_of_task task ≡ command_of_task other → task ≡ other
+one_task tasks.Show tasks.Show is = refl
+one_task tasks.Show tasks.Compact is = absurd (cc)
+one_task tasks.Compact tasks.Show is = absurd (cc)
+one_task tasks.Compact tasks.Compact is = refl
+
+pub run_of_task : (words : List (List ℕ)) (deploy signals before after : Option (List ℕ)) (old new : DiskState) (status : Status) (c : Command) (task : Task) → command_of words ≡ Some c → c ≡ command_of_task task
+    → IsTaskBy task deploy before after old new status → IsLegalRun words deploy signals before after old new status
+run_of_task words deploy signals before after old new status c task asks asked p = record {
   document = p.document;
   base = p.base;
+  generation = p.generation;
   history = [];
   acked = [];
-  text = shown_text p.base p.stood;
+  text = task_text task p.base p.generation p.stood;
   ended = p.stood;
   stood = p.stood;
   run = record {
     legal = no_history p.base p.stood;
     bad = λ none. absurd (no_command (command_of words) c none asks);
-    later = λ asked. absurd (no_later words commands.Show asked_show (λ e. e) asked.command asked.asks asked.later);
-    plays = λ mode steps is. absurd (no_play words commands.Show mode steps asked_show (λ e. cc) (λ e. cc) is);
-    shows = λ is. record { comes = p.comes; none = refl; barred = p.barred; prints = refl };
-    checks = λ is. absurd (let never : 3 ≡ 0 = other words commands.Show commands.Check asked_show is in cc);
-    generates = λ seed count is. absurd (let never : 3 ≡ 5 = other words commands.Show (commands.Gen seed count) asked_show is in cc);
-    tries = λ seed count is. absurd (let never : 3 ≡ 6 = other words commands.Show (commands.Trial seed count) asked_show is in cc);
-    alone = λ mode steps is. absurd (no_play words commands.Show mode steps asked_show (λ e. cc) (λ e. cc) is);
+    later = λ other. absurd (no_later words (command_of_task task) asked_task (task_now task) other.command other.asks other.later);
+    plays = λ mode steps is. absurd (not_play mode steps is);
+    tends = λ other is. subst (λ (t : Task). IsTask t p.base p.generation deploy [] (task_text task p.base p.generation p.stood) p.stood) (same_task other is)
+        (record { comes = p.comes; none = refl; barred = p.barred; prints = refl });
+    checks = λ is. absurd (no_task words commands.Check is (λ e. cc) (λ e. cc) task asked_task);
+    generates = λ seed count is. absurd (no_task words (commands.Gen seed count) is (λ e. cc) (λ e. cc) task asked_task);
+    tries = λ seed count is. absurd (no_task words (commands.Trial seed count) is (λ e. cc) (λ e. cc) task asked_task);
+    alone = λ mode steps is. absurd (not_play mode steps is);
     same = λ more. refl;
-    unwritten = λ is. subst IsShownAt is p.comes;
+    unwritten = λ is. subst IsTendedAt is p.comes;
   };
   given = λ opens. p.given;
-  journal = λ opens. p.journal;
+  journal = record {
+    met = λ opens. p.met;
+    keeps = λ opens other. absurd (other task asked_task);
+    done = λ other is. subst (λ (t : Task). DoneOn t p.document p.base p.generation old new p.stood) (same_task other is) p.done;
+  };
+  bare = λ opens told adding is. full_text task p.base p.generation p.stood adding is;
   output = p.output;
 }
   where
-    asked_show : command_of words ≡ Some commands.Show
-    asked_show = asks ∙ ap (λ (d : Command). Some d) shows
+    asked_task : command_of words ≡ Some (command_of_task task)
+    asked_task = asks ∙ ap (λ (d : Command). Some d) asked
+
+    same_task : (other : Task) → Tends words other → task ≡ other
+    same_task other is = one_task task other (one_command (command_of words) (command_of_task task) (command_of_task other) asked_task is)
+
+    not_play : (mode : Mode) (steps : ℕ) → Plays words mode steps → ⊥
+    not_play mode steps is = no_play words (command_of_task task) mode steps asked_task (task_apart task).0 (task_apart task).1 is
+
+    full_text : (task : Task) (base : State) (generation : ℕ) (stood : Status) (adding : ℕ) → stood ≡ statuses.Full 0 adding → task_text task base generation stood ≡ status_line stood
+    full_text task base generation stood adding is = subst (λ (s : Status). task_text task base generation s ≡ status_line s) (sym is) refl
 
 -- they ask to check
 pub run_of_check : (words : List (List ℕ)) (deploy signals before after : Option (List ℕ)) (d : DiskState) (status : Status) (c : Command) → command_of words ≡ Some c → c ≡ commands.Check
@@ -240,6 +301,7 @@ pub run_of_check : (words : List (List ℕ)) (deploy signals before after : Opti
 run_of_check words deploy signals before after d status c asks checks p = record {
   document = nowhere;
   base = base_on nowhere d;
+  generation = 0;
   history = [];
   acked = [];
   text = p.text;
@@ -250,7 +312,7 @@ run_of_check words deploy signals before after d status c asks checks p = record
     bad = λ none. absurd (no_command (command_of words) c none asks);
     later = λ asked. absurd (no_later words commands.Check asked_check (λ e. e) asked.command asked.asks asked.later);
     plays = λ mode steps is. absurd (no_play words commands.Check mode steps asked_check (λ e. cc) (λ e. cc) is);
-    shows = λ is. absurd (let never : 0 ≡ 3 = other words commands.Check commands.Show asked_check is in cc);
+    tends = λ task is. absurd (no_task words commands.Check asked_check (λ e. cc) (λ e. cc) task is);
     checks = λ is. p.check;
     generates = λ seed count is. absurd (let never : 0 ≡ 5 = other words commands.Check (commands.Gen seed count) asked_check is in cc);
     tries = λ seed count is. absurd (let never : 0 ≡ 6 = other words commands.Check (commands.Trial seed count) asked_check is in cc);
@@ -259,7 +321,12 @@ run_of_check words deploy signals before after d status c asks checks p = record
     unwritten = λ is. subst IsCheckedAt is p.check.comes;
   };
   given = λ opens. absurd (no_opening words commands.Check asked_check (λ e. e) opens);
-  journal = λ opens. absurd (no_opening words commands.Check asked_check (λ e. e) opens);
+  journal = record {
+    met = λ opens. absurd (no_opening words commands.Check asked_check (λ e. e) opens);
+    keeps = λ opens other. absurd (no_opening words commands.Check asked_check (λ e. e) opens);
+    done = λ task is. absurd (no_task words commands.Check asked_check (λ e. cc) (λ e. cc) task is);
+  };
+  bare = λ opens. absurd (no_opening words commands.Check asked_check (λ e. e) opens);
   output = p.output;
 }
   where
@@ -275,6 +342,7 @@ pub run_of_gen : (words : List (List ℕ)) (deploy signals before after : Option
 run_of_gen words deploy signals before after d status c seeded asks gens p = record {
   document = nowhere;
   base = base_on nowhere d;
+  generation = 0;
   history = [];
   acked = [];
   text = p.text;
@@ -285,7 +353,7 @@ run_of_gen words deploy signals before after d status c seeded asks gens p = rec
     bad = λ none. absurd (no_command (command_of words) c none asks);
     later = λ asked. absurd (no_later words (commands.Gen seeded.seed seeded.count) asked_gen (λ e. e) asked.command asked.asks asked.later);
     plays = λ mode steps is. absurd (no_play words (commands.Gen seeded.seed seeded.count) mode steps asked_gen (λ e. cc) (λ e. cc) is);
-    shows = λ is. absurd (let never : 5 ≡ 3 = other words (commands.Gen seeded.seed seeded.count) commands.Show asked_gen is in cc);
+    tends = λ task is. absurd (no_task words (commands.Gen seeded.seed seeded.count) asked_gen (λ e. cc) (λ e. cc) task is);
     checks = λ is. absurd (let never : 5 ≡ 0 = other words (commands.Gen seeded.seed seeded.count) commands.Check asked_gen is in cc);
     generates = λ seed count is.
         let one = one_seed seeded.seed seeded.count seed count (one_command (command_of words) (commands.Gen seeded.seed seeded.count) (commands.Gen seed count) asked_gen is) in
@@ -296,7 +364,12 @@ run_of_gen words deploy signals before after d status c seeded asks gens p = rec
     unwritten = λ is. subst IsCheckedAt is p.lines.comes;
   };
   given = λ opens. absurd (no_opening words (commands.Gen seeded.seed seeded.count) asked_gen (λ e. e) opens);
-  journal = λ opens. absurd (no_opening words (commands.Gen seeded.seed seeded.count) asked_gen (λ e. e) opens);
+  journal = record {
+    met = λ opens. absurd (no_opening words (commands.Gen seeded.seed seeded.count) asked_gen (λ e. e) opens);
+    keeps = λ opens other. absurd (no_opening words (commands.Gen seeded.seed seeded.count) asked_gen (λ e. e) opens);
+    done = λ task is. absurd (no_task words (commands.Gen seeded.seed seeded.count) asked_gen (λ e. cc) (λ e. cc) task is);
+  };
+  bare = λ opens. absurd (no_opening words (commands.Gen seeded.seed seeded.count) asked_gen (λ e. e) opens);
   output = p.output;
 }
   where
@@ -312,6 +385,7 @@ pub run_of_trial : (words : List (List ℕ)) (deploy signals before after : Opti
 run_of_trial words deploy signals before after old new status c seeded asks tries p = record {
   document = p.document;
   base = p.run.base;
+  generation = p.run.generation;
   history = p.run.history;
   acked = p.run.acked;
   text = p.run.text;
@@ -322,7 +396,7 @@ run_of_trial words deploy signals before after old new status c seeded asks trie
     bad = λ none. absurd (no_command (command_of words) c none asks);
     later = λ asked. absurd (no_later words (commands.Trial seeded.seed seeded.count) asked_trial (λ e. e) asked.command asked.asks asked.later);
     plays = λ mode steps is. absurd (no_play words (commands.Trial seeded.seed seeded.count) mode steps asked_trial (λ e. cc) (λ e. cc) is);
-    shows = λ is. absurd (let never : 6 ≡ 3 = other words (commands.Trial seeded.seed seeded.count) commands.Show asked_trial is in cc);
+    tends = λ task is. absurd (no_task words (commands.Trial seeded.seed seeded.count) asked_trial (λ e. cc) (λ e. cc) task is);
     checks = λ is. absurd (let never : 6 ≡ 0 = other words (commands.Trial seeded.seed seeded.count) commands.Check asked_trial is in cc);
     generates = λ seed count is. absurd (let never : 6 ≡ 5 = other words (commands.Trial seeded.seed seeded.count) (commands.Gen seed count) asked_trial is in cc);
     tries = λ seed count is. tried seed count (one_trial seeded.seed seeded.count seed count (one_command (command_of words) (commands.Trial seeded.seed seeded.count) (commands.Trial seed count) asked_trial is));
@@ -331,7 +405,12 @@ run_of_trial words deploy signals before after old new status c seeded asks trie
     unwritten = p.played.unwritten;
   };
   given = λ opens. p.given;
-  journal = λ opens. p.played.journal;
+  journal = record {
+    met = λ opens. p.played.met;
+    keeps = λ opens other. p.played.keeps;
+    done = λ task is. absurd (no_task words (commands.Trial seeded.seed seeded.count) asked_trial (λ e. cc) (λ e. cc) task is);
+  };
+  bare = λ opens. p.played.bare;
   output = p.played.output;
 }
   where
@@ -348,19 +427,18 @@ run_of_trial words deploy signals before after old new status c seeded asks trie
 
 -- ---- without a fault
 
-no_fault : (bytes : Result State Unfit) (wrong : Unfit) → IsOk bytes → bytes ≡ Err wrong → ⊥
+no_fault : (bytes : Result State Wrong) (wrong : Wrong) → IsOk bytes → bytes ≡ Err wrong → ⊥
 no_fault bytes wrong ok is = let never : false ≡ true = subst IsOk is ok in cc
 
-good : (base : State) (steps : ℕ) (lines : List Signal) (history : List Entry) (bytes : Result State Unfit) (ended : Status) → EndsOn base steps lines history ended → IsOk bytes → IsAnswerTo bytes ended
+good : (base : State) (steps : ℕ) (lines : List Signal) (history : List Entry) (bytes : Result State Wrong) (ended : Status) → EndsOn base steps lines history ended → IsOk bytes → IsAnswerTo bytes ended
     → ended ≢ statuses.ReadFault → ended ≢ statuses.DiskFault → IsGood ended
 good base steps lines history bytes statuses.Ok comes ok answer reads keeps = tt
 good base steps lines history bytes statuses.BadWords comes ok answer reads keeps = absurd comes
 good base steps lines history bytes statuses.ReadFault comes ok answer reads keeps = absurd (reads refl)
 good base steps lines history bytes statuses.WriteFault comes ok answer reads keeps = absurd comes
 good base steps lines history bytes statuses.DiskFault comes ok answer reads keeps = absurd (keeps refl)
-good base steps lines history bytes (statuses.BadJournal side at kind) comes ok answer reads keeps = absurd (no_fault bytes (Broken (Bad side at kind)) ok answer)
-good base steps lines history bytes (statuses.OtherDeployment kept_len place) comes ok answer reads keeps = absurd (no_fault bytes (Broken (Other kept_len place)) ok answer)
-good base steps lines history bytes statuses.FirstFormat comes ok answer reads keeps = absurd (no_fault bytes FirstFormat ok answer)
+good base steps lines history bytes (statuses.BadJournal side at kind) comes ok answer reads keeps = absurd (no_fault bytes (Bad side at kind) ok answer)
+good base steps lines history bytes (statuses.OtherDeployment kept_len place) comes ok answer reads keeps = absurd (no_fault bytes (Other kept_len place) ok answer)
 good base steps lines history bytes (statuses.Full size adding) comes ok answer reads keeps = tt
 good base steps lines history bytes (statuses.StepsSpent entries) comes ok answer reads keeps = tt
 good base steps lines history bytes statuses.NoMemory comes ok answer reads keeps = tt
@@ -378,8 +456,7 @@ good_early base steps lines history statuses.WriteFault comes early reads = absu
 good_early base steps lines history statuses.DiskFault comes early reads = absurd early
 good_early base steps lines history (statuses.BadJournal side at kind) comes early reads = absurd early
 good_early base steps lines history (statuses.OtherDeployment kept_len place) comes early reads = absurd early
-good_early base steps lines history statuses.FirstFormat comes early reads = absurd early
-good_early base steps lines history (statuses.Full size adding) comes early reads = tt
+good_early base steps lines history (statuses.Full size adding) comes early reads = absurd early
 good_early base steps lines history (statuses.StepsSpent entries) comes early reads = tt
 good_early base steps lines history statuses.NoMemory comes early reads = tt
 good_early base steps lines history (statuses.BadDeploy fault) comes early reads = absurd comes
@@ -401,7 +478,7 @@ good_met bytes words signals before after old new status r opens x is told ok st
     by (inr unopened) = good_early r.base steps lines r.history r.ended ends unopened.early reads
     by (inl document) =
         good r.base steps lines r.history (found r.document old) r.ended ends
-        (subst (λ (y : Document). IsOk (found y old)) (one_document bytes x r.document is document) ok) ((r.journal opens).opened told).answer reads keeps
+        (subst (λ (y : Document). IsOk (found y old)) (one_document bytes x r.document is document) ok) ((r.journal.met opens).opened told).answer reads keeps
 
 -- memory ran out
 abbrev is_memory : Status → Type 0
@@ -420,7 +497,6 @@ memory_or statuses.WriteFault = inr (λ e. cc)
 memory_or statuses.DiskFault = inr (λ e. cc)
 memory_or (statuses.BadJournal side at kind) = inr (λ e. cc)
 memory_or (statuses.OtherDeployment kept_len place) = inr (λ e. cc)
-memory_or statuses.FirstFormat = inr (λ e. cc)
 memory_or (statuses.Full size adding) = inr (λ e. cc)
 memory_or (statuses.StepsSpent entries) = inr (λ e. cc)
 memory_or statuses.NoMemory = inl refl
@@ -479,7 +555,6 @@ IsBarredShow statuses.WriteFault = Unit {0}
 IsBarredShow statuses.DiskFault = Unit {0}
 IsBarredShow (statuses.BadJournal side at kind) = Unit {0}
 IsBarredShow (statuses.OtherDeployment kept_len place) = Unit {0}
-IsBarredShow statuses.FirstFormat = Unit {0}
 IsBarredShow (statuses.Full size adding) = Unit {0}
 IsBarredShow (statuses.StepsSpent entries) = Unit {0}
 IsBarredShow statuses.NoMemory = Unit {0}
@@ -488,41 +563,38 @@ IsBarredShow (statuses.BadSignals line kind) = Unit {0}
 IsBarredShow (statuses.TooLarge what) = ⊥
 IsBarredShow statuses.NotBuilt = Unit {0}
 
-shown_or : (bytes : Result State Unfit) (stood : Status) → IsShownAt stood → IsOk bytes → IsAnswerTo bytes stood → stood ≢ statuses.ReadFault → stood ≢ statuses.DiskFault → IsBarredShow stood
-    → (stood ≡ statuses.Ok) ⊎ (stood ≡ statuses.NoMemory)
-shown_or bytes statuses.Ok comes ok answer reads keeps good = inl refl
-shown_or bytes statuses.BadWords comes ok answer reads keeps good = absurd comes
-shown_or bytes statuses.ReadFault comes ok answer reads keeps good = absurd (reads refl)
-shown_or bytes statuses.WriteFault comes ok answer reads keeps good = absurd comes
-shown_or bytes statuses.DiskFault comes ok answer reads keeps good = absurd (keeps refl)
-shown_or bytes (statuses.BadJournal side at kind) comes ok answer reads keeps good = absurd (no_fault bytes (Broken (Bad side at kind)) ok answer)
-shown_or bytes (statuses.OtherDeployment kept_len place) comes ok answer reads keeps good = absurd (no_fault bytes (Broken (Other kept_len place)) ok answer)
-shown_or bytes statuses.FirstFormat comes ok answer reads keeps good = absurd (no_fault bytes FirstFormat ok answer)
-shown_or bytes (statuses.Full size adding) comes ok answer reads keeps good = absurd comes
-shown_or bytes (statuses.StepsSpent entries) comes ok answer reads keeps good = absurd comes
-shown_or bytes statuses.NoMemory comes ok answer reads keeps good = inr refl
-shown_or bytes (statuses.BadDeploy fault) comes ok answer reads keeps good = absurd good
-shown_or bytes (statuses.BadSignals line kind) comes ok answer reads keeps good = absurd comes
-shown_or bytes (statuses.TooLarge what) comes ok answer reads keeps good = absurd good
-shown_or bytes statuses.NotBuilt comes ok answer reads keeps good = absurd comes
+task_good : (bytes : Result State Wrong) (stood : Status) → IsTendedAt stood → IsOk bytes → IsAnswerTo bytes stood → stood ≢ statuses.ReadFault → stood ≢ statuses.DiskFault → IsBarredShow stood → IsGood stood
+task_good bytes statuses.Ok comes ok answer reads keeps good = tt
+task_good bytes statuses.BadWords comes ok answer reads keeps good = absurd comes
+task_good bytes statuses.ReadFault comes ok answer reads keeps good = absurd (reads refl)
+task_good bytes statuses.WriteFault comes ok answer reads keeps good = absurd comes
+task_good bytes statuses.DiskFault comes ok answer reads keeps good = absurd (keeps refl)
+task_good bytes (statuses.BadJournal side at kind) comes ok answer reads keeps good = absurd (no_fault bytes (Bad side at kind) ok answer)
+task_good bytes (statuses.OtherDeployment kept_len place) comes ok answer reads keeps good = absurd (no_fault bytes (Other kept_len place) ok answer)
+task_good bytes (statuses.Full size adding) comes ok answer reads keeps good = tt
+task_good bytes (statuses.StepsSpent entries) comes ok answer reads keeps good = tt
+task_good bytes statuses.NoMemory comes ok answer reads keeps good = tt
+task_good bytes (statuses.BadDeploy fault) comes ok answer reads keeps good = absurd good
+task_good bytes (statuses.BadSignals line kind) comes ok answer reads keeps good = absurd comes
+task_good bytes (statuses.TooLarge what) comes ok answer reads keeps good = absurd good
+task_good bytes statuses.NotBuilt comes ok answer reads keeps good = absurd comes
 
 -- the same where the journal wasn't opened
-shown_early : (stood : Status) → IsShownAt stood → IsEarly stood → stood ≢ statuses.ReadFault → IsBarredShow stood → (stood ≡ statuses.Ok) ⊎ (stood ≡ statuses.NoMemory)
-shown_early statuses.Ok comes early reads good = inl refl
-shown_early statuses.BadWords comes early reads good = absurd comes
-shown_early statuses.ReadFault comes early reads good = absurd (reads refl)
-shown_early statuses.WriteFault comes early reads good = absurd comes
-shown_early statuses.DiskFault comes early reads good = absurd early
-shown_early (statuses.BadJournal side at kind) comes early reads good = absurd early
-shown_early (statuses.OtherDeployment kept_len place) comes early reads good = absurd early
-shown_early statuses.FirstFormat comes early reads good = absurd early
-shown_early (statuses.Full size adding) comes early reads good = absurd comes
-shown_early (statuses.StepsSpent entries) comes early reads good = absurd comes
-shown_early statuses.NoMemory comes early reads good = inr refl
-shown_early (statuses.BadDeploy fault) comes early reads good = absurd good
-shown_early (statuses.BadSignals line kind) comes early reads good = absurd comes
-shown_early (statuses.TooLarge what) comes early reads good = absurd good
-shown_early statuses.NotBuilt comes early reads good = absurd comes
+task_early : (stood : Status) → IsTendedAt stood → IsEarly stood → stood ≢ statuses.ReadFault → IsBarredShow stood → IsGood stood
+task_early statuses.Ok comes early reads good = tt
+task_early statuses.BadWords comes early reads good = absurd comes
+task_early statuses.ReadFault comes early reads good = absurd (reads refl)
+task_early statuses.WriteFault comes early reads good = absurd comes
+task_early statuses.DiskFault comes early reads good = absurd early
+task_early (statuses.BadJournal side at kind) comes early reads good = absurd early
+task_early (statuses.OtherDeployment kept_len place) comes early reads good = absurd early
+task_early (statuses.Full size adding) comes early reads good = tt
+task_early (statuses.StepsSpent entries) comes early reads good = tt
+task_early statuses.NoMemory comes early reads good = tt
+task_early (statuses.BadDeploy fault) comes early reads good = absurd good
+task_early (statuses.BadSignals line kind) comes early reads good = absurd comes
+task_early (statuses.TooLarge what) comes early reads good = absurd good
+task_early statuses.NotBuilt comes early reads good = absurd comes
 
 -- bytes that give no refusal bar nothing
 not_faulty : (reading : Result Reading ReadFault) (fault : ReadFault) → counts_read reading ≡ Err fault → unread reading ≡ None → ⊥
@@ -541,7 +613,6 @@ barred_good bytes statuses.WriteFault barred none = tt
 barred_good bytes statuses.DiskFault barred none = tt
 barred_good bytes (statuses.BadJournal side at kind) barred none = tt
 barred_good bytes (statuses.OtherDeployment kept_len place) barred none = tt
-barred_good bytes statuses.FirstFormat barred none = tt
 barred_good bytes (statuses.Full size adding) barred none = tt
 barred_good bytes (statuses.StepsSpent entries) barred none = tt
 barred_good bytes statuses.NoMemory barred none = tt
@@ -551,29 +622,39 @@ barred_good bytes (statuses.BadSignals line kind) barred none = tt
 barred_good bytes (statuses.TooLarge what) barred none = let never : ◌≡◌ {A = Option Status} (Some (statuses.TooLarge givens.Deploy)) None = sym (large_deploy bytes barred) ∙ none in absurd (cc)
 barred_good bytes statuses.NotBuilt barred none = tt
 
-shows_open : (words : List (List ℕ)) → Shows words → Opens words
-shows_open words shows = record { command = commands.Show; asks = shows; opening = tt }
+pub tends_open : (words : List (List ℕ)) (task : Task) → Tends words task → Opens words
+tends_open words tasks.Show tends = record { command = commands.Show; asks = tends; opening = tt }
+tends_open words tasks.Compact tends = record { command = commands.Compact; asks = tends; opening = tt }
 
-pub shown_whole : (words : List (List ℕ)) (deploy signals before after : Option (List ℕ)) (old new : DiskState) (status : Status) (Faulted : Type 0) → IsLegalRun words deploy signals before after old new status
-    → (status ≡ statuses.ReadFault → Faulted) → (status ≡ statuses.WriteFault → Faulted) → (status ≡ statuses.DiskFault → Faulted) → IsShown words deploy old Faulted status
-shown_whole words None signals before after old new status Faulted r read write disk shows told x is ok = tt
-shown_whole words (Some bytes) signals before after old new status Faulted r read write disk shows told x is ok = λ accepted none.
+memory_task : IsGood statuses.NoMemory × IsTendedAt statuses.NoMemory
+memory_task = (tt, tt)
+
+pub complete_task : (words : List (List ℕ)) (deploy signals before after : Option (List ℕ)) (old new : DiskState) (status : Status) (Faulted : Type 0) → IsLegalRun words deploy signals before after old new status
+    → (status ≡ statuses.ReadFault → Faulted) → (status ≡ statuses.WriteFault → Faulted) → (status ≡ statuses.DiskFault → Faulted) → IsCompleteTask words deploy old Faulted status
+complete_task words None signals before after old new status Faulted r read write disk task tends told x is ok = tt
+complete_task words (Some bytes) signals before after old new status Faulted r read write disk task tends told x is ok = λ accepted none.
     let same : r.stood ≡ status = (r.output.whole (λ e. none (write e))).0 in
-    by same (memory_or r.stood) accepted none (r.given (shows_open words shows))
+    by same (memory_or r.stood) accepted none (r.given (tends_open words task tends))
   where
     found_ok : IsDocument (Some bytes) r.document → IsOk (found r.document old)
     found_ok document = subst (λ (y : Document). IsOk (found y old)) (one_document bytes x r.document is document) ok
 
+    asked : IsTask task r.base r.generation (Some bytes) r.history r.text r.ended
+    asked = r.run.tends task tends
+
+    to_status : r.stood ≡ status → r.stood ≢ statuses.NoMemory → IsGood r.ended → IsGood status × IsTendedAt status
+    to_status same more good = subst (λ (s : Status). IsGood s × IsTendedAt s) (sym (r.run.same more) ∙ same) (good, asked.comes)
+
     by : r.stood ≡ status → is_memory r.stood ⊎ (r.stood ≢ statuses.NoMemory) → refusal_of_deploy bytes ≡ None → (Faulted → ⊥)
-        → IsDocument (Some bytes) r.document ⊎ IsBefore r.history old new r.ended → (status ≡ statuses.Ok) ⊎ (status ≡ statuses.NoMemory)
-    by same (inl out) accepted none given = inr (sym same ∙ out)
+        → IsDocument (Some bytes) r.document ⊎ IsBefore r.history old new r.ended → IsGood status × IsTendedAt status
+    by same (inl out) accepted none given = subst (λ (s : Status). IsGood s × IsTendedAt s) (sym out ∙ same) memory_task
     by same (inr more) accepted none (inl document) =
-        subst (λ (s : Status). (s ≡ statuses.Ok) ⊎ (s ≡ statuses.NoMemory)) (sym (r.run.same more) ∙ same)
-        (shown_or (found r.document old) r.ended (r.run.shows shows).comes (found_ok document) ((r.journal (shows_open words shows)).opened told).answer
-        (λ e. none (read (sym same ∙ r.run.same more ∙ e))) (λ e. none (disk (sym same ∙ r.run.same more ∙ e))) (barred_good bytes r.ended (r.run.shows shows).barred accepted))
+        to_status same more
+        (task_good (found r.document old) r.ended asked.comes (found_ok document) ((r.journal.met (tends_open words task tends)).opened told).answer
+        (λ e. none (read (sym same ∙ r.run.same more ∙ e))) (λ e. none (disk (sym same ∙ r.run.same more ∙ e))) (barred_good bytes r.ended asked.barred accepted))
     by same (inr more) accepted none (inr unopened) =
-        subst (λ (s : Status). (s ≡ statuses.Ok) ⊎ (s ≡ statuses.NoMemory)) (sym (r.run.same more) ∙ same)
-        (shown_early r.ended (r.run.shows shows).comes unopened.early (λ e. none (read (sym same ∙ r.run.same more ∙ e))) (barred_good bytes r.ended (r.run.shows shows).barred accepted))
+        to_status same more
+        (task_early r.ended asked.comes unopened.early (λ e. none (read (sym same ∙ r.run.same more ∙ e))) (barred_good bytes r.ended asked.barred accepted))
 
 faulty_answer : (bytes : List ℕ) (fault : ReadFault) → IsFaulty bytes fault → IsAnswerFor bytes (statuses.BadDeploy fault)
 faulty_answer bytes fault is = record {
@@ -607,7 +688,6 @@ answer bytes text statuses.WriteFault comes is reads = absurd comes
 answer bytes text statuses.DiskFault comes is reads = absurd comes
 answer bytes text (statuses.BadJournal side at kind) comes is reads = absurd comes
 answer bytes text (statuses.OtherDeployment kept_len place) comes is reads = absurd comes
-answer bytes text statuses.FirstFormat comes is reads = absurd comes
 answer bytes text (statuses.Full size adding) comes is reads = absurd comes
 answer bytes text (statuses.StepsSpent entries) comes is reads = absurd comes
 answer bytes text statuses.NoMemory comes is reads = memory_answer bytes
@@ -633,7 +713,6 @@ lines_answer bytes text seed count statuses.WriteFault comes is reads = absurd c
 lines_answer bytes text seed count statuses.DiskFault comes is reads = absurd comes
 lines_answer bytes text seed count (statuses.BadJournal side at kind) comes is reads = absurd comes
 lines_answer bytes text seed count (statuses.OtherDeployment kept_len place) comes is reads = absurd comes
-lines_answer bytes text seed count statuses.FirstFormat comes is reads = absurd comes
 lines_answer bytes text seed count (statuses.Full size adding) comes is reads = absurd comes
 lines_answer bytes text seed count (statuses.StepsSpent entries) comes is reads = absurd comes
 lines_answer bytes text seed count statuses.NoMemory comes is reads = memory_answer bytes

@@ -5,8 +5,8 @@ use Rattle.slee_disk.specs.Disk.{DiskState}
 use Rattle.slee_container.specs.declared.container.Mode.{Mode}
 use Rattle.slee_container.specs.declared.container.Mode.TheVariants as modes
 use Rattle.slee_run.specs.Words.{command_of, is_seed_in_range, most_lines, most_seed}
-use Rattle.slee_run.specs.Headline.{command_for, Plays, Opens, Reads, IsShownAt, IsWritten}
-use Rattle.slee_run.specs.Answers.{IsCheckedBy, IsFormOf, IsGeneratedBy, IsShownBy}
+use Rattle.slee_run.specs.Headline.{command_for, command_of_task, Plays, Opens, Reads, IsTendedAt, IsWritten}
+use Rattle.slee_run.specs.Answers.{IsCheckedBy, IsFormOf, IsGeneratedBy, IsTaskBy}
 use Rattle.slee_run.specs.Checking.{IsCheckedAt}
 use Rattle.slee_run.specs.declared.command.Command.{Command}
 use Rattle.slee_run.specs.declared.command.Command.TheVariants as commands
@@ -15,7 +15,9 @@ use Rattle.slee_run.specs.declared.generating.Seeded.{Seeded}
 use Rattle.slee_run.specs.declared.top.Form.TheVariants as forms
 use Rattle.slee_run.specs.declared.status.Status.{Status}
 use Rattle.slee_run.specs.declared.status.Status.TheVariants as statuses
-use Rattle.slee_run.proofs.RunLemmas.{no_play, plays_now}
+use Rattle.slee_run.specs.declared.tending.Task.{Task}
+use Rattle.slee_run.specs.declared.tending.Task.TheVariants as tasks
+use Rattle.slee_run.proofs.RunLemmas.{no_play, plays_now, task_now, tends_open}
 
 -- a fault of reading is one of four
 pub of_four : (A B C E : Type 0) → A ⊎ B → A ⊎ (B ⊎ (C ⊎ E))
@@ -49,8 +51,8 @@ check_comes told before after status other c written is = subst IsCheckedAt (sto
 pub gen_comes : (seed count : ℕ) (told before after : Option (List ℕ)) (status other : Status) → IsGeneratedBy seed count told before after status → other ≢ statuses.WriteFault → status ≡ other → IsCheckedAt other
 gen_comes seed count told before after status other c written is = subst IsCheckedAt (stood_is before after c.text c.stood status other c.output written is) c.lines.comes
 
-pub show_comes : (told before after : Option (List ℕ)) (old new : DiskState) (status other : Status) → IsShownBy told before after old new status → other ≢ statuses.WriteFault → status ≡ other → IsShownAt other
-show_comes told before after old new status other c written is = subst IsShownAt (stood_is before after _ c.stood status other c.output written is) c.comes
+pub task_comes : (task : Task) (told before after : Option (List ℕ)) (old new : DiskState) (status other : Status) → IsTaskBy task told before after old new status → other ≢ statuses.WriteFault → status ≡ other → IsTendedAt other
+task_comes task told before after old new status other c written is = subst IsTendedAt (stood_is before after _ c.stood status other c.output written is) c.comes
 
 -- ---- what the words ask, by the form
 
@@ -64,8 +66,9 @@ module _ (words : List (List ℕ)) (c : Command) (asks : command_of words ≡ So
   pub check_never : c ≡ commands.Check → (mode : Mode) (steps : ℕ) → Plays words mode steps → ⊥
   check_never is mode steps = no_play words commands.Check mode steps (asked commands.Check is) (λ e. cc) (λ e. cc)
 
-  pub show_never : c ≡ commands.Show → (mode : Mode) (steps : ℕ) → Plays words mode steps → ⊥
-  show_never is mode steps = no_play words commands.Show mode steps (asked commands.Show is) (λ e. cc) (λ e. cc)
+  pub task_never : (task : Task) → c ≡ command_of_task task → (mode : Mode) (steps : ℕ) → Plays words mode steps → ⊥
+  task_never tasks.Show is mode steps = no_play words commands.Show mode steps (asked commands.Show is) (λ e. cc) (λ e. cc)
+  task_never tasks.Compact is mode steps = no_play words commands.Compact mode steps (asked commands.Compact is) (λ e. cc) (λ e. cc)
 
   pub gen_never : (s : Seeded) → IsFormOf c (forms.Gen s) → (mode : Mode) (steps : ℕ) → Plays words mode steps → ⊥
   gen_never s is mode steps = no_play words (commands.Gen s.seed s.count) mode steps (asked (commands.Gen s.seed s.count) is) (λ e. cc) (λ e. cc)
@@ -76,8 +79,8 @@ module _ (words : List (List ℕ)) (c : Command) (asks : command_of words ≡ So
   pub check_reads : c ≡ commands.Check → Reads words
   check_reads is = record { command = commands.Check; asks = asked commands.Check is; now = λ later. later }
 
-  pub show_reads : c ≡ commands.Show → Reads words
-  show_reads is = record { command = commands.Show; asks = asked commands.Show is; now = λ later. later }
+  pub task_reads : (task : Task) → c ≡ command_of_task task → Reads words
+  task_reads task is = record { command = command_of_task task; asks = asked (command_of_task task) is; now = task_now task }
 
   pub gen_reads : (s : Seeded) → IsFormOf c (forms.Gen s) → Reads words
   gen_reads s is = record { command = commands.Gen s.seed s.count; asks = asked (commands.Gen s.seed s.count) is; now = λ later. later }
@@ -88,8 +91,8 @@ module _ (words : List (List ℕ)) (c : Command) (asks : command_of words ≡ So
   pub play_reads : (run : Run) → IsFormOf c (forms.Play run) → Reads words
   play_reads run is = record { command = command_for run.mode run.steps; asks = asked (command_for run.mode run.steps) is.0; now = plays_now run.mode run.steps }
 
-  pub show_opens : c ≡ commands.Show → Opens words
-  show_opens is = record { command = commands.Show; asks = asked commands.Show is; opening = tt }
+  pub task_opens : (task : Task) → c ≡ command_of_task task → Opens words
+  task_opens task is = tends_open words task (asked (command_of_task task) is)
 
   pub trial_opens : (s : Seeded) → IsFormOf c (forms.Trial s) → Opens words
   trial_opens s is = record { command = commands.Trial s.seed s.count; asks = asked (commands.Trial s.seed s.count) is; opening = tt }

@@ -1,5 +1,5 @@
 -- What the parts of a run answer: what is said of the whole in Headline, but for the words.
-use Rattle.std.specs.Prelude.{◌≡◌, ◌≢◌, ◌⊎◌, ◌≤◌, ℕ, List, [], length, Option, Some, None, Ok, IfSome, MatchOption}
+use Rattle.std.specs.Prelude.{◌≡◌, ◌≢◌, ◌⊎◌, ◌≤◌, ℕ, List, [], length, Option, Some, None, Result, Ok, Err, IfSome, MatchOption}
 use Rattle.signal_script.specs.declared.signal.Signal.{Signal}
 use Rattle.signal_script.specs.declared.fault.SignalFault.{SignalFault}
 use Rattle.signal_script.specs.declared.fault.SignalFault.TheVariants as line_faults
@@ -10,10 +10,16 @@ use Rattle.trace_history.specs.declared.entry.Entry.{Entry}
 use Rattle.router_state.specs.State.{State}
 use Rattle.router_durable.specs.declared.fault.OpenFault.{OpenFault}
 use Rattle.router_durable.specs.declared.fault.OpenFault.TheVariants as faults
+use Rattle.router_durable.specs.Opening.{IsRefused}
+use Rattle.commit_journal.specs.declared.fault.BeginFault.{BeginFault}
+use Rattle.commit_journal.specs.declared.fault.BeginFault.TheVariants as renewals
 use Rattle.deploy_json.specs.Checking.{reading_of, read_as}
 use Rattle.deploy_json.specs.declared.fault.ReadFault.{ReadFault as DeployFault}
 use Rattle.deploy_json.specs.declared.fault.ReadFault.TheVariants as deploy_faults
+use Rattle.slee_container.specs.declared.container.Limits.{Limits}
 use Rattle.slee_container.specs.declared.container.Mode.{Mode}
+use Rattle.slee_container.specs.Compacting.{Compacts}
+use Rattle.slee_container.specs.Container.{View, state_of as state_in}
 use Rattle.slee_descriptor.specs.declared.deployment.Deployment.{Deployment}
 use Rattle.slee_run.specs.Given.{Document, IsDeployment, IsDocument, start_of, refusal_of, refusal_of_deploy}
 use Rattle.script_types.specs.ProgramOf.{IsChecked}
@@ -21,16 +27,18 @@ use Rattle.slee_run.specs.declared.reading.Deployed.{Deployed}
 use Rattle.slee_run.specs.declared.reading.Inputs.{Inputs}
 use Rattle.signal_script.specs.Signals.{signals_of}
 use Rattle.slee_run.specs.Status.{status_line}
-use Rattle.slee_run.specs.Text.{IsReported, IsTextOf, lines_text, shown_text}
-use Rattle.slee_run.specs.Opening.{IsBeforeOpening}
+use Rattle.slee_run.specs.Text.{IsReported, IsTextOf, lines_text, task_text}
+use Rattle.slee_run.specs.Opening.{IsBeforeOpening, journal_limit}
 use Rattle.slee_run.specs.Checking.{IsBarred, IsCheck, IsGenerated}
-use Rattle.slee_run.specs.Headline.{command_for, lines_of_run, trial_steps, IsLater, IsBefore, IsHistory, IsRefusedAs, IsTrialOrNone, EndsOn, ComesOn, IsByOne, IsByOneFrom, IsShownAt, IsWritten}
-use Rattle.slee_run.specs.Stops.{KeepsJournal}
+use Rattle.slee_run.specs.Headline.{command_for, command_of_task, lines_of_run, trial_steps, IsBareText, IsLater, IsBefore, IsHistory, IsRefusedAs, IsTendedAt, IsTrialOrNone, EndsOn, ComesOn, IsByOne, IsByOneFrom, IsWritten}
+use Rattle.slee_run.specs.Stops.{DoneOn, KeepsJournal, MeetsJournal}
 use Rattle.slee_run.specs.declared.finishing.Report.{Report}
 use Rattle.slee_run.specs.declared.finishing.Report.TheVariants as reports
 use Rattle.slee_run.specs.declared.status.Given.{Given}
 use Rattle.slee_run.specs.declared.command.Command.{Command}
 use Rattle.slee_run.specs.declared.command.Command.TheVariants as commands
+use Rattle.slee_run.specs.declared.tending.Task.{Task}
+use Rattle.slee_run.specs.declared.tending.Task.TheVariants as tasks
 use Rattle.slee_run.specs.declared.top.Form.{Form}
 use Rattle.slee_run.specs.declared.top.Form.TheVariants as forms
 use Rattle.slee_run.specs.declared.status.Status.{Status}
@@ -39,6 +47,8 @@ use Rattle.slee_run.specs.declared.status.Status.TheVariants as statuses
 -- what a run came to: its history, the status that it came to and the one that stood before writing failed, and its text
 pub record Outcome : Type 0 where
   pub base : State
+  -- of the side that compacting wrote
+  pub generation : ℕ
   pub history : List Entry
   pub acked : List Entry
   pub ended : Status
@@ -52,7 +62,9 @@ pub record IsPlayedBy (x : Document) (report : Report) (before after : Option (L
   pub same : r.stood ≢ statuses.NoMemory → r.stood ≡ r.ended
   pub unwritten : r.stood ≢ statuses.WriteFault
   pub prints : IsTextOf report r.history r.acked r.ended r.stood r.text
-  pub journal : KeepsJournal x r.base r.history r.acked old new r.ended
+  pub met : MeetsJournal x r.base r.history old new r.ended
+  pub keeps : KeepsJournal x r.base r.history r.acked old new r.ended
+  pub bare : IsBareText old r.text r.ended
   pub output : IsWritten before after r.text r.stood status
 
 -- a history on lines, in so many entries at most, and the status that it came to
@@ -94,25 +106,29 @@ pub record IsFinished (report : Report) (acked : List Entry) (ended : Status) (b
   pub reported : IsReported report acked ended stood text
   pub output : IsWritten before after text stood status
 
--- the state of a document that was shown
-pub record IsShownOf (x : Document) (before after : Option (List ℕ)) (old new : DiskState) (status : Status) : Type 0 where
+-- a task that was done with the journal of a document
+pub record IsTaskOf (task : Task) (x : Document) (before after : Option (List ℕ)) (old new : DiskState) (status : Status) : Type 0 where
   pub base : State
+  pub generation : ℕ
   pub stood : Status
-  pub comes : IsShownAt stood
+  pub comes : IsTendedAt stood
   pub late : IsBeforeOpening stood → ⊥
-  pub journal : KeepsJournal x base [] [] old new stood
-  pub output : IsWritten before after (shown_text base stood) stood status
+  pub met : MeetsJournal x base [] old new stood
+  pub done : DoneOn task x base generation old new stood
+  pub output : IsWritten before after (task_text task base generation stood) stood status
 
--- a state that was shown
-pub record IsShownBy (deploy before after : Option (List ℕ)) (old new : DiskState) (status : Status) : Type 0 where
+-- a task that was done for what a source told
+pub record IsTaskBy (task : Task) (deploy before after : Option (List ℕ)) (old new : DiskState) (status : Status) : Type 0 where
   pub document : Document
   pub base : State
+  pub generation : ℕ
   pub stood : Status
   pub given : IsDocument deploy document ⊎ IsBefore [] old new stood
-  pub comes : IsShownAt stood
+  pub comes : IsTendedAt stood
   pub barred : IfSome deploy (λ bytes. IsBarred bytes stood)
-  pub journal : KeepsJournal document base [] [] old new stood
-  pub output : IsWritten before after (shown_text base stood) stood status
+  pub met : MeetsJournal document base [] old new stood
+  pub done : DoneOn task document base generation old new stood
+  pub output : IsWritten before after (task_text task base generation stood) stood status
 
 -- lines were written, or memory ran out
 pub record IsLinesOut (lines : List Signal) (before after : Option (List ℕ)) (status : Status) : Type 0 where
@@ -140,9 +156,34 @@ abbrev pub status_of : OpenFault → Status
 status_of faults.DiskFault = statuses.DiskFault
 status_of (faults.BadJournal side at kind) = statuses.BadJournal side at kind
 status_of (faults.OtherDeployment kept_len place) = statuses.OtherDeployment kept_len place
-status_of faults.FirstFormat = statuses.FirstFormat
 status_of (faults.Full size adding) = statuses.Full size adding
 status_of faults.NoMemory = statuses.NoMemory
+
+-- the journal of a document wasn't opened, for the fault that has this status
+pub record IsUnopenedAs (x : Document) (old new : DiskState) (status : Status) : Type 0 where
+  pub fault : OpenFault
+  pub is : status ≡ status_of fault
+  pub refused : IsRefused old new x.start x.bytes journal_limit fault
+
+-- the limits of a run of so many entries at most
+abbrev pub limits_of : ℕ → Limits
+limits_of steps = record { journal = journal_limit; steps = steps }
+
+-- the status of a side that isn't written anew
+abbrev pub status_of_renewal : BeginFault → Status
+status_of_renewal renewals.DiskFault = statuses.DiskFault
+status_of_renewal (renewals.Full size adding) = statuses.Full size adding
+status_of_renewal renewals.NoMemory = statuses.NoMemory
+
+-- the status of compacting
+abbrev pub status_of_compacting : Result ℕ BeginFault → Status
+status_of_compacting (Ok generation) = statuses.Ok
+status_of_compacting (Err fault) = status_of_renewal fault
+
+-- the generation that compacting gave
+abbrev pub generation_of : Result ℕ BeginFault → ℕ
+generation_of (Ok generation) = generation
+generation_of (Err fault) = 0
 
 -- the status of a source that couldn't be read whole
 abbrev pub status_of_reading : ReadFault → Given → Status
@@ -203,17 +244,29 @@ abbrev pub status_of_lines : SignalFault → Status
 status_of_lines (line_faults.At line kind) = statuses.BadSignals line kind
 status_of_lines line_faults.NoMemory = statuses.NoMemory
 
--- what was shown of a state, or memory ran out
-pub record IsShownAs (state : State) (before after : Option (List ℕ)) (status : Status) : Type 0 where
+-- what was shown of a container's state, or memory ran out
+pub record ShowsState {D : Type 0} (old new : View D) (before after : Option (List ℕ)) (status : Status) : Type 0 where
   pub stood : Status
   pub which : (stood ≡ statuses.Ok) ⊎ (stood ≡ statuses.NoMemory)
-  pub output : IsWritten before after (shown_text state stood) stood status
+  pub same : new ≡ old
+  pub output : IsWritten before after (task_text tasks.Show (state_in old) 0 stood) stood status
+
+-- a container that was compacted, or that couldn't be
+pub record CompactsState {D : Type 0} (disk_of : D → DiskState) (old new : View D) (before after : Option (List ℕ)) (status : Status) : Type 0 where
+  pub outcome : Result ℕ BeginFault
+  pub compacts : Compacts (disk_of old.disk) (disk_of new.disk) old outcome new
+  pub output : IsWritten before after (task_text tasks.Compact (state_in old) (generation_of outcome) (status_of_compacting outcome)) (status_of_compacting outcome) status
+
+-- what a task does with a container
+abbrev pub DoesTask : {D : Type 0} → (D → DiskState) → Task → View D → View D → Option (List ℕ) → Option (List ℕ) → Status → Type 0
+DoesTask disk_of tasks.Show old new before after status = ShowsState old new before after status
+DoesTask disk_of tasks.Compact old new before after status = CompactsState disk_of old new before after status
 
 -- what a command asks of this program
 abbrev pub IsFormOf : Command → Form → Type 0
 IsFormOf command forms.Check = command ≡ commands.Check
 IsFormOf command (forms.Play run) = (command ≡ command_for run.mode run.steps) × (run.report ≡ reports.Trace)
-IsFormOf command forms.Show = command ≡ commands.Show
+IsFormOf command (forms.Tend task) = command ≡ command_of_task task
 IsFormOf command (forms.Gen seeded) = command ≡ commands.Gen seeded.seed seeded.count
 IsFormOf command (forms.Trial seeded) = command ≡ commands.Trial seeded.seed seeded.count
 IsFormOf command forms.Later = IsLater command

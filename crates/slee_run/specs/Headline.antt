@@ -26,14 +26,16 @@ use Rattle.router_durable.specs.Choices.{written_format}
 use Rattle.router_durable.specs.Opening.{IsLeftAlone}
 use Rattle.slee_run.specs.Words.{command_of}
 use Rattle.slee_run.specs.Status.{row_of, status_line, Holds}
-use Rattle.slee_run.specs.Text.{IsTextOf, shown_text}
+use Rattle.slee_run.specs.Text.{IsTextOf, task_text}
 use Rattle.slee_run.specs.Given.{Document, IsDeployment, IsDocument, refusal_of, refusal_of_deploy, lines_in}
 use Rattle.slee_run.specs.Checking.{IsCheck, IsAnswerFor, IsBarred, IsGenerated}
 use Rattle.slee_run.specs.declared.finishing.Report.TheVariants as reports
 use Rattle.slee_run.specs.Opening.{journal_limit, found, IsGood, IsEarly}
-use Rattle.slee_run.specs.Stops.{KeepsJournal}
+use Rattle.slee_run.specs.Stops.{DoneOn, KeepsJournal, MeetsJournal}
 use Rattle.slee_run.specs.declared.command.Command.{Command}
 use Rattle.slee_run.specs.declared.command.Command.TheVariants as commands
+use Rattle.slee_run.specs.declared.tending.Task.{Task}
+use Rattle.slee_run.specs.declared.tending.Task.TheVariants as tasks
 use Rattle.slee_run.specs.declared.status.Status.{Status}
 use Rattle.slee_run.specs.declared.status.Status.TheVariants as statuses
 
@@ -46,9 +48,14 @@ command_for modes.SkipTaken steps = commands.Resume 1 steps
 abbrev pub Plays : List (List ℕ) → Mode → ℕ → Type 0
 Plays words mode steps = command_of words ≡ Some (command_for mode steps)
 
--- the words ask to show the state that the journal has
-abbrev pub Shows : List (List ℕ) → Type 0
-Shows words = command_of words ≡ Some commands.Show
+-- the command that asks for a task
+abbrev pub command_of_task : Task → Command
+command_of_task tasks.Show = commands.Show
+command_of_task tasks.Compact = commands.Compact
+
+-- the words ask for a task with the journal: to show the state that it has, or to compact it
+abbrev pub Tends : List (List ℕ) → Task → Type 0
+Tends words task = command_of words ≡ Some (command_of_task task)
 
 -- the words ask to check the deployment
 abbrev pub Checks : List (List ℕ) → Type 0
@@ -62,13 +69,13 @@ Generates words seed count = command_of words ≡ Some (commands.Gen seed count)
 abbrev pub Tries : List (List ℕ) → ℕ → ℕ → Type 0
 Tries words seed count = command_of words ≡ Some (commands.Trial seed count)
 
--- the command isn't built yet: several workers, and snapshots
+-- the command isn't built yet: several workers
 abbrev pub IsLater : Command → Type 0
 IsLater commands.Check = ⊥
 IsLater (commands.Play workers steps) = workers ≢ 1
 IsLater (commands.Resume workers steps) = workers ≢ 1
 IsLater commands.Show = ⊥
-IsLater commands.Compact = Unit {0}
+IsLater commands.Compact = ⊥
 IsLater (commands.Gen seed count) = ⊥
 IsLater (commands.Trial seed count) = ⊥
 
@@ -84,7 +91,7 @@ IsOpening commands.Check = ⊥
 IsOpening (commands.Play workers steps) = workers ≡ 1
 IsOpening (commands.Resume workers steps) = workers ≡ 1
 IsOpening commands.Show = Unit {0}
-IsOpening commands.Compact = ⊥
+IsOpening commands.Compact = Unit {0}
 IsOpening (commands.Gen seed count) = ⊥
 IsOpening (commands.Trial seed count) = Unit {0}
 
@@ -146,6 +153,12 @@ pub record IsFullOn (limit : ℕ) (base : State) (steps : ℕ) (lines : List Sig
   pub adds : adding ≡ RECORD_FRAME + length (payload written_format (replay base history) choice)
   pub above : limit < size + adding
 
+-- No entry is made, since a side that opening would write anew would be longer than the limit.
+pub record HasNoSide (limit : ℕ) (history : List Entry) (size adding : ℕ) : Type 0 where
+  pub none : history ≡ []
+  pub empty : size ≡ 0
+  pub above : limit < adding
+
 -- When a run on these lines, in so many entries at most, comes to a status, and what its history is then.
 abbrev pub EndsOn : State → ℕ → List Signal → List Entry → Status → Type 0
 EndsOn base steps lines history statuses.Ok = IsDoneOn base lines history
@@ -155,14 +168,13 @@ EndsOn base steps lines history statuses.WriteFault = ⊥
 EndsOn base steps lines history statuses.DiskFault = IsPrefix (inputs_of history) lines
 EndsOn base steps lines history (statuses.BadJournal side at kind) = history ≡ []
 EndsOn base steps lines history (statuses.OtherDeployment kept_len place) = history ≡ []
-EndsOn base steps lines history (statuses.Full size adding) = IsFullOn journal_limit base steps lines history size adding
+EndsOn base steps lines history (statuses.Full size adding) = IsFullOn journal_limit base steps lines history size adding ⊎ HasNoSide journal_limit history size adding
 EndsOn base steps lines history (statuses.StepsSpent entries) = (entries ≡ length history) × IsSpentOn base steps lines history
 EndsOn base steps lines history statuses.NoMemory = IsPrefix (inputs_of history) lines
 EndsOn base steps lines history (statuses.BadDeploy fault) = ⊥
 EndsOn base steps lines history (statuses.BadSignals line kind) = ⊥
 EndsOn base steps lines history (statuses.TooLarge what) = ⊥
 EndsOn base steps lines history statuses.NotBuilt = ⊥
-EndsOn base steps lines history statuses.FirstFormat = history ≡ []
 
 -- the bytes weren't read, or memory ran out before they were understood
 abbrev pub IsUnread : Status → Type 0
@@ -178,9 +190,9 @@ ComesOn base mode steps deploy signals history status =
     MatchOption (refusal_of deploy signals) (EndsOn base steps (lines_of_run mode base (lines_in signals)) history status)
     (λ refusal. (history ≡ []) × IsRefusedAs refusal status)
 
--- when showing comes to a status
-abbrev pub IsShownAt : Status → Type 0
-IsShownAt status = Holds (row_of status).shown
+-- when a task comes to a status
+abbrev pub IsTendedAt : Status → Type 0
+IsTendedAt status = Holds (row_of status).tended
 
 -- the record of the first of these entries adds so many bytes
 abbrev pub AddsFirst : State → ℕ → List Entry → Type 0
@@ -188,13 +200,13 @@ AddsFirst s adding [] = ⊥
 AddsFirst s adding (e ∷ more) = adding ≡ RECORD_FRAME + length (payload written_format s e.choice)
 
 -- With one worker a history is a front of that worker's run. It is all of it where the run is done or spent, and a record that
--- has no room is that of the next entry.
+-- has no room on a side that stands is that of the next entry.
 pub record IsByOne (base : State) (steps : ℕ) (lines : List Signal) (history : List Entry) (status : Status) : Type 0 where
   pub rest : List Entry
   pub front : history ++ rest ≡ solo steps base lines
   pub done : status ≡ statuses.Ok → rest ≡ []
   pub spent : (entries : ℕ) → status ≡ statuses.StepsSpent entries → rest ≡ []
-  pub full : (size adding : ℕ) → status ≡ statuses.Full size adding → AddsFirst (replay base history) adding rest
+  pub full : (size adding : ℕ) → size ≢ 0 → status ≡ statuses.Full size adding → AddsFirst (replay base history) adding rest
 
 -- the same of the bytes of a deployment and of signals, if they give lines
 abbrev pub IsByOneOn : State → Mode → ℕ → List ℕ → List ℕ → List Entry → Status → Type 0
@@ -244,21 +256,21 @@ pub record IsTrial (base : State) (seed count : ℕ) (deploy : Option (List ℕ)
   pub words : ended ≢ statuses.BadWords
   pub prints : IsTextOf reports.Summary history acked ended stood text
 
--- what is shown
-pub record IsShow (base : State) (deploy : Option (List ℕ)) (history : List Entry) (text : List ℕ) (status : Status) : Type 0 where
-  pub comes : IsShownAt status
+-- a task, and the text of it: what is shown, or the generation that compacting gave
+pub record IsTask (task : Task) (base : State) (generation : ℕ) (deploy : Option (List ℕ)) (history : List Entry) (text : List ℕ) (status : Status) : Type 0 where
+  pub comes : IsTendedAt status
   pub none : history ≡ []
   pub barred : IfSome deploy (λ bytes. IsBarred bytes status)
-  pub prints : text ≡ shown_text base status
+  pub prints : text ≡ task_text task base generation status
 
 -- What is said of a run with these words, where the sources of the deployment and of the signals told that these bytes were left.
 -- It came to the status `ended`; `stood` is the status before its text was written.
-pub record IsRun (base : State) (words : List (List ℕ)) (deploy signals : Option (List ℕ)) (history acked : List Entry) (ended stood : Status) (text : List ℕ) : Type 0 where
+pub record IsRun (base : State) (generation : ℕ) (words : List (List ℕ)) (deploy signals : Option (List ℕ)) (history acked : List Entry) (ended stood : Status) (text : List ℕ) : Type 0 where
   pub legal : IsHistory base history acked ended
   pub bad : command_of words ≡ None → IsRefusal history text statuses.BadWords ended
   pub later : AsksLater words → IsRefusal history text statuses.NotBuilt ended
   pub plays : (mode : Mode) (steps : ℕ) → Plays words mode steps → IsPlay base mode steps deploy signals history acked ended stood text
-  pub shows : Shows words → IsShow base deploy history text ended
+  pub tends : (task : Task) → Tends words task → IsTask task base generation deploy history text ended
   pub checks : Checks words → IsCheck deploy history text ended
   pub generates : (seed count : ℕ) → Generates words seed count → IsGenerated seed count deploy history text ended
   pub tries : (seed count : ℕ) → Tries words seed count → IsTrial base seed count deploy history acked ended stood text
@@ -279,20 +291,34 @@ pub record IsBefore (history : List Entry) (old new : DiskState) (status : Statu
   pub early : IsEarly status
   pub same : IsLeftAlone old new
 
+-- What is said of the journal and of its disk, by what the words ask.
+pub record LeavesJournal (words : List (List ℕ)) (x : Document) (base : State) (generation : ℕ) (history acked : List Entry) (old new : DiskState) (status : Status) : Type 0 where
+  pub met : Opens words → MeetsJournal x base history old new status
+  -- a run goes on behind the records
+  pub keeps : Opens words → ((task : Task) → Tends words task → ⊥) → KeepsJournal x base history acked old new status
+  pub done : (task : Task) → Tends words task → DoneOn task x base generation old new status
+
+-- where no side could be written anew, nothing but the status is told
+abbrev pub IsBareText : DiskState → List ℕ → Status → Type 0
+IsBareText old text status = IsTrue old.told → (adding : ℕ) → status ≡ statuses.Full 0 adding → text ≡ status_line status
+
 -- One history is legal, follows the signals that were read, and its acknowledged part is what was written and what the
 -- journal has; the status has its cause. `ended` is the status that the run came to, and `stood` that before writing failed, if it did.
 pub record IsLegalRun (words : List (List ℕ)) (deploy signals before after : Option (List ℕ)) (old new : DiskState) (status : Status) : Type 0 where
   pub document : Document
   pub base : State
+  -- of the side that compacting wrote
+  pub generation : ℕ
   pub history : List Entry
   pub acked : List Entry
   pub text : List ℕ
   pub ended : Status
   pub stood : Status
-  pub run : IsRun base words deploy signals history acked ended stood text
+  pub run : IsRun base generation words deploy signals history acked ended stood text
   -- the document is the one that was given, unless nothing was opened
   pub given : Opens words → IsDocument deploy document ⊎ IsBefore history old new ended
-  pub journal : Opens words → KeepsJournal document base history acked old new ended
+  pub journal : LeavesJournal words document base generation history acked old new ended
+  pub bare : Opens words → IsBareText old text ended
   pub output : IsWritten before after text stood status
 
 -- With words that play, bytes of a deployment and of lines of the grammar within the limits, and bytes on the disk that stand for a
@@ -308,12 +334,12 @@ IsCompleteTrial words deploy disk Faulted status =
     (seed count : ℕ) → Tries words seed count → IsTrue disk.told → (x : Document) → IsDocument deploy x → IsOk (found x disk)
     → IfSome deploy (λ bytes. refusal_of_deploy bytes ≡ None → (Faulted → ⊥) → IsGood status)
 
--- With words that show, bytes of a deployment, and bytes on the disk that stand for a state, a run without a fault shows it, or
--- memory ran out.
-abbrev pub IsShown : List (List ℕ) → Option (List ℕ) → DiskState → Type 0 → Status → Type 0
-IsShown words deploy disk Faulted status =
-    Shows words → IsTrue disk.told → (x : Document) → IsDocument deploy x → IsOk (found x disk)
-    → IfSome deploy (λ bytes. refusal_of_deploy bytes ≡ None → (Faulted → ⊥) → (status ≡ statuses.Ok) ⊎ (status ≡ statuses.NoMemory))
+-- With words that ask for a task, bytes of a deployment, and bytes on the disk that stand for a state, a run without a fault does it, or
+-- a side that is written anew has no room, or memory ran out.
+abbrev pub IsCompleteTask : List (List ℕ) → Option (List ℕ) → DiskState → Type 0 → Status → Type 0
+IsCompleteTask words deploy disk Faulted status =
+    (task : Task) → Tends words task → IsTrue disk.told → (x : Document) → IsDocument deploy x → IsOk (found x disk)
+    → IfSome deploy (λ bytes. refusal_of_deploy bytes ≡ None → (Faulted → ⊥) → IsGood status × IsTendedAt status)
 
 -- the words ask to check the deployment, or for lines by a seed
 abbrev pub IsOfDeployment : List (List ℕ) → Type 0

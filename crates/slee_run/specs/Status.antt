@@ -4,10 +4,9 @@ use Rattle.slee_disk.specs.declared.side.Side.{Side}
 use Rattle.slee_disk.specs.Sides.{side_word}
 use Rattle.commit_journal.specs.declared.fault.JournalBad.{JournalBad}
 use Rattle.commit_journal.specs.Words.{kind_word}
-use Rattle.commit_journal.specs.Reading.{Bad, Other}
+use Rattle.commit_journal.specs.Reading.{Wrong, Bad, Other}
 use Rattle.signal_script.specs.Words.{bad_word}
 use Rattle.deploy_report.specs.Texts.{fault_text}
-use Rattle.router_durable.specs.Recovery.{Unfit, Broken, FirstFormat}
 use Rattle.slee_run.specs.declared.status.Given.{Given}
 use Rattle.slee_run.specs.declared.status.Given.TheVariants as givens
 use Rattle.slee_run.specs.declared.status.Status.{Status}
@@ -35,9 +34,11 @@ pub data Time : Type 0 where
   -- before the journal is opened
   Early : Time
   -- when it is opened, since for this its bytes stand for no state
-  Refusing : Unfit → Time
+  Refusing : Wrong → Time
   -- when the run has come to its end
   Ending : Time
+  -- when no side can be written anew, or no more records have room
+  Filled : Time
   -- once the disk, memory or writing failed
   DiskFailed : Time
   WantOfMemory : Time
@@ -55,8 +56,8 @@ pub record Row : Type 0 where
   -- the last line of the text; none is promised for a write fault
   pub line : List ℕ
   pub time : Time
-  -- showing may come to it
-  pub shown : Bool
+  -- a task with the journal, which is showing or compacting it, may come to it
+  pub tended : Bool
   -- checking a deployment, or generating lines for it, may come to it
   pub checked : Bool
   -- it doesn't follow from the words, the lines and the journal
@@ -64,21 +65,20 @@ pub record Row : Type 0 where
 
 -- the table
 abbrev pub row_of : Status → Row
-row_of statuses.Ok = record { code = 0; line = codes "status 0 ok\n"; time = Ending; shown = true; checked = true; faulty = false }
-row_of statuses.BadWords = record { code = 2; line = codes "status 2 bad-words\n"; time = Early; shown = false; checked = false; faulty = false }
-row_of statuses.ReadFault = record { code = 3; line = codes "status 3 read-fault\n"; time = Early; shown = true; checked = true; faulty = true }
-row_of (statuses.BadDeploy fault) = record { code = 4; line = codes "status 4 bad-deploy " ++ (fault_text fault ++ codes "\n"); time = Early; shown = true; checked = true; faulty = false }
-row_of (statuses.BadSignals number kind) = record { code = 5; line = codes "status 5 bad-signals " ++ (decimal number ++ (codes " " ++ (bad_word kind ++ codes "\n"))); time = Early; shown = false; checked = false; faulty = false }
-row_of statuses.WriteFault = record { code = 6; line = []; time = WritingFailed; shown = false; checked = false; faulty = false }
-row_of statuses.DiskFault = record { code = 7; line = codes "status 7 disk-fault\n"; time = DiskFailed; shown = true; checked = false; faulty = true }
-row_of (statuses.BadJournal side at kind) = record { code = 8; line = codes "status 8 bad-journal " ++ place_text side at kind; time = Refusing (Broken (Bad side at kind)); shown = true; checked = false; faulty = false }
-row_of (statuses.OtherDeployment kept_len place) = record { code = 9; line = codes "status 9 other-deployment " ++ pair_text kept_len place; time = Refusing (Broken (Other kept_len place)); shown = true; checked = false; faulty = false }
-row_of (statuses.Full size adding) = record { code = 10; line = codes "status 10 full " ++ pair_text size adding; time = Ending; shown = false; checked = false; faulty = false }
-row_of (statuses.StepsSpent entries) = record { code = 11; line = codes "status 11 steps-spent " ++ (decimal entries ++ codes "\n"); time = Ending; shown = false; checked = false; faulty = false }
-row_of statuses.NoMemory = record { code = 12; line = codes "status 12 no-memory\n"; time = WantOfMemory; shown = true; checked = true; faulty = true }
-row_of (statuses.TooLarge what) = record { code = 13; line = codes "status 13 too-large " ++ (given_word what ++ codes "\n"); time = Early; shown = is_deploy what; checked = is_deploy what; faulty = false }
-row_of statuses.NotBuilt = record { code = 14; line = codes "status 14 not-built\n"; time = Early; shown = false; checked = false; faulty = false }
-row_of statuses.FirstFormat = record { code = 14; line = codes "status 14 not-built\n"; time = Refusing FirstFormat; shown = true; checked = false; faulty = false }
+row_of statuses.Ok = record { code = 0; line = codes "status 0 ok\n"; time = Ending; tended = true; checked = true; faulty = false }
+row_of statuses.BadWords = record { code = 2; line = codes "status 2 bad-words\n"; time = Early; tended = false; checked = false; faulty = false }
+row_of statuses.ReadFault = record { code = 3; line = codes "status 3 read-fault\n"; time = Early; tended = true; checked = true; faulty = true }
+row_of (statuses.BadDeploy fault) = record { code = 4; line = codes "status 4 bad-deploy " ++ (fault_text fault ++ codes "\n"); time = Early; tended = true; checked = true; faulty = false }
+row_of (statuses.BadSignals number kind) = record { code = 5; line = codes "status 5 bad-signals " ++ (decimal number ++ (codes " " ++ (bad_word kind ++ codes "\n"))); time = Early; tended = false; checked = false; faulty = false }
+row_of statuses.WriteFault = record { code = 6; line = []; time = WritingFailed; tended = false; checked = false; faulty = false }
+row_of statuses.DiskFault = record { code = 7; line = codes "status 7 disk-fault\n"; time = DiskFailed; tended = true; checked = false; faulty = true }
+row_of (statuses.BadJournal side at kind) = record { code = 8; line = codes "status 8 bad-journal " ++ place_text side at kind; time = Refusing (Bad side at kind); tended = true; checked = false; faulty = false }
+row_of (statuses.OtherDeployment kept_len place) = record { code = 9; line = codes "status 9 other-deployment " ++ pair_text kept_len place; time = Refusing (Other kept_len place); tended = true; checked = false; faulty = false }
+row_of (statuses.Full size adding) = record { code = 10; line = codes "status 10 full " ++ pair_text size adding; time = Filled; tended = true; checked = false; faulty = false }
+row_of (statuses.StepsSpent entries) = record { code = 11; line = codes "status 11 steps-spent " ++ (decimal entries ++ codes "\n"); time = Ending; tended = false; checked = false; faulty = false }
+row_of statuses.NoMemory = record { code = 12; line = codes "status 12 no-memory\n"; time = WantOfMemory; tended = true; checked = true; faulty = true }
+row_of (statuses.TooLarge what) = record { code = 13; line = codes "status 13 too-large " ++ (given_word what ++ codes "\n"); time = Early; tended = is_deploy what; checked = is_deploy what; faulty = false }
+row_of statuses.NotBuilt = record { code = 14; line = codes "status 14 not-built\n"; time = Early; tended = false; checked = false; faulty = false }
 
 abbrev pub code_of : Status → ℕ
 code_of status = (row_of status).code

@@ -1,5 +1,5 @@
 -- The whole text of a run.
-use Rattle.std.specs.Prelude.{◌≡◌, ◌⊎◌, ℕ, List, [], ◌++◌, map}
+use Rattle.std.specs.Prelude.{◌≡◌, ◌⊎◌, ℕ, List, [], ◌++◌, map, codes}
 use Rattle.deploy_model.specs.Deployed.{Deployed}
 use Rattle.trace_history.specs.Lines.{line_texts}
 use Rattle.trace_history.specs.Trace.{trace_text}
@@ -12,10 +12,12 @@ use Rattle.signal_script.specs.declared.signal.Signal.{Signal}
 use Rattle.usage_totals.specs.Totals.{total_lines}
 use Rattle.deploy_report.specs.Texts.{counts_text}
 use Rattle.deploy_report.specs.declared.counts.Counts.{Counts}
-use Rattle.slee_run.specs.Status.{row_of, status_line, Time, Early, Refusing, Ending, DiskFailed, WantOfMemory, WritingFailed}
-use Rattle.slee_run.specs.Summary.{summary_text}
+use Rattle.slee_run.specs.Status.{row_of, status_line, Time, Early, Refusing, Ending, Filled, DiskFailed, WantOfMemory, WritingFailed}
+use Rattle.slee_run.specs.Summary.{count_line, summary_text}
 use Rattle.slee_run.specs.declared.finishing.Report.{Report}
 use Rattle.slee_run.specs.declared.finishing.Report.TheVariants as reports
+use Rattle.slee_run.specs.declared.tending.Task.{Task}
+use Rattle.slee_run.specs.declared.tending.Task.TheVariants as tasks
 use Rattle.slee_run.specs.declared.status.Status.{Status}
 use Rattle.slee_run.specs.declared.status.Status.TheVariants as statuses
 
@@ -40,8 +42,9 @@ short_text reports.Summary history = status_line statuses.NoMemory
 -- the steps were reached
 abbrev pub IsReachedTime : Time → Type 0
 IsReachedTime Early = ⊥
-IsReachedTime (Refusing unfit) = ⊥
+IsReachedTime (Refusing wrong) = ⊥
 IsReachedTime Ending = Unit {0}
+IsReachedTime Filled = Unit {0}
 IsReachedTime DiskFailed = Unit {0}
 IsReachedTime WantOfMemory = Unit {0}
 IsReachedTime WritingFailed = ⊥
@@ -49,8 +52,9 @@ IsReachedTime WritingFailed = ⊥
 -- the steps came to no end
 abbrev pub IsUnendedTime : Time → Type 0
 IsUnendedTime Early = Unit {0}
-IsUnendedTime (Refusing unfit) = Unit {0}
+IsUnendedTime (Refusing wrong) = Unit {0}
 IsUnendedTime Ending = ⊥
+IsUnendedTime Filled = Unit {0}
 IsUnendedTime DiskFailed = Unit {0}
 IsUnendedTime WantOfMemory = Unit {0}
 IsUnendedTime WritingFailed = ⊥
@@ -60,10 +64,12 @@ pub record IsReported (report : Report) (acked : List Entry) (ended stood : Stat
   pub reached : IsReachedTime (row_of ended).time
   pub prints : ((stood ≡ ended) × (text ≡ output_text report acked ended)) ⊎ ((stood ≡ statuses.NoMemory) × (text ≡ short_text report acked))
 
--- The status line alone is written, where no entry was made and the steps came to no end.
+-- The status line alone is written, where no entry was made and the steps came to no end: of a side that would be written anew, nothing
+-- stands.
 pub record IsAlone (history : List Entry) (ended stood : Status) (text : List ℕ) : Type 0 where
   pub none : history ≡ []
   pub unended : IsUnendedTime (row_of ended).time
+  pub anew : (size adding : ℕ) → ended ≡ statuses.Full size adding → size ≡ 0
   pub same : stood ≡ ended
   pub alone : text ≡ status_line ended
 
@@ -71,10 +77,19 @@ pub record IsAlone (history : List Entry) (ended stood : Status) (text : List �
 abbrev pub IsTextOf : Report → List Entry → List Entry → Status → Status → List ℕ → Type 0
 IsTextOf report history acked ended stood text = IsReported report acked ended stood text ⊎ IsAlone history ended stood text
 
--- what is shown of a state, and the status line; the line alone at every status but Ok
-abbrev pub shown_text : State → Status → List ℕ
-shown_text state statuses.Ok = show_text state ++ status_line statuses.Ok
-shown_text state status = status_line status
+-- the generation of a side, on a line
+abbrev pub generation_line : ℕ → List ℕ
+generation_line generation = count_line (codes "generation ") generation
+
+-- what is written of a task: what is shown of the state, or the generation of the side that compacting wrote
+abbrev pub done_text : Task → State → ℕ → List ℕ
+done_text tasks.Show state generation = show_text state
+done_text tasks.Compact state generation = generation_line generation
+
+-- the same, and the status line; the line alone at every status but Ok
+abbrev pub task_text : Task → State → ℕ → Status → List ℕ
+task_text task state generation statuses.Ok = done_text task state generation ++ status_line statuses.Ok
+task_text task state generation status = status_line status
 
 -- the counts of a deployment, and the status line
 abbrev pub checked_text : Counts → List ℕ

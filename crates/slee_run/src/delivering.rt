@@ -27,7 +27,7 @@ fn attempt_at<'d, D: Disk>(
     requires ticket { IsTicketFor container.now ticket.now.activity ticket.now }
     requires next { next (state_of container.now) ticket.now.activity.0 ≡ Some kinds.Deliver }
     ensures of { IfOk result (λ attempt. IsAttemptOf ticket.now attempt) }
-    ensures done { IfOk result (λ attempt. IsDone container.now.setup.origin.start.program attempt) }
+    ensures done { IfOk result (λ attempt. IsDone container.now.setup.origin.initial.program attempt) }
     ensures seen { IfOk result (λ attempt. conflict (look (state_of container.now)) attempt.known ≡ None) }
 {
     let mut attempt = Attempt::new(alloc, ticket)?;
@@ -46,7 +46,7 @@ fn try_whole<'d, D: Disk>(
     requires ticket { IsTicketFor container.now ticket.now.activity ticket.now }
     requires next { next (state_of container.now) ticket.now.activity.0 ≡ Some kinds.Deliver }
     requires new { IsNew ticket.now attempt.old }
-    ensures { OnOk result (IsTriedWhole container.now.setup.origin.start.program (state_of container.now) ticket.now attempt.new) }
+    ensures { OnOk result (IsTriedWhole container.now.setup.origin.initial.program (state_of container.now) ticket.now attempt.new) }
 {
     let deployment = container.deployment();
     'asking: loop {
@@ -69,7 +69,7 @@ fn commit<'d, D: Disk>(
     requires live { container.old.stop ≡ None }
     requires claims { container.old.claims ≡ ticket.now ∷ [] }
     requires attempt { IsAttemptOf ticket.now attempt.now }
-    requires done { IsDone container.old.setup.origin.start.program attempt.now }
+    requires done { IsDone container.old.setup.origin.initial.program attempt.now }
     requires seen { conflict (look (state_of container.old)) attempt.now.known ≡ None }
     ensures setup { container.new.setup ≡ container.old.setup }
     ensures moves { Moves container.old (choices.Deliver ticket.now.activity) result container.new }

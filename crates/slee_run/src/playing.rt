@@ -58,7 +58,7 @@ pub fn play<'d, D: Disk>(
 }
 
 /// Makes sure of what isn't acknowledged yet, unless the disk has failed.
-fn close<'d, D: Disk>(container: &mut Container<'d, D>, end: End) -> End
+pub fn close<'d, D: Disk>(container: &mut Container<'d, D>, end: End) -> End
     requires stop { container.old.stop ≡ stop_of end }
     ensures closes { container.new ≡ record container.old { acked = container.new.acked; stop = container.new.stop; disk = container.new.disk } }
     ensures end { IsEndOf end result }
@@ -75,7 +75,7 @@ fn close<'d, D: Disk>(container: &mut Container<'d, D>, end: End) -> End
 }
 
 /// Does what is to be done next.
-fn advance<'d, D: Disk>(
+pub(crate) fn advance<'d, D: Disk>(
     alloc: Global,
     container: &mut Container<'d, D>,
     selectors: &Selectors,

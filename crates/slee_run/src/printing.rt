@@ -9,7 +9,7 @@ ghost use Rattle.trace_history.specs.Trace.{trace_text};
 ghost use Rattle.usage_totals.specs.Totals.{usage_totals};
 ghost use Rattle.slee_run.specs.Status.{status_line, given_word, pair_text, place_text};
 ghost use Rattle.slee_run.specs.Summary.{count_line, counted_text};
-ghost use Rattle.slee_run.specs.Text.{output_text, report_text, short_text, totals_text};
+ghost use Rattle.slee_run.specs.Text.{generation_line, output_text, report_text, short_text, totals_text};
 
 use crate::finishing::Report;
 use crate::summing::{Summary, summary_of};
@@ -110,6 +110,14 @@ pub fn write_checked<K: Sink>(out: &mut K, counts: Counts) -> Result<(), Failed>
     write_status(out, &Status::Ok)
 }
 
+/// Writes the generation of the side that compacting wrote, and that all is done.
+pub fn write_compacted<K: Sink>(out: &mut K, generation: u64) -> Result<(), Failed>
+    ensures { Writes K.contents K.faults out.old out.new (generation_line generation ++ status_line Status.Ok) result }
+{
+    write_count(out, b"generation ", generation)?;
+    write_status(out, &Status::Ok)
+}
+
 /// Writes the last line.
 pub fn write_status<K: Sink>(out: &mut K, status: &Status) -> Result<(), Failed>
     ensures { Writes K.contents K.faults out.old out.new (status_line status.now) result }
@@ -137,7 +145,6 @@ pub fn write_status<K: Sink>(out: &mut K, status: &Status) -> Result<(), Failed>
             what: Given::Signals,
         } => { write_whole(out, b"status 13 too-large signals\n") }
         Status::NotBuilt => write_whole(out, b"status 14 not-built\n"),
-        Status::FirstFormat => write_whole(out, b"status 14 not-built\n"),
     }
 }
 

@@ -7,17 +7,16 @@ ghost use Rattle.slee_disk.specs.Taken.{ConsumesSome};
 ghost use Rattle.slee_run.specs.Given.{IsDeployment, deploy_limit, signals_limit};
 ghost use Rattle.slee_run.specs.Opening.{IsBeforeOpening};
 ghost use Rattle.slee_run.specs.Playing.{status_after};
-ghost use Rattle.slee_run.specs.Answers.{IsPlayedFrom, IsPlayedOn, document_of, document_on, status_of};
+ghost use Rattle.slee_run.specs.Answers.{IsPlayedFrom, IsPlayedOn, document_of, document_on};
 
 use crate::finishing::{Report, finish, refuse};
+use crate::opening::open_journal;
 use crate::playing::{End, play};
 use crate::reading::{Inputs, read_inputs};
 use crate::{Given, Status};
-use commit_journal::SIDE_LIMIT;
 use initial_select::Selectors;
-use router_durable::OpenFault;
 use signal_script::Signals;
-use slee_container::{Container, Limits, Mode};
+use slee_container::Mode;
 use slee_descriptor::Deployment;
 use slee_disk::{Disk, Sink, Source};
 use std::alloc::Global;
@@ -102,15 +101,11 @@ fn play_document<'d, K: Sink, D: Disk>(
     ensures write { result.0 ≡ Status.WriteFault → Rose (K.faults out.old) (K.faults out.new) }
     ensures late { IsBeforeOpening result.0 → ⊥ }
 {
-    let limits = Limits {
-        journal: SIDE_LIMIT,
-        steps: run.steps,
-    };
-    let mut container = match Container::open(
-        alloc, disk, deployment, bytes, lines, run.mode, limits, selectors,
+    let mut container = match open_journal(
+        alloc, deployment, bytes, lines, disk, run.mode, run.steps, selectors,
     ) {
         Ok(container) => container,
-        Err((fault, disk)) => return (refuse(out, status_of(fault)), disk),
+        Err((stood, disk)) => return (refuse(out, stood), disk),
     };
     let end = play(alloc, &mut container, selectors);
     let stood = status_after(container.history().len(), end);
@@ -118,28 +113,8 @@ fn play_document<'d, K: Sink, D: Disk>(
     (status, container.into_disk())
 }
 
-/// The status of a fault of opening.
-pub fn status_of(fault: OpenFault) -> Status
-    ensures { result ≡ status_of fault }
-{
-    match fault {
-        OpenFault::DiskFault => Status::DiskFault,
-        OpenFault::BadJournal { side, at, kind } => Status::BadJournal { side, at, kind },
-        OpenFault::OtherDeployment {
-            kept_len,
-            first_difference,
-        } => Status::OtherDeployment {
-            kept_len,
-            first_difference,
-        },
-        OpenFault::FirstFormat => Status::FirstFormat,
-        OpenFault::Full { length, adding } => Status::Full { length, adding },
-        OpenFault::NoMemory => Status::NoMemory,
-    }
-}
-
 /// The status of an end, after so many entries.
-fn status_after(entries: u64, end: End) -> Status
+pub(crate) fn status_after(entries: u64, end: End) -> Status
     ensures { result ≡ status_after entries end }
 {
     match end {

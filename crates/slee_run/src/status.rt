@@ -57,10 +57,8 @@ pub enum Status {
     TooLarge {
         what: Given,
     },
-    /// The words ask what isn't built yet.
+    /// The words ask for several workers, which aren't built yet.
     NotBuilt,
-    /// Nothing is wrong with the journal, and it is of the first format: to go on from it isn't built yet.
-    FirstFormat,
 }
 
 impl Status {
@@ -86,7 +84,6 @@ impl Status {
             Status::NoMemory => 12,
             Status::TooLarge { .. } => 13,
             Status::NotBuilt => 14,
-            Status::FirstFormat => 14,
         }
     }
 }

@@ -6,7 +6,7 @@ ghost use Rattle.slee_disk.specs.Taken.{ConsumesSome};
 ghost use Rattle.slee_container.specs.declared.container.Mode.{Mode as Lines};
 ghost use Rattle.slee_run.specs.Words.{is_in_range, texts};
 ghost use Rattle.slee_run.specs.Given.{deploy_limit, signals_limit};
-ghost use Rattle.slee_run.specs.Headline.{IsComplete, IsCompleteTrial, IsLegalRun, IsShown, IsWholeCheck, Opens, Plays, Reads};
+ghost use Rattle.slee_run.specs.Headline.{IsComplete, IsCompleteTask, IsCompleteTrial, IsLegalRun, IsWholeCheck, Opens, Plays, Reads};
 ghost use Rattle.slee_run.specs.Opening.{IsBeforeOpening};
 ghost use Rattle.slee_run.specs.Orderly.{IsOrderlyRun};
 ghost use Rattle.slee_run.specs.Answers.{IsFormOf};
@@ -15,7 +15,7 @@ use crate::checking::check;
 use crate::finishing::{Report, refuse};
 use crate::generating::{Seeded, try_generated, write_generated};
 use crate::running::{Run, play_sources};
-use crate::showing::show;
+use crate::tending::{Task, tend};
 use crate::words::command_of;
 use crate::{Command, Given, Status};
 use initial_select::Selectors;
@@ -46,7 +46,7 @@ pub fn run_one<S: Source, T: Source, K: Sink, D: Disk>(
         (Rose (S.faults deploy.old) (S.faults deploy.new) ⊎ (Rose (T.faults signals.old) (T.faults signals.new) ⊎ (Rose (K.faults out.old) (K.faults out.new) ⊎ Rose (D.disk disk).faults (D.disk result.1).faults))) result.0 }
     ensures complete_trial { IsCompleteTrial (texts words.now) (S.left deploy.old) (D.disk disk)
         (Rose (S.faults deploy.old) (S.faults deploy.new) ⊎ (Rose (T.faults signals.old) (T.faults signals.new) ⊎ (Rose (K.faults out.old) (K.faults out.new) ⊎ Rose (D.disk disk).faults (D.disk result.1).faults))) result.0 }
-    ensures shown { IsShown (texts words.now) (S.left deploy.old) (D.disk disk)
+    ensures complete_task { IsCompleteTask (texts words.now) (S.left deploy.old) (D.disk disk)
         (Rose (S.faults deploy.old) (S.faults deploy.new) ⊎ (Rose (T.faults signals.old) (T.faults signals.new) ⊎ (Rose (K.faults out.old) (K.faults out.new) ⊎ Rose (D.disk disk).faults (D.disk result.1).faults))) result.0 }
 
     // A check, or the generating of lines, without a fault gives the one answer to the bytes of a deployment.
@@ -105,7 +105,7 @@ fn answer<S: Source, T: Source, K: Sink, D: Disk>(
     match form_of(command) {
         Form::Check => (check(alloc, deploy, out), disk),
         Form::Play(run) => play_sources(alloc, deploy, signals, out, disk, run, selectors),
-        Form::Show => show(alloc, deploy, out, disk, selectors),
+        Form::Tend(task) => tend(alloc, deploy, out, disk, task, selectors),
         Form::Gen(seeded) => (write_generated(alloc, deploy, out, seeded), disk),
         Form::Trial(seeded) => try_generated(alloc, deploy, out, disk, seeded, selectors),
         Form::Later => (refuse(out, Status::NotBuilt), disk),
@@ -117,12 +117,13 @@ enum Form {
     Check,
     /// One worker plays.
     Play(Run),
-    Show,
+    /// A task is done with the journal.
+    Tend(Task),
     /// Lines are generated and written.
     Gen(Seeded),
     /// Lines are generated and played.
     Trial(Seeded),
-    /// It isn't built yet.
+    /// Several workers play, which isn't built yet.
     Later,
 }
 
@@ -157,7 +158,8 @@ fn form_of(command: Command) -> Form
         Command::Check => Form::Check,
         Command::Play { workers: 1, steps } => Form::Play(run_of(Mode::AllNew, steps)),
         Command::Resume { workers: 1, steps } => Form::Play(run_of(Mode::SkipTaken, steps)),
-        Command::Show => Form::Show,
+        Command::Show => Form::Tend(Task::Show),
+        Command::Compact => Form::Tend(Task::Compact),
         Command::Gen { seed, count } => Form::Gen(seeded_by(seed, count)),
         Command::Trial { seed, count } => Form::Trial(seeded_by(seed, count)),
         _ => Form::Later,

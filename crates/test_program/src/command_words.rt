@@ -112,7 +112,6 @@ fn numbers_out_of_range_are_refused(rt: HostRuntime) -> Result<(), Fail> {
 }
 
 const OF_LATER_FORMS: &[&[&str]] = &[
-    &["compact"],
     &["play", "2", "1"],
     &["play", "64", "1000000"],
     &["resume", "2", "1"],

@@ -16,11 +16,6 @@ const BAD_HEADER: Wanted = Wanted {
     printed: "status 8 bad-journal a 0 header\n",
 };
 
-const FIRST_FORMAT: Wanted = Wanted {
-    code: 14,
-    printed: "status 14 not-built\n",
-};
-
 const BAD_HEADER_OF_B: Wanted = Wanted {
     code: 8,
     printed: "status 8 bad-journal b 0 header\n",
@@ -87,20 +82,6 @@ const ROWS: &[(&[u8], &[u8], Wanted)] = &[
     ),
     (EMPTY, EMPTY, BAD_SIDES),
     (EMPTY_ONE, EMPTY, BAD_SIDES),
-    // A side of the first format is only read: what is wrong with it is told before that.
-    (EMPTY_ONE, b"", FIRST_FORMAT),
-    (b"", EMPTY_ONE, FIRST_FORMAT),
-    (
-        b"\x01SLEEJ1\x01\0\0\0\0\0\0\0\x02\0\0\0{}\0\0\0\0\x01\x0d\0\0\0\x01\x08\0\0\0start c1\0",
-        b"",
-        FIRST_FORMAT,
-    ),
-    // It counts by its generation, whatever stands beside it.
-    (
-        b"\x01SLEEJ1\x02\0\0\0\0\0\0\0\x02\0\0\0{}\0\0\0\0\0",
-        EMPTY,
-        FIRST_FORMAT,
-    ),
     (
         b"\x01SLEEJ1\x01\0\0\0\0\0\0\0\x02\0\0\0ab\0\0\0\0\x01\x64\0\0\0",
         b"",
@@ -183,6 +164,7 @@ fn a_journal_that_is_not_its_own_is_refused_and_left(rt: HostRuntime) -> Result<
     for (a, b, wanted) in ROWS {
         expect_refused(&rt, rt.alloc(), &["show"], (*a, *b), *wanted)?;
         expect_refused(&rt, rt.alloc(), &["play", "1", "9"], (*a, *b), *wanted)?;
+        expect_refused(&rt, rt.alloc(), &["compact"], (*a, *b), *wanted)?;
     }
     Ok(())
 }

@@ -8,6 +8,8 @@ mod journal;
 #[cfg(test)]
 mod playing;
 #[cfg(test)]
+mod snapshots;
+#[cfg(test)]
 mod stops;
 #[cfg(test)]
 mod want_of_memory;

@@ -71,7 +71,7 @@ fn expect_image(
 }
 
 // Each write since a sync is whole to here, and then this byte.
-const TEARS: &[(u64, u8)] = &[
+pub const TEARS: &[(u64, u8)] = &[
     (0, 0),
     (0, 1),
     (0, 90),

@@ -1,13 +1,9 @@
-use Rattle.std.proofs.Common.{◌∙◌, ap, length, refl, subst, sym}
+use Rattle.std.proofs.Common.{◌∙◌, ap, length, subst, sym}
 use Rattle.slee_run.specs.Status.{row_of}
 use Rattle.slee_run.specs.Text.{IsReachedTime}
 use Rattle.slee_run.specs.declared.status.Status.{Status}
-use Rattle.slee_run.proofs.AnswerLemmas.{end_reached, end_unwritten, late_end, late_fault, opened_played, refused_played, refused_unwritten}
-use Rattle.slee_run.proofs.OwnLemmas.{own_read}
+use Rattle.slee_run.proofs.AnswerLemmas.{end_reached, end_unwritten, late_end, opened_played, refused_played, unopened_late, unopened_unwritten}
 use Rattle.slee_run.proofs.running.play_document.Goals as goal
-
-pub open-requires-clause-own : goal.open-requires-clause-own
-open-requires-clause-own g c = own_read c.args.bytes.now c.args.deployment.now c.requires.given c.requires.checked
 
 pub play-end-requires-clause-history : goal.play-end-requires-clause-history
 play-end-requires-clause-history g c = c.in-Ok.ensures.starts.opened.history
@@ -32,21 +28,22 @@ finish-status-requires-clause-reached g c = subst (λ (s : Status). IsReachedTim
 
 pub returns-in-Err-clause-played : goal.returns-in-Err-clause-played
 returns-in-Err-clause-played g c =
-    refused_played _ _ _ (g.D.Disk.disk c.args.disk) (g.D.Disk.disk c.in-Err.disk) c.in-Err.fault _ _ c.status_of.ensures c.requires.given.within c.in-Err.ensures.refused c.refuse.ensures.output
+    refused_played _ _ _ (g.D.Disk.disk c.args.disk) (g.D.Disk.disk c.in-Err.disk) c.in-Err.stood _ c.in-Err.ensures.refused c.refuse.ensures.output
     c.args.run.mode c.args.run.steps c.args.run.report c.args.lines.now
 
 pub returns-in-Err-clause-write : goal.returns-in-Err-clause-write
-returns-in-Err-clause-write g c = λ is. c.refuse.ensures.write (λ e. refused_unwritten c.in-Err.fault (sym c.status_of.ensures ∙ e)) is
+returns-in-Err-clause-write g c = λ is.
+    c.refuse.ensures.write (λ e. unopened_unwritten _ _ _ (g.D.Disk.disk c.args.disk) (g.D.Disk.disk c.in-Err.disk) c.in-Err.stood _ c.in-Err.ensures.refused c.refuse.ensures.output e) is
 
 pub returns-in-Err-clause-late : goal.returns-in-Err-clause-late
-returns-in-Err-clause-late g c = λ early. late_fault _ _ _ c.in-Err.fault _ _ c.status_of.ensures c.refuse.ensures.output early
+returns-in-Err-clause-late g c = λ early. unopened_late _ _ _ (g.D.Disk.disk c.args.disk) (g.D.Disk.disk c.in-Err.disk) c.in-Err.stood _ c.in-Err.ensures.refused c.refuse.ensures.output early
 
 pub returns-clause-played : goal.returns-clause-played
 returns-clause-played g c =
     let ok = c.in-Ok.ensures in
     let p = c.play-end.ensures in
-    opened_played g.D.Disk.disk _ (g.D.Disk.disk c.args.disk) _ c.in-Ok.container c.args.run.mode _ c.args.lines.now ok.starts refl
-    c.play-end.new.container c.into_disk.result c.play-end.result c.len.result c.args.run.steps c.args.run.report _ _ _ _ c.into_disk.ensures.kept c.into_disk.ensures.disk p.setup refl p.played p.stop p.whole p.room
+    opened_played g.D.Disk.disk _ (g.D.Disk.disk c.args.disk) c.in-Ok.container c.args.run.mode c.args.run.steps c.args.lines.now ok.starts
+    c.play-end.new.container c.into_disk.result c.play-end.result c.len.result c.args.run.report _ _ _ _ c.into_disk.ensures.kept c.into_disk.ensures.disk p.setup p.played p.stop p.whole p.room
     (c.len.ensures ∙ ap length c.history.ensures.entries) c.status_after-stood.ensures c.finish-status.ensures.finished
 
 pub returns-clause-write : goal.returns-clause-write

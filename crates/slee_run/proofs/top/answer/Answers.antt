@@ -1,7 +1,7 @@
 use Rattle.std.proofs.Common.{inl, sym}
 use Rattle.slee_run.specs.Words.{texts}
-use Rattle.slee_run.proofs.RunLemmas.{run_of_bad, run_of_later, run_of_play, run_of_show, run_of_check, run_of_gen, run_of_trial}
-use Rattle.slee_run.proofs.TopLemmas.{refused, check_comes, gen_comes, show_comes, play_asked, check_never, show_never, gen_never, trial_never, check_reads, show_reads, gen_reads, trial_reads, play_reads, show_opens, trial_opens, play_opens}
+use Rattle.slee_run.proofs.RunLemmas.{run_of_bad, run_of_later, run_of_play, run_of_task, run_of_check, run_of_gen, run_of_trial}
+use Rattle.slee_run.proofs.TopLemmas.{refused, check_comes, gen_comes, task_comes, play_asked, check_never, task_never, gen_never, trial_never, check_reads, task_reads, gen_reads, trial_reads, play_reads, task_opens, trial_opens, play_opens}
 use Rattle.slee_run.proofs.top.answer.Goals as goal
 
 pub returns-in-None-clause-headline : goal.returns-in-None-clause-headline
@@ -19,9 +19,9 @@ pub returns-in-Play-clause-headline : goal.returns-in-Play-clause-headline
 returns-in-Play-clause-headline g c =
     run_of_play _ _ _ _ _ (g.D.Disk.disk c.args.disk) _ _ c.in-Some.command c.in-Play.run' (sym c.in-Some.ensures.command) c.in-Play.ensures c.play_sources.ensures.played
 
-pub returns-in-Show-clause-headline : goal.returns-in-Show-clause-headline
-returns-in-Show-clause-headline g c =
-    run_of_show _ _ _ _ _ (g.D.Disk.disk c.args.disk) _ _ c.in-Some.command (sym c.in-Some.ensures.command) c.in-Show.ensures c.show.ensures.shown
+pub returns-in-Tend-clause-headline : goal.returns-in-Tend-clause-headline
+returns-in-Tend-clause-headline g c =
+    run_of_task _ _ _ _ _ (g.D.Disk.disk c.args.disk) _ _ c.in-Some.command c.in-Tend.task (sym c.in-Some.ensures.command) c.in-Tend.ensures c.tend.ensures.done
 
 pub returns-in-Gen-clause-headline : goal.returns-in-Gen-clause-headline
 returns-in-Gen-clause-headline g c =
@@ -109,23 +109,23 @@ returns-in-Gen-clause-deploy_unread g c = λ none. absurd (none (gen_reads (text
 pub returns-in-Gen-clause-disk : goal.returns-in-Gen-clause-disk
 returns-in-Gen-clause-disk g c = λ is. absurd (gen_comes _ _ _ _ _ _ _ c.write_generated.ensures.generated (λ e. cc) is)
 
-pub returns-in-Show-clause-read : goal.returns-in-Show-clause-read
-returns-in-Show-clause-read g c = λ is. inl (c.show.ensures.read is)
+pub returns-in-Tend-clause-read : goal.returns-in-Tend-clause-read
+returns-in-Tend-clause-read g c = λ is. inl (c.tend.ensures.read is)
 
-pub returns-in-Show-clause-end : goal.returns-in-Show-clause-end
-returns-in-Show-clause-end g c = λ mode steps plays is. absurd (show_never (texts c.args.words.now) c.in-Some.command (sym c.in-Some.ensures.command) c.in-Show.ensures mode steps plays)
+pub returns-in-Tend-clause-end : goal.returns-in-Tend-clause-end
+returns-in-Tend-clause-end g c = λ mode steps plays is. absurd (task_never (texts c.args.words.now) c.in-Some.command (sym c.in-Some.ensures.command) c.in-Tend.task c.in-Tend.ensures mode steps plays)
 
-pub returns-in-Show-clause-too_large : goal.returns-in-Show-clause-too_large
-returns-in-Show-clause-too_large g c = λ is. absurd (show_comes _ _ _ _ _ _ _ c.show.ensures.shown (λ e. cc) is)
+pub returns-in-Tend-clause-too_large : goal.returns-in-Tend-clause-too_large
+returns-in-Tend-clause-too_large g c = λ is. absurd (task_comes _ _ _ _ _ _ _ _ c.tend.ensures.done (λ e. cc) is)
 
-pub returns-in-Show-clause-end_of_deploy : goal.returns-in-Show-clause-end_of_deploy
-returns-in-Show-clause-end_of_deploy g c = λ reads is. c.show.ensures.end is
+pub returns-in-Tend-clause-end_of_deploy : goal.returns-in-Tend-clause-end_of_deploy
+returns-in-Tend-clause-end_of_deploy g c = λ reads is. c.tend.ensures.end is
 
-pub returns-in-Show-clause-deploy_unread : goal.returns-in-Show-clause-deploy_unread
-returns-in-Show-clause-deploy_unread g c = λ none. absurd (none (show_reads (texts c.args.words.now) c.in-Some.command (sym c.in-Some.ensures.command) c.in-Show.ensures))
+pub returns-in-Tend-clause-deploy_unread : goal.returns-in-Tend-clause-deploy_unread
+returns-in-Tend-clause-deploy_unread g c = λ none. absurd (none (task_reads (texts c.args.words.now) c.in-Some.command (sym c.in-Some.ensures.command) c.in-Tend.task c.in-Tend.ensures))
 
-pub returns-in-Show-clause-idle : goal.returns-in-Show-clause-idle
-returns-in-Show-clause-idle g c = λ none. absurd (none (show_opens (texts c.args.words.now) c.in-Some.command (sym c.in-Some.ensures.command) c.in-Show.ensures))
+pub returns-in-Tend-clause-idle : goal.returns-in-Tend-clause-idle
+returns-in-Tend-clause-idle g c = λ none. absurd (none (task_opens (texts c.args.words.now) c.in-Some.command (sym c.in-Some.ensures.command) c.in-Tend.task c.in-Tend.ensures))
 
 pub returns-in-Trial-clause-read : goal.returns-in-Trial-clause-read
 returns-in-Trial-clause-read g c = λ is. inl (c.try_generated.ensures.read is)

@@ -20,5 +20,5 @@ returns-in-Ok-delivered g c =
     let served = c.deployment.result.now in
     let same = c.new-sight.ensures ∙ c.state.ensures ∙ ap state_of c.self.view_is in
     checks_out c.args.self.now c.args.ticket.now c.args.attempt.now served c.in-Ok-delivered.delivered (subst (λ v. HoldsClaims (state_of v) v.claims) c.self.view_is c.self.invariant.0.holds) c.requires.claim c.requires.attempt
-    (c.deployment.ensures.start ∙ ap (λ v. v.setup.origin.start) c.self.view_is) (subst (λ v. IsOwn served (state_of v)) c.self.view_is c.deployment.ensures.own) c.requires.done c.in-Ok-delivered.ensures
+    (c.deployment.ensures.start ∙ ap (λ v. v.setup.origin.initial) c.self.view_is) (subst (λ v. IsOwn served (state_of v)) c.self.view_is c.deployment.ensures.own) c.requires.done c.in-Ok-delivered.ensures
     (ap (λ (s : State). conflict (look s) c.args.attempt.now.known) (sym same) ∙ c.in-Ok.ensures)

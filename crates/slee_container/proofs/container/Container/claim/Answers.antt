@@ -20,4 +20,5 @@ invariant_of-self-2 g c =
       steady_claim c.self.inside.lines.now c.self.inside.skipped c.self.inside.core.history c.self.inside.taken _ c.self.inside.claims.items c.push_reserved-2.new.self.items claim grown ordered ticket free
           c.self.invariant.0,
       more ∙ activities_last c.self.inside.claimed.items c.self.inside.claims.items claim c.self.invariant.1 ∙ sym (ap activities_of grown),
+      c.self.invariant.2,
     )

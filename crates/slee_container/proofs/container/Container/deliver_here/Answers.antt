@@ -2,6 +2,7 @@ use Rattle.std.proofs.Common.{refl}
 use Rattle.trace_history.specs.declared.choice.Choice.TheVariants as choices
 use Rattle.slee_container.proofs.Lines.{anywhere, steady_step}
 use Rattle.slee_container.proofs.Made.{settled}
+use Rattle.slee_container.proofs.Turned.{run_step}
 use Rattle.slee_container.proofs.container.Container.deliver_here.Goals as goal
 
 pub invariant_of-self : goal.invariant_of-self
@@ -10,6 +11,8 @@ invariant_of-self g c =
       steady_step c.self.inside.lines.now c.self.inside.skipped c.self.inside.core c.step-made.new.self choice c.self.inside.taken c.self.inside.claims.items c.step-made.result refl
           (anywhere choice (λ a. tt) c.self.inside.claims.items) c.step-made.ensures.step c.step-made.ensures.origin c.self.invariant.0,
       c.self.invariant.1,
+      run_step (g.D.Disk.disk c.self.inside.core.disk) (g.D.Disk.disk c.step-made.new.self.disk) c.self.inside.core c.step-made.new.self choice c.step-made.result c.self.inside.lines.now c.self.inside.skipped c.self.inside.taken c.self.inside.steps
+          c.self.inside.claims.items c.args.self.now c.self.view_is c.requires.fresh refl c.step-made.ensures c.self.invariant.2,
     )
 
 pub returns : goal.returns

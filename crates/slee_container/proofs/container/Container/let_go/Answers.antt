@@ -12,4 +12,5 @@ invariant_of-self g c =
       subst (λ (ts : List Ticket). IsSteady c.self.inside.lines.now c.self.inside.skipped c.self.inside.core.history c.self.inside.taken (state_held c.self.inside.core) ts) (sym c.drop_claim.ensures)
           (steady_without _ _ _ _ _ _ a c.self.invariant.0),
       c.drop_activity.ensures ∙ activities_without c.self.inside.claimed.items c.self.inside.claims.items a c.self.invariant.1 ∙ sym (ap activities_of c.drop_claim.ensures),
+      c.self.invariant.2,
     )
