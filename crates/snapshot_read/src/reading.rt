@@ -87,8 +87,9 @@ fn read_suspensions<'b>(
             if format == LATER_FORMAT {
                 return Err(stray(bytes));
             }
-            let (rows, rest): (Vec<Suspension>, &[u8]) =
-                read_list(alloc, deployment, format, bytes)?;
+            let (rows, rest): (Vec<Suspension>, &[u8]) = read_list(
+                alloc, deployment, format, bytes,
+            )?;
             if rows.is_empty() {
                 return Err(stray(rest));
             }
