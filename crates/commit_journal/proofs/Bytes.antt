@@ -43,7 +43,7 @@ beside_ready stage kept mid new is_ready same written =
 pub renewed_through : {D : Type 0} (state : D → DiskState) (old mid new : View D) (snapshot : List ℕ) → IsFlushed state old mid → (old.batch ≡ [] → mid ≡ old) → (old.batch ≢ [] → old.stage ≡ Ready)
     → IsRenewed state mid snapshot new → IsRenewed state old snapshot new
 renewed_through {D} state old mid new snapshot flushed idle is_ready renewal = record {
-  same = renewal.same ∙ ap (λ (v : View D). record { disk = new.disk; stage = Ready; kept = renewed v.stage v.kept snapshot; batch = []; length = new.length; records = v.records; limit = v.limit }) flushed.same;
+  same = renewal.same ∙ ap (λ (v : View D). record { disk = new.disk; stage = Ready; kept = renewed v.stage v.kept snapshot; batch = []; length = new.length; records = []; limit = v.limit }) flushed.same;
   durable = renewal.durable;
   written = renewal.written;
   beside = λ none. subst (λ (v : View D). IsUntouched (other (side_renewed v.stage v.kept.side)) (state v.disk).seen (state new.disk).seen) (idle none) (renewal.beside empty);

@@ -14,7 +14,7 @@ use Rattle.commit_journal.specs.Spelling.{header, FitsHead, records_size, size}
 use Rattle.commit_journal.specs.Reading.{Kept}
 use Rattle.commit_journal.specs.Gate.{IsOpened}
 use Rattle.commit_journal.specs.Rewriting.{IsRewritten}
-use Rattle.commit_journal.specs.Kept.{StandsIn, Keeps, Stands, with_more, side_renewed, generation_renewed, renewed, StandsOrRenewed}
+use Rattle.commit_journal.specs.Kept.{StandsIn, Stands, with_more, side_renewed, generation_renewed, renewed, StandsOrRenewed}
 use Rattle.commit_journal.specs.Renewal.{LeavesRenewed}
 use Rattle.commit_journal.specs.Journal.{View, payloads_on, kept_by, IsSound, IsDurable, IsSameSide, GoesOn}
 use Rattle.commit_journal.proofs.Rewrites.{first_stands, first_image, next_stands, next_image}
@@ -91,9 +91,9 @@ module _ (stage : Stage) (kept : Kept) (end : ℕ) (batch : List (List ℕ)) (li
   pub switched_leaves : (new : DiskState) → IsTrue old.told → LeavesOnly old new (IsRewritten (renewed stage kept snapshot).side behind old.seen) → LeavesOnly old new (StandsOrRenewed stage kept snapshot)
   switched_leaves new told leaves = leaves_what old new _ _ leaves (λ image rewritten. renewed_image stage kept end batch limit old snapshot behind sound running new_head_fits is told image rewritten)
 
-pub view_kept : {D : Type 0} (disk : D) (kept new : Kept) (batch none : List (List ℕ)) (count : ℕ) (records : List Record) (limit : ℕ) → new ≡ kept → batch ≡ none
-    → ◌≡◌ {A = View D} (record { disk = disk; stage = Ready; kept = new; batch = batch; length = count; records = records; limit = limit }) (record { disk = disk; stage = Ready; kept = kept; batch = none; length = count; records = records; limit = limit })
-view_kept disk kept new batch none count records limit p q = λ i. record { disk = disk; stage = Ready; kept = p i; batch = q i; length = count; records = records; limit = limit }
+pub view_kept : {D : Type 0} (disk : D) (kept new : Kept) (batch none : List (List ℕ)) (count : ℕ) (records no_records : List Record) (limit : ℕ) → new ≡ kept → batch ≡ none → records ≡ no_records
+    → ◌≡◌ {A = View D} (record { disk = disk; stage = Ready; kept = new; batch = batch; length = count; records = records; limit = limit }) (record { disk = disk; stage = Ready; kept = kept; batch = none; length = count; records = no_records; limit = limit })
+view_kept disk kept new batch none count records no_records limit p q r = λ i. record { disk = disk; stage = Ready; kept = p i; batch = q i; length = count; records = r i; limit = limit }
 
 pub moved : {D : Type 0} (v w : View D) (P : View D → Type 0) → v ≡ w → P w → P v
 moved v w P same holds = subst P (sym same) holds
@@ -122,4 +122,5 @@ goes_through old mid new snapshot n stage same goes = record {
   side = goes.side ∙ (λ i. side_renewed (stage i) (same.side i));
   ready = goes.ready;
   empty = goes.empty;
+  records = goes.records;
 }

@@ -33,7 +33,7 @@ pub record View (D : Type 0) : Type 0 where
   pub batch : List (List ℕ)
   -- how many bytes the side has with the batch, as the journal counts them
   pub length : ℕ
-  -- the records that were found at opening
+  -- the records that were found at opening, and none once it is renewed
   pub records : List Record
   -- how many bytes a side may have
   pub limit : ℕ
@@ -83,6 +83,7 @@ pub record IsOpen {D : Type 0} (deployment : List ℕ) (limit : ℕ) (v : View D
   pub running : v.stage ≢ Stopped
   pub empty : v.batch ≡ []
   pub named : v.kept.head.deployment ≡ deployment
+  pub plain : v.stage ≡ stages.Blank → v.kept.head.snapshot ≡ []
   pub limited : v.limit ≡ limit
 
 -- a journal that was opened over these sides
@@ -181,17 +182,18 @@ pub record IsSettled {D : Type 0} (state : D → DiskState) (v : View D) : Type 
   pub images : (image : Sides) → (state v.disk).images image → Stands v.stage v.kept image
   pub clean : IsTrue (is_clean (state v.disk))
 
--- it goes on with the renewed side
+-- it goes on with the renewed side, on which there is no record
 pub record GoesOn {D : Type 0} (old : View D) (snapshot : List ℕ) (new : View D) (generation : ℕ) : Type 0 where
   pub generation_is : generation ≡ (renewed old.stage old.kept snapshot).head.generation
   pub head : new.kept.head ≡ (renewed old.stage old.kept snapshot).head
   pub side : new.kept.side ≡ (renewed old.stage old.kept snapshot).side
   pub ready : new.stage ≡ Ready
   pub empty : new.batch ≡ []
+  pub records : new.records ≡ []
 
 -- it is renewed: the new side is written whole, and the other one stays as the flush leaves it
 pub record IsRenewed {D : Type 0} (state : D → DiskState) (old : View D) (snapshot : List ℕ) (new : View D) : Type 0 where
-  pub same : new ≡ record old { disk = new.disk; stage = Ready; kept = renewed old.stage old.kept snapshot; batch = []; length = new.length }
+  pub same : new ≡ record old { disk = new.disk; stage = Ready; kept = renewed old.stage old.kept snapshot; batch = []; length = new.length; records = [] }
   pub durable : IsDurable new.kept (state new.disk)
   pub written : IsWritten new.kept (state new.disk).seen
   pub beside : old.batch ≡ [] → IsUntouched (other (side_renewed old.stage old.kept.side)) (state old.disk).seen (state new.disk).seen

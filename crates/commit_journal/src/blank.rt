@@ -17,6 +17,7 @@ use slee_disk::{Disk, Failed, Side};
 fn close_side<D: Disk>(disk: &mut D, side: Side) -> Result<(), Failed>
     ensures blank { IsTrue (D.disk disk.old).told → OnOk result (BlankBeside side (on (other side) (D.disk disk.old).seen) (D.disk disk.new).seen) }
     ensures any_moment { IsTrue (is_clean (D.disk disk.old)) → LeavesOnly (D.disk disk.old) (D.disk disk.new) (IsBlankOrSame side (D.disk disk.old).seen) }
+    ensures stays { MayLeave side 0 (D.disk disk.old) (D.disk disk.new) }
     ensures rest { IsTrue (is_clean (D.disk disk.old)) → OnOk result (IsTrue (is_clean (D.disk disk.new))) }
     ensures told { (D.disk disk.new).told ≡ (D.disk disk.old).told }
     ensures rising { (D.disk disk.old).faults ≤ (D.disk disk.new).faults }
@@ -90,6 +91,7 @@ pub(crate) fn write_side<D: Disk>(disk: &mut D, side: Side, bytes: &[u8]) -> Res
 pub(crate) fn rewrite_side<D: Disk>(disk: &mut D, side: Side, bytes: &[u8]) -> Result<(), Failed>
     ensures opened { IsTrue (D.disk disk.old).told → OnOk result (IsOpened side [] bytes.now (on (other side) (D.disk disk.old).seen) (D.disk disk.new).seen) }
     ensures any_moment { IsTrue (is_clean (D.disk disk.old)) → LeavesOnly (D.disk disk.old) (D.disk disk.new) (IsRewritten side bytes.now (D.disk disk.old).seen) }
+    ensures stays { MayLeave side 0 (D.disk disk.old) (D.disk disk.new) }
     ensures rest { IsTrue (D.disk disk.old).told → OnOk result (IsTrue (is_clean (D.disk disk.new))) }
     ensures told { (D.disk disk.new).told ≡ (D.disk disk.old).told }
     ensures rising { (D.disk disk.old).faults ≤ (D.disk disk.new).faults }

@@ -16,7 +16,7 @@ pub enum JournalBad {
     Length,
     /// The two sides have one generation.
     Sides,
-    /// A snapshot stands where none can be read yet.
+    /// A snapshot stands for no state.
     Snapshot,
     /// A payload is out of the grammar of records.
     Record,

@@ -108,7 +108,7 @@ impl<D: Disk> Journal<D> {
         }
     }
 
-    /// The records that were found at opening.
+    /// The records that were found at opening, and none once it is renewed.
     pub fn records(&self) -> &[Record]
         ensures { result.now ≡ self.now.records }
     {
@@ -285,9 +285,10 @@ impl<D: Disk> Journal<D> {
         requires fits { size (renewed self.old.stage self.old.kept snapshot).head [] ≤ self.old.limit }
         ensures renewed { IsTrue (D.disk self.old.disk).told → OnOk result (IsRenewed D.disk self.old snapshot self.new) }
         ensures goes_on { IfOk result (λ generation. GoesOn self.old snapshot self.new generation) }
-        ensures others { (self.new.batch ≡ self.old.batch) × (self.new.records ≡ self.old.records) × (self.new.limit ≡ self.old.limit) }
+        ensures others { (self.new.batch ≡ self.old.batch) × (self.new.limit ≡ self.old.limit) }
         ensures any_moment { IsTrue (is_clean (D.disk self.old.disk)) → LeavesOnly (D.disk self.old.disk) (D.disk self.new.disk)
             (StandsOrRenewed self.old.stage self.old.kept snapshot) }
+        ensures stays { MayLeave (side_renewed self.old.stage self.old.kept.side) 0 (D.disk self.old.disk) (D.disk self.new.disk) }
         ensures failed { IfErr result (λ fault. (fault ≡ BeginFault.DiskFault) × IsLeft self.old self.new fault) }
         ensures runs { Runs (D.disk self.old.disk) (D.disk self.new.disk) (IsErr result) }
     {
@@ -299,6 +300,7 @@ impl<D: Disk> Journal<D> {
                 self.format = Format::Two;
                 self.generation = generation;
                 self.snapshot = snapshot;
+                self.records.clear(); // They stand no more on the side that counts.
                 self.end = bytes.len() as u64;
                 Ok(generation)
             }
@@ -315,8 +317,9 @@ impl<D: Disk> Journal<D> {
         requires { self.old.stage ≢ Stopped }
         ensures renewed { IsTrue (D.disk self.old.disk).told → OnOk result (IsRenewed D.disk self.old snapshot.now self.new) }
         ensures goes_on { IfOk result (λ generation. GoesOn self.old snapshot.now self.new generation) }
-        ensures others { (self.new.records ≡ self.old.records) × (self.new.limit ≡ self.old.limit) }
+        ensures others { OnOk result (self.new.records ≡ []) × (self.new.limit ≡ self.old.limit) }
         ensures any_moment { IsTrue (is_clean (D.disk self.old.disk)) → LeavesInRenewal D.disk self.old snapshot.now self.new }
+        ensures stays { self.old.batch ≡ [] → MayLeave (side_renewed self.old.stage self.old.kept.side) 0 (D.disk self.old.disk) (D.disk self.new.disk) }
         ensures fits { OnOk result (size (renewed self.old.stage self.old.kept snapshot.now).head [] ≤ self.old.limit) }
         ensures refused { IfErr result (λ fault. IsRefusedRenewal self.old snapshot.now self.new fault) }
         ensures runs { Runs (D.disk self.old.disk) (D.disk self.new.disk) (IsErrOf result BeginFault.DiskFault) }
@@ -327,6 +330,13 @@ impl<D: Disk> Journal<D> {
         let kept = Blob::from_slice(self.alloc, snapshot)?;
         self.flush()?;
         self.switch(kept, &bytes)
+    }
+
+    /// The disk.
+    pub fn disk(&self) -> &D
+        ensures { result.now ≡ self.now.disk }
+    {
+        &self.disk
     }
 
     /// The disk, whatever has come of the journal.

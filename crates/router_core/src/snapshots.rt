@@ -105,11 +105,7 @@ impl State {
 
     /// The snapshot of the state for a journal: its bytes in format 2, and none where it is the initial state of the deployment.
     /// Its bytes are fewer than 2^64.
-    pub fn snapshot_text(
-        &self,
-        alloc: Global,
-        deployment: &Deployment,
-    ) -> Result<Vec<u8>, NoMemory>
+    pub fn snapshot_text(&self, alloc: Global, deployment: &Deployment) -> Result<Vec<u8>, NoMemory>
         requires { deployed_of deployment.now.parts ≡ self.now.state.deployment }
         ensures text { IfOk result (λ bytes. bytes.items ≡ snapshot_text 2 self.now.state) }
         ensures short { OnOk result (length (spelled_state 2 self.now.state) < 2 ^ 64) }

@@ -1,5 +1,5 @@
 -- What is written is recovered.
-use Rattle.std.proofs.Common.{◌≡◌, ◌≢◌, if◌then◌else◌, ℕ, ◌+◌, ◌==◌, ◌≤◌, drop, inl, inr, List, [], ◌∷◌, ◌++◌, length, true, false, not, refl, sym, ◌∙◌, ap, subst, append-nil, Option, Some, None, Ok, arith}
+use Rattle.std.proofs.Common.{◌≡◌, ◌≢◌, if◌then◌else◌, ℕ, ◌+◌, ◌==◌, ◌≤◌, drop, inl, inr, List, [], ◌∷◌, ◌++◌, length, map, true, false, not, refl, sym, ◌∙◌, ap, subst, Option, Some, None, Ok, arith}
 use Rattle.std.specs.Str.{bytes_eq}
 use Rattle.std.proofs.lemmas.Bool.{cases_Bool, ne_eqb, not-true, not-false}
 use Rattle.std.proofs.lemmas.List.{drop_all}
@@ -12,16 +12,17 @@ use Rattle.commit_journal.specs.Kept.{Keeps}
 use Rattle.commit_journal.specs.declared.format.Format.{Format}
 use Rattle.commit_journal.specs.declared.format.Format.TheVariants.{Two}
 use Rattle.commit_journal.specs.declared.fault.JournalBad.TheVariants as kinds
-use Rattle.commit_journal.specs.Views.{located}
+use Rattle.commit_journal.specs.Views.{payload_of, located}
 use Rattle.trace_history.specs.Histories.{choices_of}
 use Rattle.trace_history.specs.declared.choice.Choice.{Choice}
 use Rattle.trace_history.specs.declared.entry.Entry.{Entry}
+use Rattle.router_state.specs.Restoring.{state_of_snapshot}
 use Rattle.router_state.specs.State.{State}
 use Rattle.router_steps.specs.Histories.{is_choice, replay, Legal}
 use Rattle.router_steps.specs.Payloads.{payload, payloads, choice_in}
 use Rattle.router_steps.specs.Steps.{after, is_enabled}
 use Rattle.router_durable.specs.Choices.{after_all, AreEnabled, AreChoices, AreReadAgain, written_format}
-use Rattle.router_durable.specs.Recovery.{kept_part, wrong_by, wrong_at, after_if, first_wrong, misfit, with_choice, choices_in, unfit_by, first_fault, if_fit, past_of, past, state_of, records_of}
+use Rattle.router_durable.specs.Recovery.{kept_part, wrong_by, wrong_at, after_if, first_wrong, Misfit, misfit, with_choice, choices_in, unless_misfit, past_from, past_of, past, end_of, records_of}
 use Rattle.router_durable.specs.Facts.{AreRead, Origin, base_of, records_since, RestartsIn}
 use Rattle.router_durable.proofs.HistoryLemmas.{after_all-append, payloads-append, enabled-append, again-append, valid-append, legal_enabled, legal_choices, replay-choices}
 
@@ -44,23 +45,32 @@ no_misfit s (c ∷ cs) n again valid enabled =
     ∙ ap (λ x. misfit written_format (after_if s x) rest) again.0
     ∙ no_misfit (after s c) cs (n + (5 + length (payload written_format s c))) again.1 valid.1 enabled.1
 
--- the records of choices that may be made
-pub past_again : (start : State) (deployment : List ℕ) (sides : Sides) (kept : Kept) (cs : List Choice) → recovered deployment sides ≡ Ok (Some kept) → kept.head.snapshot ≡ [] → kept.head.format ≡ Two
-    → kept.payloads ≡ payloads written_format start cs → AreReadAgain start cs → AreChoices cs → AreEnabled start cs → past start deployment sides ≡ Ok cs
-past_again start deployment sides kept cs is plain format spelled again valid enabled =
-    ap (past_of start) is
-    ∙ ap (λ (snapshot : List ℕ). if_fit (first_fault start kept.side kept.head.format snapshot (located (first_gate kept.head) kept.payloads)) (choices_in (format_number kept.head.format) kept.payloads)) plain
-    ∙ ap (λ (f : Format). if_fit (unfit_by kept.side (misfit (format_number f) start (located (first_gate kept.head) kept.payloads)) f) (choices_in (format_number f) kept.payloads)) format
-    ∙ ap (λ (ps : List (List ℕ)). if_fit (unfit_by kept.side (misfit written_format start (located (first_gate kept.head) ps)) Two) (choices_in written_format ps)) spelled
-    ∙ ap (λ x. if_fit (unfit_by kept.side x Two) (choices_in written_format (payloads written_format start cs))) (no_misfit start cs (first_gate kept.head) again valid enabled)
-    ∙ ap (λ (l : List Choice). Ok l) (choices_again start cs again)
+pub payloads_located : (n : ℕ) (ps : List (List ℕ)) → map payload_of (located n ps) ≡ ps
+payloads_located n [] = refl
+payloads_located n (p ∷ ps) = ap (λ (l : List (List ℕ)). p ∷ l) (payloads_located (n + (5 + length p)) ps)
+
+-- a snapshot, and the records of choices that may be made behind it
+pub past_again : (first start : State) (deployment : List ℕ) (sides : Sides) (kept : Kept) (cs : List Choice) → recovered deployment sides ≡ Ok (Some kept)
+    → state_of_snapshot written_format first.deployment first.program kept.head.snapshot ≡ Some start → kept.head.format ≡ Two
+    → kept.payloads ≡ payloads written_format start cs → AreReadAgain start cs → AreChoices cs → AreEnabled start cs
+    → past first deployment sides ≡ Ok (record { start = start; choices = cs })
+past_again first start deployment sides kept cs is based format spelled again valid enabled =
+    let rs = located (first_gate kept.head) kept.payloads in
+    let last = payloads written_format start cs in
+    ap (past_of first) is
+    ∙ ap (λ (f : Format). past_from kept.side (format_number f) rs (state_of_snapshot (format_number f) first.deployment first.program kept.head.snapshot)) format
+    ∙ ap (λ (s : Option State). past_from kept.side written_format rs s) based
+    ∙ ap (λ (ps : List (List ℕ)). past_from kept.side written_format (located (first_gate kept.head) ps) (Some start)) spelled
+    ∙ ap (λ (m : Option Misfit). unless_misfit kept.side m (record { start = start; choices = choices_in written_format (map payload_of (located (first_gate kept.head) last)) }))
+    (no_misfit start cs (first_gate kept.head) again valid enabled)
+    ∙ ap (λ (l : List Choice). Ok (record { start = start; choices = l })) (ap (choices_in written_format) (payloads_located (first_gate kept.head) last) ∙ choices_again start cs again)
 
 -- sides that keep the records found and those of some entries
 pub restarts_in : (o : Origin) (history part : List Entry) (least : ℕ) (kept : Kept) (image : Sides)
-    → AreRead o.start o.found → kept.head.deployment ≡ o.deployment → kept.head.snapshot ≡ [] → kept.head.format ≡ Two
+    → AreRead o.start o.found → kept.head.deployment ≡ o.deployment → state_of_snapshot written_format o.initial.deployment o.initial.program kept.head.snapshot ≡ Some o.start → kept.head.format ≡ Two
     → Keeps kept image → kept.payloads ≡ o.found ++ records_since o part → Legal (base_of o) part → AreReadAgain (base_of o) (choices_of part)
     → IsPrefix part history → least ≤ length part → RestartsIn o history least image
-restarts_in o history part least kept image found named plain format keeps are legal again front some =
+restarts_in o history part least kept image found named based format keeps are legal again front some =
     let first = choices_in written_format o.found in
     let start = o.start in
     let is : recovered o.deployment image ≡ Ok (Some kept) = subst (λ (d : List ℕ). recovered d image ≡ Ok (Some kept)) named keeps in
@@ -72,22 +82,12 @@ restarts_in o history part least kept image found named plain format keeps are l
       part = part;
       front = front;
       some = some;
-      state = ap (state_of start) (past_again start o.deployment image kept (first ++ choices_of part) is plain format spelled read given enabled) ∙ ap (λ (s : State). Ok s) (replayed part);
+      state = ap end_of (past_again o.initial start o.deployment image kept (first ++ choices_of part) is based format spelled read given enabled) ∙ ap (λ (s : State). Ok s) (replayed part);
       records = ap records_of is ∙ are;
     }
   where
     replayed : (part : List Entry) → after_all o.start (choices_in written_format o.found ++ choices_of part) ≡ replay (base_of o) part
     replayed part = after_all-append o.start (choices_in written_format o.found) (choices_of part) ∙ sym (replay-choices (base_of o) part)
-
--- sides that keep nothing yet
-pub blank_restarts : (o : Origin) (history : List Entry) (image : Sides) → o.found ≡ [] → recovered o.deployment image ≡ Ok None → RestartsIn o history 0 image
-blank_restarts o history image none is = record {
-  part = [];
-  front = (history, refl);
-  some = omega arith;
-  state = ap (λ r. state_of o.start (past_of o.start r)) is ∙ ap (λ (ps : List (List ℕ)). Ok (after_all o.start (choices_in written_format ps))) (sym none);
-  records = ap records_of is ∙ sym none ∙ sym (append-nil o.found);
-}
 
 -- what is wrong with a payload of a choice that may be made
 pub wrong_same : (format : ℕ) (s : State) (bytes those : List ℕ) (x : Option Choice) (c : Choice) → x ≡ Some c → is_choice c ≡ true → is_enabled s c ≡ true → those ≡ payload format s c → not (bytes_eq bytes those) ≡ false → wrong_by format s bytes x ≡ None

@@ -20,12 +20,14 @@ use Rattle.trace_history.specs.Views.{HasRoomForLines, HistoryView}
 use Rattle.trace_history.specs.declared.choice.Choice.{Choice}
 use Rattle.trace_history.specs.declared.entry.Entry.{Entry}
 use Rattle.slee_descriptor.specs.declared.deployment.Deployment.{Deployment}
+use Rattle.router_state.specs.Restoring.{state_of_snapshot}
 use Rattle.router_state.specs.State.{State}
 use Rattle.router_steps.specs.Histories.{is_choice, replay, Legal}
 use Rattle.router_steps.specs.Payloads.{choice_in, payload, payloads}
 use Rattle.router_steps.specs.Steps.{after, is_enabled, lines_of_step, step_entry}
 use Rattle.router_durable.specs.declared.fault.Stop.{Stop}
 use Rattle.router_durable.specs.declared.fault.Stop.TheVariants as stops
+use Rattle.router_durable.specs.Anew.{is_first, is_anew}
 use Rattle.router_durable.specs.Choices.{AreReadAgain, written_format}
 use Rattle.router_durable.specs.Recovery.{records_of}
 use Rattle.router_durable.specs.Facts.{Origin, base_of, records_since, RestartsIn, IsCrashSafe, HasRecords, HasRecordsOrMore, size_after, size_added, HasRoom, IsFullFor}
@@ -84,11 +86,11 @@ pub safe_later : (o : Origin) (h : List Entry) (m n : ℕ) (old new : DiskState)
 safe_later o h m n old new tells safe told leaves now = record {
   told = λ is. told ∙ safe.told is;
   later = λ clean. omega (arith, safe.later clean, (leaves (tells clean)).later);
-  since = λ clean image left. ⊎_elim
-      (λ was. safe.since clean image was)
-      (λ is. restarts_later o h h m 0 image is (prefix_refl h) (omega arith))
+  since = λ clean whole image left. ⊎_elim
+      (λ was. safe.since clean whole image was)
+      (λ is. inl (restarts_later o h h m 0 image is (prefix_refl h) (omega arith)))
       ((leaves (tells clean)).before o.moment image (safe.later clean) left);
-  now = now;
+  now = λ told whole. now told;
 }
 
 -- the same disk, and a longer history
@@ -96,8 +98,11 @@ pub safe_longer : (o : Origin) (g h : List Entry) (n : ℕ) (disk : DiskState) �
 safe_longer o g h n disk front safe = record {
   told = safe.told;
   later = safe.later;
-  since = λ clean image was. restarts_later o g h 0 0 image (safe.since clean image was) front (omega arith);
-  now = λ told image left. restarts_later o g h n n image (safe.now told image left) front (omega arith);
+  since = λ clean whole image was. ⊎_elim
+      (λ is. inl (restarts_later o g h 0 0 image is front (omega arith)))
+      inr
+      (safe.since clean whole image was);
+  now = λ told whole image left. restarts_later o g h n n image (safe.now told whole image left) front (omega arith);
 }
 
 -- the size of a side with the records of a history
@@ -176,8 +181,10 @@ module _ {D : Type 0} (j : View D) (disk : DiskState) (o : Origin) (history : Li
           legal = legal_grown;
           again = again_grown again;
           found = sound.found;
+          based = sound.based;
+          keepable = sound.keepable;
           named = sound.named;
-          plain = sound.plain;
+          stands = sound.stands;
           format = sound.format;
           stage = sound.stage;
           batch = λ up. ap (λ (ps : List (List ℕ)). ps ++ payload written_format here c ∷ []) (sound.batch refl) ∙ batch_grown;
@@ -186,8 +193,10 @@ module _ {D : Type 0} (j : View D) (disk : DiskState) (o : Origin) (history : Li
           kept = λ told up. sound.kept told refl ∙ ap (λ (h : List Entry). o.found ++ records_since o h) (sym (take_more acked history (step_entry here c ∷ []) sound.within));
           seen = sound.seen;
           rest = sound.rest;
-          left = λ told down. absurd (cc down);
+          whole = λ up. sound.whole refl;
+          left = λ told whole down. absurd (cc down);
           counted = sound.counted;
+          text = sound.text;
           sized = sound.sized;
           safe = safe_longer o history grown acked disk front sound.safe;
           faults = sound.faults;
@@ -201,8 +210,10 @@ sound_stopped j disk o history acked stop up cause sound = record {
   legal = sound.legal;
   again = sound.again;
   found = sound.found;
+  based = sound.based;
+  keepable = sound.keepable;
   named = sound.named;
-  plain = sound.plain;
+  stands = sound.stands;
   format = sound.format;
   stage = λ u. sound.stage refl;
   batch = λ u. sound.batch refl;
@@ -211,8 +222,10 @@ sound_stopped j disk o history acked stop up cause sound = record {
   kept = λ told u. sound.kept told refl;
   seen = λ told u. sound.seen told refl;
   rest = λ told u. sound.rest told refl;
-  left = λ told down. let never : true ≡ false = sym down ∙ up in absurd (cc never);
+  whole = λ u. sound.whole refl;
+  left = λ told whole down. let never : true ≡ false = sym down ∙ up in absurd (cc never);
   counted = sound.counted;
+  text = sound.text;
   sized = sound.sized;
   safe = sound.safe;
   faults = sound.faults;
@@ -261,6 +274,9 @@ module _ {D : Type 0} (disk_of : D → DiskState) (j j2 : View D) (o : Origin) (
       ∙ append_assoc o.found (records_since o (take acked history)) (records_behind o history acked)
       ∙ ap (λ (ps : List (List ℕ)). o.found ++ ps) (sym (records_split o history acked))
 
+  based_on : state_of_snapshot written_format o.initial.deployment o.initial.program j.kept.head.snapshot ≡ Some o.start
+  based_on = ap (state_of_snapshot written_format o.initial.deployment o.initial.program) sound.stands ∙ sound.based
+
   whole_front : IsPrefix (take acked history) history
   whole_front = (drop acked history, take_drop acked history)
 
@@ -272,11 +288,11 @@ module _ {D : Type 0} (disk_of : D → DiskState) (j j2 : View D) (o : Origin) (
 
   with_batch : IsTrue o.told → (image : Sides) → Keeps (with_more j.kept j.batch) image → RestartsIn o history (length history) image
   with_batch told image keeps =
-      restarts_in o history history (length history) (with_more j.kept j.batch) image sound.found sound.named sound.plain sound.format keeps (kept_whole told) sound.legal sound.again (prefix_refl history) (omega arith)
+      restarts_in o history history (length history) (with_more j.kept j.batch) image sound.found sound.named based_on sound.format keeps (kept_whole told) sound.legal sound.again (prefix_refl history) (omega arith)
 
   without_batch : IsTrue o.told → (image : Sides) → Keeps j.kept image → RestartsIn o history acked image
   without_batch told image keeps =
-      restarts_in o history (take acked history) acked j.kept image sound.found sound.named sound.plain sound.format keeps (sound.kept told up) legal_acked again_acked whole_front
+      restarts_in o history (take acked history) acked j.kept image sound.found sound.named based_on sound.format keeps (sound.kept told up) legal_acked again_acked whole_front
       (omega (arith, length_take acked history sound.within))
 
   either : IsTrue o.told → (image : Sides) → KeepsOrMore j.kept j.batch image → RestartsIn o history acked image
@@ -311,8 +327,10 @@ module _ {D : Type 0} (disk_of : D → DiskState) (j j2 : View D) (o : Origin) (
         legal = sound.legal;
         again = sound.again;
         found = sound.found;
+        based = sound.based;
+        keepable = sound.keepable;
         named = ap (λ (h : Head). h.deployment) flushed.head ∙ sound.named;
-        plain = ap (λ (h : Head). h.snapshot) flushed.head ∙ sound.plain;
+        stands = ap (λ (h : Head). h.snapshot) flushed.head ∙ sound.stands;
         format = ap (λ (h : Head). h.format) flushed.head ∙ sound.format;
         stage = λ u. ready;
         batch = λ u. wrote.batch ∙ nothing_behind history;
@@ -321,8 +339,10 @@ module _ {D : Type 0} (disk_of : D → DiskState) (j j2 : View D) (o : Origin) (
         kept = λ told u. ap (λ (k : Kept). k.payloads) (kept_all told) ∙ kept_whole told ∙ ap (λ (h : List Entry). o.found ++ records_since o h) (sym whole);
         seen = λ told u. subst (λ (x : Stage). Stands x j2.kept new.seen) ready (wrote.seen (told_then told));
         rest = λ told u. wrote.rest (was_clean told);
-        left = λ told down. let never : true ≡ false = sym down ∙ up in absurd (cc never);
+        whole = sound.whole;
+        left = λ told whole down. let never : true ≡ false = sym down ∙ up in absurd (cc never);
         counted = sound.counted;
+        text = sound.text;
         sized = λ told. sound.sized told ∙ ap (λ (h : Head). size h o.found) (sym flushed.head);
         safe = safe_later o history acked (length history) old new sound.tells sound.safe flushed.told flush_leaves
             (λ told image left. with_batch told image (subst (λ (k : Kept). Keeps k image) (kept_all told) (subst (λ (x : Stage). Stands x j2.kept image) ready (wrote.now (was_clean told) image left))));
@@ -344,8 +364,10 @@ module _ {D : Type 0} (disk_of : D → DiskState) (j j2 : View D) (o : Origin) (
     legal = sound.legal;
     again = sound.again;
     found = sound.found;
+    based = sound.based;
+    keepable = sound.keepable;
     named = ap (λ (h : Head). h.deployment) flushed.head ∙ sound.named;
-    plain = ap (λ (h : Head). h.snapshot) flushed.head ∙ sound.plain;
+    stands = ap (λ (h : Head). h.snapshot) flushed.head ∙ sound.stands;
     format = ap (λ (h : Head). h.format) flushed.head ∙ sound.format;
     stage = λ u. absurd cc;
     batch = λ u. absurd cc;
@@ -354,11 +376,13 @@ module _ {D : Type 0} (disk_of : D → DiskState) (j j2 : View D) (o : Origin) (
     kept = λ told u. absurd cc;
     seen = λ told u. absurd cc;
     rest = λ told u. absurd cc;
-    left = λ told down image now. ⊎_elim
+    whole = λ u. absurd cc;
+    left = λ told whole down image now. ⊎_elim
         (λ few. inl (records_few told image few))
         (λ all. inr (records_all told image all))
         (now_since old new _ (stands_ready (was_clean told)) image now);
     counted = sound.counted;
+    text = sound.text;
     sized = λ told. sound.sized told ∙ ap (λ (h : Head). size h o.found) (sym flushed.head);
     safe = safe_later o history acked acked old new sound.tells sound.safe flushed.told flush_leaves
         (λ told image left. now_since old new _ (flush_leaves told) image left);
@@ -378,17 +402,25 @@ module _ {D : Type 0} (j : View D) (disk : DiskState) (o : Origin) (history : Li
       let is : recovered o.deployment image ≡ Ok (Some j.kept) = subst (λ (d : List ℕ). recovered d image ≡ Ok (Some j.kept)) sound.named keeps in
       ap records_of is ∙ sound.kept told up ∙ ap (λ (ps : List (List ℕ)). ps ++ records_since o (take acked history)) (sym (sound.counted told))
 
-  again_now : IsTrue o.told → is_down stop ≡ false → RestartsIn o history acked disk.seen
+  stands_on : state_of_snapshot written_format o.initial.deployment o.initial.program j.kept.head.snapshot ≡ Some o.start
+  stands_on = ap (state_of_snapshot written_format o.initial.deployment o.initial.program) sound.stands ∙ sound.based
+
+  pub again_now : IsTrue o.told → is_down stop ≡ false → RestartsIn o history acked disk.seen
   again_now told up =
-      restarts_in o history (take acked history) acked j.kept disk.seen sound.found sound.named sound.plain sound.format (sound.seen told up) (sound.kept told up)
+      restarts_in o history (take acked history) acked j.kept disk.seen sound.found sound.named stands_on sound.format (sound.seen told up) (sound.kept told up)
       (legal_front (base_of o) (take acked history) (drop acked history) (subst (Legal (base_of o)) (sym (take_drop acked history)) sound.legal))
       (again_front (base_of o) (take acked history) (drop acked history) (subst (λ (h : List Entry). AreReadAgain (base_of o) (choices_of h)) (sym (take_drop acked history)) sound.again))
       (drop acked history, take_drop acked history) (omega (arith, length_take acked history sound.within))
 
+  current_now : IsTrue o.told → is_down stop ≡ false → is_anew (recovered o.deployment disk.seen) ≡ false
+  current_now told up =
+      let is : recovered o.deployment disk.seen ≡ Ok (Some j.kept) = subst (λ (d : List ℕ). recovered d disk.seen ≡ Ok (Some j.kept)) sound.named (sound.seen told up) in
+      ap is_anew is ∙ ap is_first sound.format
+
   -- the records that a stop now leaves
-  batch_now : IsTrue o.told → (image : Sides) → disk.images image → HasRecordsOrMore o history acked image
-  batch_now told image now = elim (cases_Bool (is_down stop)) [
-    | inl down ↦ sound.left told down image now
+  batch_now : IsTrue o.told → o.torn ≡ false → (image : Sides) → disk.images image → HasRecordsOrMore o history acked image
+  batch_now told whole image now = elim (cases_Bool (is_down stop)) [
+    | inl down ↦ sound.left told whole down image now
     | inr up ↦ inl (records_now told up image (subst (λ (x : Sides). Keeps j.kept x) (sym (clean_only disk (sound.rest told up) image now)) (sound.seen told up)))
   ]
 
@@ -398,11 +430,16 @@ module _ {D : Type 0} (j : View D) (disk : DiskState) (o : Origin) (history : Li
     acked = sound.within;
     safe = sound.safe;
     cause = sound.cause;
+    based = sound.based;
+    keepable = sound.keepable;
+    text = sound.text;
     counted = sound.counted;
-    sized = λ told. omega (arith, sound.sized told, ap length sound.named, ap length sound.plain);
+    sized = λ told. omega (arith, sound.sized told, ap length sound.named, ap length sound.stands);
     rest = sound.rest;
     records = λ told up. records_now told up disk.seen (sound.seen told up);
     again = again_now;
+    current = current_now;
+    whole = sound.whole;
     batch = batch_now;
   }
 
@@ -560,10 +597,10 @@ nothing_waits j disk o history acked stop sound up all =
 -- ---- steps, as they are seen
 
 -- a crash leaves no less of a disk that didn't change
-stays : (o : Origin) (g h : List Entry) (n : ℕ) (disk : DiskState) → IsPrefix g h → IsCrashSafe o g n disk → IsTrue o.told → LeavesOnly disk disk (RestartsIn o h n)
-stays o g h n disk front safe told = leaves_start disk (RestartsIn o h n) ((safe_longer o g h n disk front safe).now told)
+stays : (o : Origin) (g h : List Entry) (n : ℕ) (disk : DiskState) → IsPrefix g h → IsCrashSafe o g n disk → o.torn ≡ false → IsTrue o.told → LeavesOnly disk disk (RestartsIn o h n)
+stays o g h n disk front safe whole told = leaves_start disk (RestartsIn o h n) ((safe_longer o g h n disk front safe).now told whole)
 
-module _ {D : Type 0} (disk_of : D → DiskState) (first : Held D) (c : Choice) (safe : IsCrashSafe first.origin first.history first.acked (disk_of first.disk)) where
+module _ {D : Type 0} (disk_of : D → DiskState) (first : Held D) (c : Choice) (safe : IsCrashSafe first.origin first.history first.acked (disk_of first.disk)) (whole : first.origin.torn ≡ false) where
   -- nothing has changed
   pub refused_makes : Makes (disk_of first.disk) (disk_of first.disk) first c (Err faults.NoMemory) first
   refused_makes = record {
@@ -572,7 +609,7 @@ module _ {D : Type 0} (disk_of : D → DiskState) (first : Held D) (c : Choice) 
     origin = refl;
     limit = refl;
     failed = λ is. absurd (cc is);
-    any_moment = stays first.origin first.history first.history first.acked (disk_of first.disk) (prefix_refl first.history) safe;
+    any_moment = stays first.origin first.history first.history first.acked (disk_of first.disk) (prefix_refl first.history) safe whole;
   }
 
   full_makes : (size adding : ℕ) → IsFullFor first.origin first.limit first.history c size adding
@@ -583,7 +620,7 @@ module _ {D : Type 0} (disk_of : D → DiskState) (first : Held D) (c : Choice) 
     origin = refl;
     limit = refl;
     failed = λ is. absurd (cc is);
-    any_moment = stays first.origin first.history first.history first.acked (disk_of first.disk) (prefix_refl first.history) safe;
+    any_moment = stays first.origin first.history first.history first.acked (disk_of first.disk) (prefix_refl first.history) safe whole;
   }
 
   -- what isn't added isn't made
@@ -607,7 +644,7 @@ module _ {D : Type 0} (disk_of : D → DiskState) (first : Held D) (c : Choice) 
       origin = refl;
       limit = refl;
       failed = λ is. absurd (cc is);
-      any_moment = stays first.origin first.history longer.history first.acked (disk_of first.disk) (step_entry (state_held first) c ∷ [], refl) safe;
+      any_moment = stays first.origin first.history longer.history first.acked (disk_of first.disk) (step_entry (state_held first) c ∷ [], refl) safe whole;
     }
 
     module _ (done : Unit {0}) (mid : Held D) (adds : Adds first c (Ok done) mid) where

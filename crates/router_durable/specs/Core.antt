@@ -9,11 +9,14 @@ use Rattle.commit_journal.specs.declared.limits.TheConstants.{SIDE_FRAME}
 use Rattle.commit_journal.specs.declared.stage.Stage.TheVariants.{Ready}
 use Rattle.commit_journal.specs.Journal.{View, payloads_on}
 use Rattle.commit_journal.specs.Kept.{Keeps}
+use Rattle.commit_journal.specs.Reading.{recovered}
 use Rattle.commit_journal.specs.Spelling.{records_size, size}
 use Rattle.trace_history.specs.Histories.{choices_of}
 use Rattle.trace_history.specs.declared.choice.Choice.{Choice}
 use Rattle.trace_history.specs.declared.entry.Entry.{Entry}
 use Rattle.router_core.specs.States.{IsOwn}
+use Rattle.router_laws_kept.specs.Kept.{CanBeKept}
+use Rattle.router_state.specs.Restoring.{state_of_snapshot}
 use Rattle.router_state.specs.State.{State}
 use Rattle.router_steps.specs.Histories.{replay, Legal}
 use Rattle.router_steps.specs.Payloads.{payloads}
@@ -23,8 +26,9 @@ use Rattle.router_durable.specs.declared.fault.Stop.{Stop}
 use Rattle.router_durable.specs.declared.fault.Stop.TheVariants as stops
 use Rattle.router_durable.specs.declared.fault.StepFault.{StepFault}
 use Rattle.router_durable.specs.declared.fault.StepFault.TheVariants as faults
+use Rattle.router_durable.specs.Anew.{is_anew}
 use Rattle.router_durable.specs.Choices.{AreReadAgain, written_format}
-use Rattle.router_durable.specs.Facts.{AreRead, Origin, base_of, records_since, RestartsIn, IsCrashSafe, HasRecords, HasRecordsOrMore, HasRoom, IsFullFor, IsFull}
+use Rattle.router_durable.specs.Facts.{AreRead, Origin, base_of, records_since, snapshot_on, RestartsIn, IsCrashSafe, HasRecords, HasRecordsOrMore, HasRoom, IsFullFor, IsFull}
 
 -- what contracts see of it
 pub record Held (D : Type 0) : Type 0 where
@@ -52,6 +56,13 @@ abbrev pub halted : Option Stop → Option Stop
 halted None = Some stops.NoMemory
 halted (Some stop) = Some stop
 
+-- a stop for want of room is lifted where the journal is compacted
+abbrev pub lifted : Option Stop → Option Stop
+lifted None = None
+lifted (Some stops.DiskFault) = Some stops.DiskFault
+lifted (Some (stops.Full length adding)) = None
+lifted (Some stops.NoMemory) = Some stops.NoMemory
+
 -- A stop has its cause. Want of memory is told by the caller.
 abbrev pub IsStopOf : Origin → ℕ → List Entry → DiskState → Option Stop → Type 0
 IsStopOf o limit history disk None = ⊤
@@ -68,8 +79,10 @@ pub record IsSound {D : Type 0} (j : View D) (disk : DiskState) (o : Origin) (hi
   pub legal : Legal (base_of o) history
   pub again : AreReadAgain (base_of o) (choices_of history)
   pub found : AreRead o.start o.found
+  pub based : state_of_snapshot written_format o.initial.deployment o.initial.program o.snapshot ≡ Some o.start
+  pub keepable : CanBeKept (base_of o)
   pub named : j.kept.head.deployment ≡ o.deployment
-  pub plain : j.kept.head.snapshot ≡ []
+  pub stands : j.kept.head.snapshot ≡ o.snapshot
   pub format : j.kept.head.format ≡ Two
   pub stage : is_down stop ≡ false → j.stage ≡ Ready
   -- what waits in the batch are the records that aren't acknowledged
@@ -80,9 +93,11 @@ pub record IsSound {D : Type 0} (j : View D) (disk : DiskState) (o : Origin) (hi
   pub seen : IsTrue o.told → is_down stop ≡ false → Keeps j.kept disk.seen
   -- nothing is pending
   pub rest : IsTrue o.told → is_down stop ≡ false → IsTrue (is_clean disk)
-  -- where the disk failed, it was writing the batch
-  pub left : IsTrue o.told → is_down stop ≡ true → (image : Sides) → disk.images image → HasRecordsOrMore o history acked image
+  -- where the disk failed, it was writing the batch, or the journal was compacted
+  pub whole : is_down stop ≡ false → o.torn ≡ false
+  pub left : IsTrue o.told → o.torn ≡ false → is_down stop ≡ true → (image : Sides) → disk.images image → HasRecordsOrMore o history acked image
   pub counted : IsTrue o.told → payloads_on o.counting ≡ o.found
+  pub text : IsTrue o.told → snapshot_on o.counting ≡ o.snapshot
   pub sized : IsTrue o.told → length o.counting ≡ size j.kept.head o.found
   pub safe : IsCrashSafe o history acked disk
   pub faults : o.faults ≤ disk.faults
@@ -142,13 +157,19 @@ pub record IsHeld {D : Type 0} (disk : DiskState) (h : Held D) : Type 0 where
   pub safe : IsCrashSafe h.origin h.history h.acked disk
   -- a stop has its cause
   pub cause : IsStopOf h.origin h.limit h.history disk h.stop
-  -- the side that counted when opening was done had the records that were found, and nothing behind them
+  -- the side that counted when opening was done had the snapshot for which that state stands and the records that were found, and
+  -- nothing behind them
+  pub based : state_of_snapshot written_format h.origin.initial.deployment h.origin.initial.program h.origin.snapshot ≡ Some h.origin.start
+  pub keepable : CanBeKept (base_of h.origin)
+  pub text : IsTrue h.origin.told → snapshot_on h.origin.counting ≡ h.origin.snapshot
   pub counted : IsTrue h.origin.told → payloads_on h.origin.counting ≡ h.origin.found
-  pub sized : IsTrue h.origin.told → length h.origin.counting ≡ SIDE_FRAME + length h.origin.deployment + records_size h.origin.found
+  pub sized : IsTrue h.origin.told → length h.origin.counting ≡ SIDE_FRAME + length h.origin.deployment + length h.origin.snapshot + records_size h.origin.found
   -- unless the disk failed, nothing is pending, the records are those of the acknowledged entries, and a restart of what is
-  -- read goes on from there
+  -- read goes on from there, from a side of the second format
   pub rest : IsTrue h.origin.told → is_down h.stop ≡ false → IsTrue (is_clean disk)
   pub records : IsTrue h.origin.told → is_down h.stop ≡ false → HasRecords h.origin h.history h.acked disk.seen
   pub again : IsTrue h.origin.told → is_down h.stop ≡ false → RestartsIn h.origin h.history h.acked disk.seen
+  pub current : IsTrue h.origin.told → is_down h.stop ≡ false → is_anew (recovered h.origin.deployment disk.seen) ≡ false
   -- a stop now leaves these records, or also those of the batch that was being written
-  pub batch : IsTrue h.origin.told → (image : Sides) → disk.images image → HasRecordsOrMore h.origin h.history h.acked image
+  pub whole : is_down h.stop ≡ false → h.origin.torn ≡ false
+  pub batch : IsTrue h.origin.told → h.origin.torn ≡ false → (image : Sides) → disk.images image → HasRecordsOrMore h.origin h.history h.acked image

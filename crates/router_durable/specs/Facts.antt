@@ -1,5 +1,5 @@
 -- What a router over a journal keeps of its disk, whatever happens.
-use Rattle.std.specs.Prelude.{◌≡◌, ◌⊎◌, ℕ, ◌+◌, ◌≤◌, ◌<◌, List, [], ◌++◌, length, take, map, if◌then◌else◌, Bool, IsTrue, Ok}
+use Rattle.std.specs.Prelude.{◌≡◌, ◌⊎◌, ℕ, ◌+◌, ◌≤◌, ◌<◌, List, [], ◌++◌, length, take, map, if◌then◌else◌, Bool, false, IsTrue, Ok}
 use mathlib.Core.List.{IsPrefix}
 use Rattle.slee_disk.specs.declared.side.Side.{Side}
 use Rattle.slee_disk.specs.Sides.{Sides, on}
@@ -7,7 +7,8 @@ use Rattle.slee_disk.specs.Disk.{DiskState, is_clean}
 use Rattle.commit_journal.specs.declared.record.Record.{Record}
 use Rattle.commit_journal.specs.declared.limits.TheConstants.{RECORD_FRAME}
 use Rattle.commit_journal.specs.Views.{payload_of}
-use Rattle.commit_journal.specs.Journal.{payloads_on}
+use Rattle.commit_journal.specs.Journal.{View, payloads_on}
+use Rattle.commit_journal.specs.Reading.{Front, Blank, NoHeader, Header, front}
 use Rattle.commit_journal.specs.Spelling.{records_size}
 use Rattle.deploy_model.specs.Resolving.{deployed_of}
 use Rattle.deploy_model.specs.declared.parts.Parts.{Parts}
@@ -34,39 +35,67 @@ pub record AreRead (s : State) (found : List (List ℕ)) : Type 0 where
 -- what a router was opened over, as plain data
 pub record Origin : Type 0 where
   -- the state of its deployment in which nothing has happened, and the bytes of the deployment's document
-  pub start : State
+  pub initial : State
   pub deployment : List ℕ
-  -- the payloads of the records that were found
+  -- the snapshot of the side that counted when opening was done, and the state for which it stands
+  pub snapshot : List ℕ
+  pub start : State
+  -- the payloads of the records behind it, and those that stood when opening began: they are others only where the journal was of
+  -- the first format
   pub found : List (List ℕ)
+  pub before : List (List ℕ)
   -- of the disk when opening began
   pub moment : ℕ
   pub faults : ℕ
   -- whether it told its bytes, and whether nothing was pending then besides
   pub told : Bool
   pub clean : Bool
-  -- of the side that counts, when opening was done; none where the disk doesn't tell them
+  -- of the side that counted when opening was done; none where the disk doesn't tell them
   pub counting : List ℕ
+  -- whether the disk failed while the journal was compacted
+  pub torn : Bool
 
 -- the bytes of a side, where the disk tells them, and none else
 abbrev pub told_on : Side → DiskState → List ℕ
 told_on side disk = if disk.told then on side disk.seen else []
 
--- what a router was opened over: the first state, the deployment's bytes, the disk before, the records that were found, and the bytes of the side that counts
-abbrev pub origin_over : State → List ℕ → DiskState → List (List ℕ) → List ℕ → Origin
-origin_over start deployment disk found counting = record {
-  start = start;
+-- the snapshot that stands on a side
+abbrev pub snapshot_in : Front → List ℕ
+snapshot_in Blank = []
+snapshot_in NoHeader = []
+snapshot_in (Header head bytes) = head.snapshot
+
+abbrev pub snapshot_on : List ℕ → List ℕ
+snapshot_on side = snapshot_in (front side)
+
+-- the same origin over this disk, of a router with this first state and these bytes of its deployment
+abbrev pub origin_over : State → List ℕ → DiskState → Origin → Origin
+origin_over first deployment disk o = record o {
+  initial = first;
   deployment = deployment;
-  found = found;
   moment = disk.moment;
   faults = disk.faults;
   told = disk.told;
   clean = is_clean disk;
-  counting = counting;
+  torn = false;
 }
 
--- the same, by the records of a journal
-abbrev pub origin_of : State → List ℕ → List Record → DiskState → List ℕ → Origin
-origin_of start deployment records disk counting = origin_over start deployment disk (map payload_of records) counting
+-- what stands since opening was done, by the journal then
+abbrev pub origin_of : {D : Type 0} → (D → DiskState) → State → List ℕ → D → List Record → State → View D → Bool → Origin
+origin_of state first deployment disk before start begun torn = record {
+  initial = first;
+  deployment = deployment;
+  snapshot = begun.kept.head.snapshot;
+  start = start;
+  found = map payload_of begun.records;
+  before = map payload_of before;
+  moment = (state disk).moment;
+  faults = (state disk).faults;
+  told = (state disk).told;
+  clean = is_clean (state disk);
+  counting = told_on begun.kept.side (state begun.disk);
+  torn = torn;
+}
 
 -- the state of a deployment in which nothing has happened
 abbrev pub initial_of : Parts → Codes → State
@@ -85,16 +114,22 @@ pub record RestartsIn (o : Origin) (history : List Entry) (least : ℕ) (image :
   pub part : List Entry
   pub front : IsPrefix part history
   pub some : least ≤ length part
-  pub state : restart (o.start) o.deployment image ≡ Ok (replay (base_of o) part)
+  pub state : restart o.initial o.deployment image ≡ Ok (replay (base_of o) part)
   pub records : records o.deployment image ≡ o.found ++ records_since o part
 
--- Stopped now, a restart is after the acknowledged entries at least; where nothing was pending when the opening began, it
--- is after some entries at any moment since.
+-- A restart has the state that was found, and the records are those that stood when opening began.
+pub record StandsBefore (o : Origin) (image : Sides) : Type 0 where
+  pub state : restart o.initial o.deployment image ≡ Ok (base_of o)
+  pub records : records o.deployment image ≡ o.before
+
+-- Stopped now, a restart is after the acknowledged entries at least; where nothing was pending when the opening began, it is after
+-- some entries at any moment since, or nothing was taken over yet. Where the disk failed in a compaction, its own contract says
+-- what it leaves.
 pub record IsCrashSafe (o : Origin) (history : List Entry) (acked : ℕ) (disk : DiskState) : Type 0 where
   pub told : IsTrue o.told → IsTrue disk.told
   pub later : IsTrue o.clean → o.moment ≤ disk.moment
-  pub since : IsTrue o.clean → (image : Sides) → disk.since o.moment image → RestartsIn o history 0 image
-  pub now : IsTrue o.told → (image : Sides) → disk.images image → RestartsIn o history acked image
+  pub since : IsTrue o.clean → o.torn ≡ false → (image : Sides) → disk.since o.moment image → RestartsIn o history 0 image ⊎ StandsBefore o image
+  pub now : IsTrue o.told → o.torn ≡ false → (image : Sides) → disk.images image → RestartsIn o history acked image
 
 -- the records are those that stood at the opening, and those of so many entries
 abbrev pub HasRecords : Origin → List Entry → ℕ → Sides → Type 0

@@ -41,8 +41,6 @@ pub enum OpenFault {
         kept_len: u64,
         first_difference: u64,
     },
-    /// Nothing is wrong with the journal, and the side that counts is of the first format, which isn't taken over yet.
-    FirstFormat,
     Full {
         length: u64,
         adding: u64,

@@ -1,6 +1,7 @@
 //! The router of a deployment over a journal: each step is kept before it counts, and what a restart recovers.
 #![tactic(auto)]
 
+mod compacting;
 mod dropping;
 mod fault;
 mod limits;

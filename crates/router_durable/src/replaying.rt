@@ -3,7 +3,11 @@ ghost use Rattle.std.specs.Prelude.{◌≡◌, ◌&&◌, None, Some, map, not, I
 ghost use Rattle.std.specs.Str.{bytes_eq};
 ghost use Rattle.commit_journal.specs.Spelling.{format_number};
 ghost use Rattle.commit_journal.specs.Views.{payload_of};
+ghost use Rattle.deploy_model.specs.Resolving.{deployed_of};
 ghost use Rattle.router_core.specs.States.{HasRoomFor, IsOwn};
+ghost use Rattle.router_laws_reading.specs.Holding.{CanHold};
+ghost use Rattle.router_state.specs.Restoring.{state_of_snapshot};
+ghost use Rattle.script_types.specs.ProgramOf.{kept_program};
 ghost use Rattle.slee_descriptor.specs.declared.deployment.Deployment.{Deployment as Served};
 ghost use Rattle.router_plans.specs.Plans.{IsPlanOf};
 ghost use Rattle.router_steps.specs.Histories.{is_choice};
@@ -12,19 +16,20 @@ ghost use Rattle.router_steps.specs.Steps.{after, is_enabled};
 ghost use Rattle.router_durable.specs.Choices.{after_all};
 ghost use Rattle.router_durable.specs.Facts.{initial_of};
 ghost use Rattle.router_durable.specs.Opening.{IsReplayCause};
-ghost use Rattle.router_durable.specs.Recovery.{after_if, choices_in, first_fault, kept_part, misfit, wrong_at, wrong_by};
-ghost use Rattle.router_durable.specs.Replaying.{IsMisfit, IsWrong, misfit_at, refusal_of};
+ghost use Rattle.router_durable.specs.Recovery.{after_if, choices_in, kept_part, misfit, past_on, wrong_at, wrong_by};
+ghost use Rattle.router_durable.specs.Replaying.{IsMisfit, IsWrong, Replays, misfit_at, refusal_of};
 
 use crate::OpenFault;
-use crate::dropping::{drop_choice, drop_entry, drop_plan, drop_state};
+use crate::dropping::{drop_choice, drop_entry};
 use crate::limits::{CLOCK_LEN, INPUT_FRAME};
 use crate::planning::{Planning, plan_any};
 use commit_journal::{Journal, JournalBad, Record};
-use router_core::{Plan, State};
+use router_core::{Plan, State, StateFault};
 use router_payloads::choice_in;
 use signal_script::LINE_LIMIT;
 use slee_descriptor::Deployment;
 use slee_disk::{Disk, Side};
+use std::snapshot::Snapshot;
 use trace_history::Choice;
 
 /// Why a payload isn't replayed.
@@ -133,10 +138,7 @@ fn replay_plan(
             drop_entry(state.apply(plan));
             Ok(())
         }
-        Err(fault) => {
-            drop_plan(plan);
-            Err(fault)
-        }
+        Err(fault) => Err(fault),
     }
 }
 
@@ -227,57 +229,63 @@ fn replay_all(
     Ok(())
 }
 
-/// Makes the steps of all records that a journal was opened with. It may have no snapshot. A side of the first format is
-/// only read: nothing may be added to it, and no snapshot can yet be written that would stand for its records.
-fn replay<D: Disk>(
-    planning: Planning<'_>,
-    journal: &Journal<D>,
-    state: &mut State,
-) -> Result<(), OpenFault>
-    requires own { IsOwn planning.deployment.now state.old.state }
-    ensures fits { OnOk result (first_fault state.old.state journal.now.kept.side journal.now.kept.head.format journal.now.kept.head.snapshot journal.now.records ≡ None) }
-    ensures state { OnOk result (state.new.state ≡ after_all state.old.state (choices_in (format_number journal.now.kept.head.format) (map payload_of journal.now.records))) }
-    ensures own { OnOk result (IsOwn planning.entry.deployment.now state.new.state) }
-    ensures bad { IfErr result (λ e. IsReplayCause (first_fault state.old.state journal.now.kept.side journal.now.kept.head.format journal.now.kept.head.snapshot journal.now.records) e) }
+/// The state for which the snapshot of a journal stands.
+fn started<D: Disk>(planning: Planning<'_>, journal: &Journal<D>) -> Result<State, OpenFault>
+    requires own { IsOwn planning.deployment.now (initial_of planning.deployment.now.parts planning.deployment.now.codes) }
+    requires held { CanHold (deployed_of planning.deployment.now.parts) }
+    ensures started { IfOk result (λ s. state_of_snapshot (format_number journal.now.kept.head.format) (deployed_of planning.entry.deployment.now.parts) (kept_program planning.entry.deployment.now.codes) journal.now.kept.head.snapshot ≡ Some s.state) }
+    ensures own { IfOk result (λ s. IsOwn planning.entry.deployment.now s.state) }
+    ensures bad { IfErr result (λ e. IsReplayCause (past_on (initial_of planning.entry.deployment.now.parts planning.entry.deployment.now.codes) journal.now.kept.side journal.now.kept.head journal.now.records) e) }
 {
-    let side = journal.side();
-    if !journal.snapshot().is_empty() {
-        return Err(OpenFault::BadJournal {
-            side,
+    let Planning {
+        alloc,
+        deployment,
+        ..
+    } = planning;
+    let snapshot = journal.snapshot();
+    if snapshot.is_empty() {
+        return match State::initial(alloc, deployment) {
+            Ok(state) => Ok(state),
+            Err(_) => Err(OpenFault::NoMemory),
+        };
+    }
+    match State::from_bytes(alloc, deployment, journal.format(), snapshot) {
+        Ok(state) => Ok(state),
+        Err(StateFault::Bad) => Err(OpenFault::BadJournal {
+            side: journal.side(),
             at: 0,
             kind: JournalBad::Snapshot,
-        });
+        }),
+        Err(StateFault::NoMemory) => Err(OpenFault::NoMemory),
     }
-    let format = journal.format();
-    match replay_all(planning, format, journal.records(), state) {
-        Ok(()) => {}
-        Err(fault) => return Err(refusal_of(side, fault)),
-    }
-    if format != 2 {
-        return Err(OpenFault::FirstFormat);
-    }
-    Ok(())
 }
 
-/// The state after all records that a journal was opened with, or why they aren't replayed.
+/// What a journal stands for: the state on which its records follow, and the one behind them.
+#[derive(Drop)]
+pub(crate) struct Restored {
+    pub start: Snapshot<State>,
+    pub state: State,
+}
+
+/// Makes the steps of all records that a journal was opened with, from the state for which its snapshot stands, or tells why that
+/// can't be.
 pub(crate) fn replayed<D: Disk>(
     planning: Planning<'_>,
     journal: &Journal<D>,
-) -> Result<State, OpenFault>
+) -> Result<Restored, OpenFault>
     requires own { IsOwn planning.deployment.now (initial_of planning.deployment.now.parts planning.deployment.now.codes) }
-    ensures fits { IfOk result (λ s. first_fault (initial_of planning.entry.deployment.now.parts planning.entry.deployment.now.codes) journal.now.kept.side journal.now.kept.head.format journal.now.kept.head.snapshot journal.now.records ≡ None) }
-    ensures state { IfOk result (λ s. s.state ≡ after_all (initial_of planning.entry.deployment.now.parts planning.entry.deployment.now.codes) (choices_in (format_number journal.now.kept.head.format) (map payload_of journal.now.records))) }
-    ensures own { IfOk result (λ s. IsOwn planning.entry.deployment.now s.state) }
-    ensures bad { IfErr result (λ e. IsReplayCause (first_fault (initial_of planning.entry.deployment.now.parts planning.entry.deployment.now.codes) journal.now.kept.side journal.now.kept.head.format journal.now.kept.head.snapshot journal.now.records) e) }
+    requires held { CanHold (deployed_of planning.deployment.now.parts) }
+    ensures ok { IfOk result (λ r. Replays (deployed_of planning.entry.deployment.now.parts) (kept_program planning.entry.deployment.now.codes) journal.now.kept.head journal.now.records r.start.value.state r.state.state) }
+    ensures own { IfOk result (λ r. IsOwn planning.entry.deployment.now r.state.state) }
+    ensures bad { IfErr result (λ e. IsReplayCause (past_on (initial_of planning.entry.deployment.now.parts planning.entry.deployment.now.codes) journal.now.kept.side journal.now.kept.head journal.now.records) e) }
 {
-    let Ok(mut state) = State::initial(planning.alloc, planning.deployment) else {
-        return Err(OpenFault::NoMemory);
+    let mut state = match started(planning, journal) {
+        Ok(state) => state,
+        Err(fault) => return Err(fault),
     };
-    match replay(planning, journal, &mut state) {
-        Ok(()) => Ok(state),
-        Err(fault) => {
-            drop_state(state);
-            Err(fault)
-        }
+    let start = Snapshot::of(&state);
+    match replay_all(planning, journal.format(), journal.records(), &mut state) {
+        Ok(()) => Ok(Restored { start, state }),
+        Err(fault) => Err(refusal_of(journal.side(), fault)),
     }
 }

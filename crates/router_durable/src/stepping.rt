@@ -4,7 +4,7 @@ ghost use Rattle.router_core.specs.States.{HasRoomFor, IsOwn};
 ghost use Rattle.router_plans.specs.Plans.{IsPlanOf};
 ghost use Rattle.trace_history.specs.Views.{HasRoomForLines};
 
-use crate::dropping::{drop_history, drop_plan, drop_state};
+use crate::dropping::drop_history;
 use crate::{BATCH_LIMIT, StepFault, Stop};
 use commit_journal::{Journal, SideFull};
 use initial_select::Selectors;
@@ -30,15 +30,20 @@ pub struct Core<'d, D: Disk> {
     pub(crate) history: History,
     pub(crate) acked: u64,
     pub(crate) stop: Option<Stop>,
-    // The disk before the opening, and the journal behind it.
+    // The disk before the opening, the journal as it was read, and the one behind the opening with the state on which its records
+    // follow. A compaction is an opening of its own.
     pub(crate) opened: Snapshot<D>,
+    pub(crate) read: Snapshot<Journal<D>>,
     pub(crate) begun: Snapshot<Journal<D>>,
+    pub(crate) start: Snapshot<State>,
+    /// Whether the disk failed in a compaction.
+    pub(crate) torn: bool,
 }
 
 impl<'d, D: Disk> Model for Core<'d, D> {
     ghost use Rattle.std.specs.Coded.{codes};
     ghost use Rattle.script_types.specs.ProgramCode.{term_code, steps_code};
-    ghost use Rattle.router_durable.specs.Facts.{initial_of, origin_of, told_on};
+    ghost use Rattle.router_durable.specs.Facts.{initial_of, origin_of};
     ghost use Rattle.router_durable.specs.Core.{Held, IsSoundWith};
 
     ghost Value = { Held D };
@@ -47,7 +52,7 @@ impl<'d, D: Disk> Model for Core<'d, D> {
 
     ghost view = { λ c. record {
       disk = c.journal.disk;
-      origin = origin_of (initial_of c.deployment.now.parts c.deployment.now.codes) c.bytes.now c.begun.value.records (D.disk c.opened.value) (told_on c.begun.value.kept.side (D.disk c.begun.value.disk));
+      origin = origin_of D.disk (initial_of c.deployment.now.parts c.deployment.now.codes) c.bytes.now c.opened.value c.read.value.records c.start.value.state c.begun.value c.torn;
       limit = c.journal.limit;
       history = c.history.entries;
       acked = c.acked;
@@ -55,7 +60,7 @@ impl<'d, D: Disk> Model for Core<'d, D> {
     } };
 
     ghost invariant = { λ c. IsSoundWith c.journal (D.disk c.journal.disk)
-        (origin_of (initial_of c.deployment.now.parts c.deployment.now.codes) c.bytes.now c.begun.value.records (D.disk c.opened.value) (told_on c.begun.value.kept.side (D.disk c.begun.value.disk)))
+        (origin_of D.disk (initial_of c.deployment.now.parts c.deployment.now.codes) c.bytes.now c.opened.value c.read.value.records c.start.value.state c.begun.value c.torn)
         c.history.entries c.acked c.stop c.deployment.now c.state.state };
 }
 
@@ -80,17 +85,14 @@ impl<'d, D: Disk> Core<'d, D> {
         match self.journal.check_room(plan.payload().len()) {
             Ok(()) => {}
             Err(SideFull { length, adding }) => {
-                drop_plan(plan);
                 self.stop = Some(Stop::Full { length, adding });
                 return Err(StepFault::Full { length, adding });
             }
         }
         let Ok(()) = reserve(&mut self.state, &mut self.history, &plan) else {
-            drop_plan(plan);
             return Err(StepFault::NoMemory);
         };
         let Ok(()) = self.journal.push(plan.payload()) else {
-            drop_plan(plan);
             return Err(StepFault::NoMemory);
         };
         let entry = self.state.apply(plan);
@@ -111,6 +113,7 @@ impl<'d, D: Disk> Core<'d, D> {
         requires live { self.old.stop ≡ None }
         requires made { IsPlanOf (state_held self.old) plan.choice plan }
         requires safe { IsCrashSafe self.old.origin self.old.history self.old.acked (D.disk self.old.disk) }
+        requires whole { self.old.origin.torn ≡ false }
         ensures { Makes (D.disk self.old.disk) (D.disk self.new.disk) self.old plan.choice result self.new }
     {
         match self.add(plan) {
@@ -213,7 +216,7 @@ impl<'d, D: Disk> Core<'d, D> {
 
     /// The deployment that it serves.
     pub fn deployment(&self) -> &'d Deployment
-        ensures start { initial_of result.now.parts result.now.codes ≡ self.now.origin.start }
+        ensures start { initial_of result.now.parts result.now.codes ≡ self.now.origin.initial }
         ensures own { IsOwn result.now (state_held self.now) }
     {
         self.deployment
@@ -225,6 +228,13 @@ impl<'d, D: Disk> Core<'d, D> {
         ensures safe { IsCrashSafe self.now.origin self.now.history self.now.acked (D.disk self.now.disk) }
     {
         &self.history
+    }
+
+    /// What is known of it, whatever was done with it.
+    pub fn held(&self)
+        ensures { IsHeld (D.disk self.now.disk) self.now }
+    {
+        let _history = &self.history;
     }
 
     /// How many entries there are since the opening.
@@ -259,14 +269,16 @@ impl<'d, D: Disk> Core<'d, D> {
             journal,
             deployment: _,
             bytes: _,
-            state,
+            state: _,
             history,
             acked: _,
             stop: _,
             opened: _,
+            read: _,
             begun: _,
+            start: _,
+            torn: _,
         } = self;
-        drop_state(state);
         drop_history(history);
         journal.into_disk()
     }

@@ -3,6 +3,7 @@ use Rattle.slee_disk.proofs.Moments.{tells, leaves_what, leaves_then, on_ok, cle
 use Rattle.commit_journal.specs.Gate.{IsOpened}
 use Rattle.commit_journal.specs.Rewriting.{IsRewritten}
 use Rattle.commit_journal.proofs.Blanks.{closed_rewritten, written_rewritten}
+use Rattle.commit_journal.proofs.Pending.{leaves_more}
 use Rattle.commit_journal.proofs.blank.rewrite_side.Goals as goal
 
 pub write_side-requires : goal.write_side-requires
@@ -26,3 +27,6 @@ pub returns-clause-opened : goal.returns-clause-opened
 returns-clause-opened g c told =
     on_ok c.write_side.result _ _ (c.write_side.ensures.opened (tells _ _ c.close_side.ensures.told told)) (λ opened.
     subst (λ (l : List ℕ). IsOpened c.args.side [] c.args.bytes.now l (g.D.Disk.disk c.write_side.new.disk).seen) (c.in_ok-close_side.ensures.blank told).elsewhere opened)
+
+pub returns-clause-stays : goal.returns-clause-stays
+returns-clause-stays g c = leaves_more c.args.side 0 _ _ _ c.close_side.ensures.stays c.write_side.ensures.stays

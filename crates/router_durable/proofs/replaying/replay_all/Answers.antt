@@ -2,7 +2,7 @@ use Rattle.std.proofs.Common.{sym, subst}
 use Rattle.router_durable.specs.Recovery.{misfit}
 use Rattle.router_durable.specs.Replaying.{IsMisfit}
 use Rattle.router_durable.specs.declared.replaying.ReplayFault.{ReplayFault}
-use Rattle.router_durable.proofs.Opens.{next_misfit, next_state, missed}
+use Rattle.router_durable.proofs.Replays.{next_misfit, next_state, missed}
 use Rattle.router_durable.proofs.replaying.replay_all.Goals as goal
 
 pub loop-record-preserved : goal.loop-record-preserved

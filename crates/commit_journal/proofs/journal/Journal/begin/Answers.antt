@@ -2,7 +2,7 @@ use Rattle.std.proofs.Common.{◌≡◌, inl, inr, ap, sym, refl, ◌∙◌, sub
 use Rattle.slee_disk.proofs.Moments.{leaves_what, clean_told}
 use Rattle.commit_journal.specs.declared.format.Format.TheVariants.{Two}
 use Rattle.commit_journal.specs.declared.stage.Stage.{Stage}
-use Rattle.commit_journal.specs.Spelling.{Head, header, size}
+use Rattle.commit_journal.specs.Spelling.{header, size}
 use Rattle.commit_journal.specs.Kept.{StandsOrBegun}
 use Rattle.commit_journal.specs.Journal.{kept_by, IsSound}
 use Rattle.commit_journal.proofs.Sound.{runs, sound_seen}

@@ -13,6 +13,7 @@ returns-in-Ok-find-clause-opened g c = record {
   running = fresh_runs c.in-Ok-find.found.stage c.in-Ok-find.ensures.fresh;
   empty = c.in-Ok.ensures;
   named = c.in-Ok-find.ensures.named;
+  plain = λ blank. (c.in-Ok-find.ensures.first blank).0;
   limited = refl;
 }
 

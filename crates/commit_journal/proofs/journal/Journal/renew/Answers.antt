@@ -1,11 +1,13 @@
-use Rattle.std.proofs.Common.{◌≡◌, ◌≢◌, IsTrue, ap, sym, refl, ◌∙◌, subst, List, ℕ, []}
+use Rattle.std.proofs.Common.{◌≡◌, ◌≢◌, ap, sym, ◌∙◌, subst, List, ℕ, []}
 use Rattle.slee_disk.specs.Disk.{LeavesOnly}
 use Rattle.slee_disk.proofs.Moments.{clean_told, on_ok, tells}
 use Rattle.commit_journal.specs.declared.stage.Stage.TheVariants.{Ready}
-use Rattle.commit_journal.specs.Kept.{StandsOrRenewed}
+use Rattle.commit_journal.specs.Beginning.{MayLeave}
+use Rattle.commit_journal.specs.Kept.{StandsOrRenewed, side_renewed}
 use Rattle.commit_journal.specs.Journal.{IsRenewed, GoesOn}
 use Rattle.commit_journal.proofs.Sound.{runs, sound_seen, ready_if, nothing_done}
 use Rattle.commit_journal.proofs.Recovers.{if_ok}
+use Rattle.commit_journal.proofs.Pending.{leaves_itself}
 use Rattle.commit_journal.proofs.Renewals.{moved, renewed_idle, goes_through}
 use Rattle.commit_journal.proofs.Bytes.{renewed_through}
 use Rattle.commit_journal.proofs.journal.Journal.renew.Goals as goal
@@ -63,3 +65,18 @@ returns-clause-goes_on g c =
     if_ok c.switch.result _ _ c.switch.ensures.goes_on (λ n goes.
     goes_through c.args.self.now c.flush.new.self c.switch.new.self c.args.snapshot.now n c.in_ok-flush.ensures.ok.0 c.flush.ensures.still
     (subst (λ (l : List ℕ). GoesOn c.flush.new.self l c.switch.new.self n) c.in_ok-kept.ensures goes))
+
+pub returns-in_err-bytes-clause-stays : goal.returns-in_err-bytes-clause-stays
+returns-in_err-bytes-clause-stays g c = rw (← c.self.view_is) (λ none. leaves_itself _ 0 _ _ (λ image now. now))
+
+pub returns-in_err-kept-clause-stays : goal.returns-in_err-kept-clause-stays
+returns-in_err-kept-clause-stays g c = rw (← c.self.view_is) (λ none. leaves_itself _ 0 _ _ (λ image now. now))
+
+pub returns-in_err-flush-clause-stays : goal.returns-in_err-flush-clause-stays
+returns-in_err-flush-clause-stays g c none =
+    let same = (c.flush.ensures.idle none).0 in
+    leaves_itself _ 0 _ _ (λ image now. subst (λ v. (g.D.Disk.disk v.disk).images image) same now)
+
+pub returns-clause-stays : goal.returns-clause-stays
+returns-clause-stays g c none =
+    subst (λ v. MayLeave (side_renewed v.stage v.kept.side) 0 (g.D.Disk.disk v.disk) (g.D.Disk.disk c.switch.new.self.disk)) (c.flush.ensures.idle none).0 c.switch.ensures.stays

@@ -7,6 +7,7 @@ use Rattle.commit_journal.specs.Spelling.{header, size}
 use Rattle.commit_journal.specs.Gate.{IsOpened}
 use Rattle.commit_journal.specs.Rewriting.{IsRewritten}
 use Rattle.commit_journal.specs.Kept.{renewed, side_renewed, generation_renewed}
+use Rattle.commit_journal.specs.Beginning.{MayLeave}
 use Rattle.commit_journal.specs.Journal.{kept_by}
 use Rattle.commit_journal.proofs.Sound.{runs}
 use Rattle.commit_journal.proofs.Renewals.{moved, new_head_fits, switched_stands, switched_sound, switched_durable, switched_kept, switched_leaves, view_kept}
@@ -47,7 +48,7 @@ returns-in-Ok-clause-renewed g c =
     rw (← c.self.view_is) (λ told.
     let stands = switched_stands c.self.inside.stage kept c.self.inside.end c.self.inside.batch c.self.inside.limit old c.self.invariant running c.args.snapshot c.args.bytes.now fits bound is new c.rewrite_side.ensures.told opened told in
     record {
-      same = view_kept _ _ _ _ [] _ _ _ (switched_kept c.self.inside.stage kept c.self.inside.end c.self.inside.batch c.self.inside.limit old c.self.invariant running c.args.snapshot c.args.bytes.now fits bound is new c.rewrite_side.ensures.told opened _ _ side generation told) none;
+      same = view_kept _ _ _ _ [] _ _ [] _ (switched_kept c.self.inside.stage kept c.self.inside.end c.self.inside.batch c.self.inside.limit old c.self.invariant running c.args.snapshot c.args.bytes.now fits bound is new c.rewrite_side.ensures.told opened _ _ side generation told) none c.clear.ensures.items;
       durable = switched_durable c.self.inside.stage kept c.self.inside.end c.self.inside.batch c.self.inside.limit old c.self.invariant running c.args.snapshot c.args.bytes.now fits bound is new c.rewrite_side.ensures.told opened _ _ side generation told (c.in-Ok.ensures.rest told);
       written = written_renewed c.self.inside.stage kept c.args.snapshot _ _ new side generation (written_on after (length c.args.bytes.now) new stands (spelled_here after.side after.head c.args.bytes.now fit is _ (opened told).here));
       beside = λ _. (opened told).elsewhere;
@@ -81,3 +82,13 @@ returns-in-Err-clause-any_moment g c =
     let bound : generation_renewed c.self.inside.stage c.self.inside.generation < 2 ^ 64 = omega (arith, generation) in
     rw (← c.self.view_is) (λ clean. switched_leaves c.self.inside.stage kept c.self.inside.end c.self.inside.batch c.self.inside.limit old c.self.invariant running c.args.snapshot c.args.bytes.now fits bound is new (clean_told old clean)
     (subst (λ (s : Side). LeavesOnly old new (IsRewritten s c.args.bytes.now old.seen)) side (c.rewrite_side.ensures.any_moment clean)))
+
+pub returns-in-Ok-clause-stays : goal.returns-in-Ok-clause-stays
+returns-in-Ok-clause-stays g c =
+    let side = moved _ _ (λ v. c.next_side-side.result.0 ≡ side_renewed v.stage v.kept.side) c.self.view_is c.next_side-side.ensures.side in
+    rw (← c.self.view_is) (subst (λ (s : Side). MayLeave s 0 (g.D.Disk.disk c.self.inside.disk) (g.D.Disk.disk c.rewrite_side.new.disk)) side c.rewrite_side.ensures.stays)
+
+pub returns-in-Err-clause-stays : goal.returns-in-Err-clause-stays
+returns-in-Err-clause-stays g c =
+    let side = moved _ _ (λ v. c.next_side-side.result.0 ≡ side_renewed v.stage v.kept.side) c.self.view_is c.next_side-side.ensures.side in
+    rw (← c.self.view_is) (subst (λ (s : Side). MayLeave s 0 (g.D.Disk.disk c.self.inside.disk) (g.D.Disk.disk c.rewrite_side.new.disk)) side c.rewrite_side.ensures.stays)

@@ -1,0 +1,10 @@
+pub mod DistinctLemmas
+pub mod NumberLemmas
+pub mod TopLemmas
+pub mod HeldLemmas
+pub mod ClosedLemmas
+pub mod SeenLemmas
+pub mod DifferLemmas
+pub mod UniqueLemmas
+pub mod RegroupLemmas
+pub mod WellLemmas
