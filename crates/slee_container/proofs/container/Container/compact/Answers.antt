@@ -1,4 +1,4 @@
-use Rattle.std.proofs.Common.{◌≡◌, ◌∙◌, ap, sym, subst, false}
+use Rattle.std.proofs.Common.{◌∙◌, ap, refl}
 use Rattle.router_durable.specs.Core.{is_down}
 use Rattle.slee_container.specs.Turns.{setup_over}
 use Rattle.slee_container.proofs.Compacted.{compacts, steady_compacted}
@@ -26,4 +26,4 @@ invariant_of-self g c =
 pub returns : goal.returns
 returns g c =
     let s = c.self.inside in
-    compacts g.D.Disk.disk s.core c.compact.new.self c.compact.result s.lines.now s.skipped s.taken s.steps s.claims.items _ _ c.self.view_is c.self.view_will c.compact.ensures
+    compacts g.D.Disk.disk s.core c.compact.new.self c.compact.result s.lines.now s.skipped s.taken s.steps s.claims.items _ _ c.self.view_is refl c.compact.ensures
