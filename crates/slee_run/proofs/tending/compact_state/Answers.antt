@@ -1,4 +1,3 @@
-use Rattle.std.proofs.Common.{Err, Ok, sym, subst}
 use Rattle.slee_run.proofs.AnswerLemmas.{compacted_out, renewal_out, renewal_unwritten}
 use Rattle.slee_run.proofs.tending.compact_state.Goals as goal
 

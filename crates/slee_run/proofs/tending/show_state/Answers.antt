@@ -1,4 +1,4 @@
-use Rattle.std.proofs.Common.{inl, inr, refl}
+use Rattle.std.proofs.Common.{inl, refl}
 use Rattle.slee_run.specs.Status.{status_line}
 use Rattle.slee_run.specs.declared.status.Status.TheVariants as statuses
 use Rattle.slee_run.proofs.AnswerLemmas.{written_then, written_front}
