@@ -1,0 +1,74 @@
+-- A deployment that was read is the router's own; lines that are left; what a commit keeps.
+use Rattle.std.proofs.Common.{◌≡◌, ℕ, ◌<◌, ◌+◌, zero, suc, List, [], ◌∷◌, length, slice_get, refl, sym, ap, arith, Some, None, Option, Result, Ok, Err, IsTrue}
+use Rattle.std.specs.Prelude.{IsSome}
+use Rattle.script_types.specs.Program.{Program}
+use Rattle.script_types.specs.ProgramOf.{IsChecked, kept_program}
+use Rattle.script_types.specs.declared.codes.Codes.{Codes}
+use Rattle.signal_script.specs.declared.signal.Signal.{Signal}
+use Rattle.slee_disk.specs.Disk.{DiskState}
+use Rattle.deploy_model.specs.declared.parts.Parts.{Parts}
+use Rattle.slee_descriptor.specs.declared.deployment.Deployment.{Deployment}
+use Rattle.deploy_json.specs.Checking.{reading_of, read_as}
+use Rattle.handler_run.specs.Views.{conflict}
+use Rattle.router_core.specs.States.{IsOwn}
+use Rattle.router_durable.specs.Facts.{initial_of}
+use Rattle.router_laws_deployed.proofs.Declared.{declared_rise}
+use Rattle.router_laws_deployed.proofs.Readings.{reading_parts}
+use Rattle.router_state.specs.Look.{look}
+use Rattle.router_state.specs.Next.{next}
+use Rattle.router_state.specs.State.{State}
+use Rattle.router_state.specs.declared.kindred.Kindred.TheVariants as kindreds
+use Rattle.router_steps.specs.Steps.{is_next}
+use Rattle.slee_value.specs.declared.ids.ActivityId.{ActivityId}
+use Rattle.trace_history.specs.declared.choice.Choice.TheVariants as choices
+use Rattle.tx_attempt.specs.declared.attempt.Attempt.{Attempt}
+use Rattle.tx_attempt.specs.declared.ticket.Ticket.{Ticket}
+use Rattle.slee_container.specs.Container.{View, state_of}
+use Rattle.slee_container.specs.Steps.{Commits}
+use Rattle.slee_container.specs.declared.fault.CommitFault.{CommitFault}
+use Rattle.slee_container.specs.declared.fault.CommitFault.TheVariants as refusals
+use Rattle.test_container.specs.Conflicts.{IsConflict}
+
+pub own_read : (bytes : List ℕ) (d : Deployment) → reading_of bytes ≡ Ok (read_as d) → IsChecked d.codes → IsOwn d (initial_of d.parts d.codes)
+own_read bytes d read checked = record {
+  deployed = record { parts = refl; program = refl; checked = checked };
+  order = declared_rise bytes d.parts (reading_parts bytes d read);
+}
+
+-- the next line
+pub record IsNextLine (lines : List Signal) (n : ℕ) : Type 0 where
+  pub signal : Signal
+  pub at : slice_get lines n ≡ Some signal
+
+pub next_line : (lines : List Signal) (n : ℕ) → n < length lines → IsNextLine lines n
+next_line [] n lt = absurd (omega (arith, lt))
+next_line (x ∷ xs) zero lt = record { signal = x; at = refl }
+next_line (x ∷ xs) (suc n) lt = behind (next_line xs n (omega (arith, lt)))
+  where
+    behind : IsNextLine xs n → IsNextLine (x ∷ xs) (suc n)
+    behind more = record { signal = more.signal; at = more.at }
+
+-- the choice that is next on an activity may be made
+pub initial_next : (s : State) (a : ActivityId) → next s a.0 ≡ Some kindreds.Initial → IsTrue (is_next s (choices.Initial a))
+initial_next s a is = rw is refl
+
+-- the program of a deployment with this start
+pub program_is : (start : State) (parts : Parts) (codes : Codes) → initial_of parts codes ≡ start → kept_program codes ≡ start.program
+program_is start parts codes is = ap (λ (s : State). s.program) is
+
+-- what a commit keeps, and what its refusal for a conflict tells
+module _ {D : Type 0} (v w : View D) (t : Ticket) (a : Attempt) (before after : DiskState) where
+  pub commit_setup : (r : Result ℕ CommitFault) → Commits before after v t a r w → w.setup ≡ v.setup
+  commit_setup (Ok n) c = c.2.made.setup
+  commit_setup (Err (refusals.Conflict key saw found)) c = ap (λ u. u.setup) c.0
+  commit_setup (Err refusals.DiskFault) c = c.2.made.setup
+  commit_setup (Err (refusals.Full size adding)) c = c.1.made.setup
+  commit_setup (Err refusals.Spent) c = ap (λ u. u.setup) c.0
+  commit_setup (Err refusals.NoMemory) c = ap (λ u. u.setup) c.0
+
+  pub commit_conflicts : (f : CommitFault) → Commits before after v t a (Err f) w → IsConflict f → IsSome (conflict (look (state_of w)) a.known)
+  commit_conflicts (refusals.Conflict key saw found) c is = rw (c.0, c.1) refl
+  commit_conflicts refusals.DiskFault c is = absurd is
+  commit_conflicts (refusals.Full size adding) c is = absurd is
+  commit_conflicts refusals.Spent c is = absurd is
+  commit_conflicts refusals.NoMemory c is = absurd is
