@@ -105,7 +105,7 @@ fn commit<'d, D: Disk>(
     attempt: &Attempt,
 ) -> Result<u64, CommitFault>
     requires of { IsAttemptOf ticket.now attempt.now }
-    requires done { IsDone container.old.setup.origin.start.program attempt.now }
+    requires done { IsDone container.old.setup.origin.initial.program attempt.now }
     ensures setup { container.new.setup ≡ container.old.setup }
     ensures conflict { IfErr result (λ fault. IsConflict fault → IsSome (conflict (look (state_of container.new)) attempt.now.known)) }
 {
@@ -126,7 +126,7 @@ fn redo<'d, D: Disk>(
     attempt: &Attempt,
 ) -> Result<u64, NoMemory>
     requires of { IsAttemptOf ticket.now attempt.now }
-    requires done { IsDone container.old.setup.origin.start.program attempt.now }
+    requires done { IsDone container.old.setup.origin.initial.program attempt.now }
     requires conflict { IsSome (conflict (look (state_of container.old)) attempt.now.known) }
 {
     match container.stop() {
@@ -165,7 +165,7 @@ fn redo_at<'d, D: Disk>(
     key: &Key,
 ) -> Result<(u64, i64), NoMemory>
     requires of { IsAttemptOf ticket.now attempt.now }
-    requires done { IsDone container.old.setup.origin.start.program attempt.now }
+    requires done { IsDone container.old.setup.origin.initial.program attempt.now }
     requires conflict { IsSome (conflict (look (state_of container.old)) attempt.now.known) }
 {
     let entry = redo(container, ticket, attempt)?;
@@ -180,7 +180,7 @@ fn settle_anew<'d, D: Disk>(
     attempt: &Attempt,
 ) -> Result<Anew, NoMemory>
     requires of { IsAttemptOf ticket.now attempt.now }
-    requires done { IsDone container.old.setup.origin.start.program attempt.now }
+    requires done { IsDone container.old.setup.origin.initial.program attempt.now }
 {
     match commit(container, ticket, attempt) {
         Err(CommitFault::Conflict { key, saw, found }) => {
@@ -237,9 +237,9 @@ fn settle<'d, D: Disk>(
     asked: (Asked, Asked),
 ) -> Result<Settled, NoMemory>
     requires of { IsAttemptOf first.0.now first.1.now }
-    requires done { IsDone container.old.setup.origin.start.program first.1.now }
+    requires done { IsDone container.old.setup.origin.initial.program first.1.now }
     requires second_of { IsAttemptOf second.0.now second.1.now }
-    requires second_done { IsDone container.old.setup.origin.start.program second.1.now }
+    requires second_done { IsDone container.old.setup.origin.initial.program second.1.now }
 {
     let entry = entry_of(commit(container, second.0, second.1))?;
     let anew = settle_anew(container, first.0, first.1)?;
@@ -261,7 +261,7 @@ fn settle_tried<'d, D: Disk>(
     second: &Ticket,
 ) -> Result<Settled, NoMemory>
     requires of { IsAttemptOf first.0.now first.1.now }
-    requires done { IsDone container.old.setup.origin.start.program first.1.now }
+    requires done { IsDone container.old.setup.origin.initial.program first.1.now }
 {
     match tried(alloc, container, second) {
         Ok((attempt, asked)) => {

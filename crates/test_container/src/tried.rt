@@ -150,7 +150,7 @@ pub fn tried<'d, D: Disk>(
     ticket: &Ticket,
 ) -> Result<(Attempt, Asked), NoMemory>
     ensures of { IfOk result (λ tried. IsAttemptOf ticket.now tried.0) }
-    ensures done { IfOk result (λ tried. IsDone container.now.setup.origin.start.program tried.0) }
+    ensures done { IfOk result (λ tried. IsDone container.now.setup.origin.initial.program tried.0) }
 {
     let deployment = container.deployment();
     if !handles(deployment.codes(), ticket.block, &ticket.event.name) {
