@@ -1,5 +1,5 @@
 //! A container over a disk in memory, on four lines of a service that counts its hits.
-ghost use Rattle.std.specs.Prelude.{◌≡◌, Ok, IfOk, length};
+ghost use Rattle.std.specs.Prelude.{◌≡◌, ◌<◌, ◌^◌, Ok, IfOk, length};
 ghost use Rattle.deploy_json.specs.Checking.{read_as, reading_of};
 ghost use Rattle.script_types.specs.ProgramOf.{IsChecked};
 
@@ -22,6 +22,9 @@ const DEPLOYMENT: &str = r#"{"events":[{"key":"hit","name":"Hit","vendor":"t","v
 "blocks":[{"key":"b","name":"B","vendor":"t","version":"1","fields":{"n":"int"},"events":[{"event":"hit","initial":[],"on":"self.n = self.n + 1;"}]}],
 "services":[{"key":"s","name":"S","vendor":"t","version":"1","root":"b","active":true}]}"#;
 
+// More bytes than the document has.
+const DOCUMENT_LIMIT: usize = 1024;
+
 // More entries than the tests make.
 const STEPS: u64 = 100;
 
@@ -42,7 +45,7 @@ enum Told {
 }
 
 // A container with all lines before it.
-#[tactic(auto, using(crate::proofs::Facts::own_read))]
+#[tactic(auto, using(crate::proofs::Facts::own_read, crate::proofs::Facts::keepable))]
 fn opened<'d>(
     alloc: Global,
     deployment: &'d Deployment,
@@ -52,6 +55,7 @@ fn opened<'d>(
 ) -> Result<Container<'d, MemoryDisk>, NoMemory>
     requires read { reading_of bytes.now ≡ Ok (read_as deployment.now) }
     requires checked { IsChecked deployment.now.codes }
+    requires short { length bytes.now < 2 ^ 32 }
     ensures lines { IfOk result (λ c. c.setup.lines ≡ lines.now) }
     ensures taken { IfOk result (λ c. c.taken ≡ 0) }
 {
@@ -91,9 +95,7 @@ fn done_with<'d>(
 {
     match doing {
         Doing::Lines => Ok(Told::Lines(take_in_a_row(alloc, container)?)),
-        Doing::Tickets => Ok(Told::Tickets(settle_side_by_side(
-            alloc, container, selectors,
-        )?)),
+        Doing::Tickets => Ok(Told::Tickets(settle_side_by_side(alloc, container, selectors)?)),
     }
 }
 
@@ -108,6 +110,7 @@ fn done_by<'d>(
 ) -> Result<Told, NoMemory>
     requires read { reading_of bytes.now ≡ Ok (read_as deployment.now) }
     requires checked { IsChecked deployment.now.codes }
+    requires short { length bytes.now < 2 ^ 32 }
     requires four { length lines.now ≡ 4 }
 {
     match opened(alloc, deployment, bytes, lines, selectors) {
@@ -130,6 +133,7 @@ fn done_on(
 ) -> Result<Told, NoMemory>
     requires read { reading_of bytes.now ≡ Ok (read_as deployment.now) }
     requires checked { IsChecked deployment.now.codes }
+    requires short { length bytes.now < 2 ^ 32 }
     requires four { length lines.now ≡ 4 }
 {
     let whole = Box::new(alloc, move |text: &[u8]| {
@@ -166,7 +170,7 @@ fn done_of(
 {
     match read_signals(alloc, text.as_bytes()) {
         Ok(lines) => {
-            let told = if lines.as_slice().len() == 4 {
+            let told = if lines.as_slice().len() == 4 && bytes.len() < DOCUMENT_LIMIT {
                 done_on(alloc, deployment, bytes, &lines, doing)
             } else {
                 Err(NoMemory)
