@@ -1,5 +1,5 @@
 -- A deployment that was read is the router's own; lines that are left; what a commit keeps.
-use Rattle.std.proofs.Common.{◌≡◌, ℕ, ◌<◌, ◌+◌, ◌^◌, zero, suc, List, [], ◌∷◌, length, slice_get, refl, sym, ap, arith, Some, None, Option, Result, Ok, Err, IsTrue}
+use Rattle.std.proofs.Common.{◌≡◌, ℕ, ◌<◌, ◌≤◌, ◌+◌, ◌^◌, zero, suc, List, [], ◌∷◌, length, slice_get, refl, sym, ap, ◌∙◌, subst, arith, Some, None, Option, Result, Ok, Err, IsTrue}
 use Rattle.std.specs.Prelude.{IsSome}
 use Rattle.script_types.specs.Program.{Program}
 use Rattle.script_types.specs.ProgramOf.{IsChecked, kept_program}
@@ -23,12 +23,18 @@ use Rattle.router_state.specs.State.{State}
 use Rattle.router_state.specs.declared.kindred.Kindred.TheVariants as kindreds
 use Rattle.router_steps.specs.Steps.{is_next}
 use Rattle.slee_value.specs.declared.ids.ActivityId.{ActivityId}
+use Rattle.slee_value.specs.declared.memory.NoMemory.{NoMemory}
 use Rattle.trace_history.specs.declared.choice.Choice.TheVariants as choices
+use Rattle.rollback_calls.specs.Deliveries.{Handles}
+use Rattle.rollback_calls.specs.Prepared.{CanDeliver, delivery_over}
+use Rattle.script_laws.specs.Asking.{lacked_by}
+use Rattle.tx_attempt.specs.Attempts.{asked_for, HasAsked, IsDone, IsNew}
 use Rattle.tx_attempt.specs.declared.attempt.Attempt.{Attempt}
 use Rattle.tx_attempt.specs.declared.ticket.Ticket.{Ticket}
 use Rattle.router_durable.specs.declared.fault.StepFault.{StepFault}
+use Rattle.slee_container.specs.Claims.{IsAttemptOf}
 use Rattle.slee_container.specs.Container.{View, state_of}
-use Rattle.slee_container.specs.Steps.{Commits, Makes}
+use Rattle.slee_container.specs.Steps.{Commits, Makes, Prepares}
 use Rattle.slee_container.specs.declared.fault.CommitFault.{CommitFault}
 use Rattle.slee_container.specs.declared.fault.CommitFault.TheVariants as refusals
 use Rattle.test_container.specs.Conflicts.{IsConflict}
@@ -63,13 +69,43 @@ module _ {D : Type 0} (v w : View D) (before after : DiskState) (left : v.taken 
   pub line_taken : (n : ℕ) → ((signal : Signal) → slice_get v.setup.lines v.taken ≡ Some signal → Makes before after v (choices.Input signal) (Ok n) w) → w.taken ≡ v.taken + 1
   line_taken n step = let line = next_line v.setup.lines v.taken left in (step line.signal line.at).taken
 
+-- how many lines are left behind the first of two, and behind two of four
+pub one_left : {D : Type 0} (v w : View D) → v.taken + 2 ≤ length v.setup.lines → w.setup ≡ v.setup → w.taken ≡ v.taken + 1 → w.taken < length w.setup.lines
+one_left v w two same taken = subst (λ n. n < length w.setup.lines) (sym taken) (subst (λ s. v.taken + 1 < length s.lines) (sym same) (omega (arith, two)))
+
+pub two_left : {D : Type 0} (v w : View D) → v.taken ≡ 0 → length v.setup.lines ≡ 4 → w.setup ≡ v.setup → w.taken ≡ v.taken + 2 → w.taken + 2 ≤ length w.setup.lines
+two_left v w none four same taken =
+    subst (λ n. n + 2 ≤ length w.setup.lines) (sym (taken ∙ ap (λ n. n + 2) none)) (subst (λ s. 0 + 2 + 2 ≤ length s.lines) (sym same) (omega (arith, four)))
+
 -- the choice that is next on an activity may be made
 pub initial_next : (s : State) (a : ActivityId) → next s a.0 ≡ Some kindreds.Initial → IsTrue (is_next s (choices.Initial a))
 initial_next s a is = rw is refl
 
--- the program of a deployment with this start
-pub program_is : (start : State) (parts : Parts) (codes : Codes) → initial_of parts codes ≡ start → kept_program codes ≡ start.program
-program_is start parts codes is = ap (λ (s : State). s.program) is
+-- what a router serves is checked
+pub own_checked : (d : Deployment) (s : State) → IsOwn d s → IsChecked d.codes
+own_checked d s own = own.deployed.checked
+
+-- an attempt that is done over the program of the deployment is done over that of the first state
+pub done_first : (first : State) (parts : Parts) (codes : Codes) (a : Attempt) → initial_of parts codes ≡ first → IsDone (kept_program codes) a → IsDone first.program a
+done_first first parts codes a is done = subst (λ (s : State). IsDone s.program a) is done
+
+-- so it stays where the setup does
+pub done_kept : {D : Type 0} (v w : View D) (a : Attempt) → w.setup ≡ v.setup → IsDone v.setup.origin.initial.program a → IsDone w.setup.origin.initial.program a
+done_kept v w a same done = subst (λ s. IsDone s.origin.initial.program a) (sym same) done
+
+-- a new attempt has asked for nothing
+pub new_asked : (program : Program) (t : Ticket) (a : Attempt) → IsNew t a → HasAsked program a
+new_asked program t a new = subst (asked_for (λ answers. lacked_by (delivery_over program a.delivery answers))) (sym new.known) tt
+
+-- the attempt's delivery is one that is handled
+pub can_deliver : (program : Program) (t : Ticket) (a : Attempt) → IsAttemptOf t a → Handles program t.block t.event.name → CanDeliver program a.delivery
+can_deliver program t a of handled = subst (λ n. Handles program n a.delivery.event) (sym of.block) (subst (Handles program t.block) (sym of.event) handled)
+
+-- preparing keeps what a run was given
+pub prepared_setup : {D : Type 0} (v w : View D) (a : ActivityId) (r : Result (Option Ticket) NoMemory) → Prepares v a r w → w.setup ≡ v.setup
+prepared_setup v w a (Ok None) p = ap (λ u. u.setup) p.0
+prepared_setup v w a (Ok (Some ticket)) p = ap (λ u. u.setup) p.0
+prepared_setup v w a (Err fault) p = ap (λ u. u.setup) p.0
 
 -- what a commit keeps, and what its refusal for a conflict tells
 module _ {D : Type 0} (v w : View D) (t : Ticket) (a : Attempt) (before after : DiskState) where

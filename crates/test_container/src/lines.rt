@@ -38,6 +38,7 @@ fn take<'d, D: Disk>(container: &mut Container<'d, D>) -> Result<(), NoMemory>
 }
 
 /// Takes two lines.
+#[tactic(auto, using(crate::proofs::Facts::one_left))]
 pub fn take_two<'d, D: Disk>(container: &mut Container<'d, D>) -> Result<(), NoMemory>
     requires { container.old.taken + 2 ≤ length container.old.setup.lines }
     ensures setup { container.new.setup ≡ container.old.setup }
@@ -63,6 +64,7 @@ pub fn is_told<'d, D: Disk>(container: &Container<'d, D>, text: &str) -> bool {
 }
 
 /// Takes four lines, and looks at what is shown behind two and behind four of them, and at the entries.
+#[tactic(auto, using(crate::proofs::Facts::two_left))]
 pub fn take_in_a_row<'d, D: Disk>(
     alloc: Global,
     container: &mut Container<'d, D>,

@@ -48,7 +48,6 @@ pub struct Anew {
 }
 
 // Makes the step that is next on an activity, if it is an initial selection.
-#[tactic(auto, using(crate::proofs::Facts::initial_next))]
 fn select_on<'d, D: Disk>(
     container: &mut Container<'d, D>,
     activity: ActivityId,
@@ -83,6 +82,7 @@ fn select_next<'d, D: Disk>(
 }
 
 // Makes the initial selection that is to be done next, and prepares the delivery behind it.
+#[tactic(auto, using(crate::proofs::Facts::prepared_setup))]
 fn prepared<'d, D: Disk>(
     container: &mut Container<'d, D>,
     selectors: &Selectors,
@@ -174,6 +174,7 @@ fn redo_at<'d, D: Disk>(
 }
 
 // Commits an attempt that saw something else than is seen now, and makes its delivery anew.
+#[tactic(auto, using(crate::proofs::Facts::done_kept))]
 fn settle_anew<'d, D: Disk>(
     container: &mut Container<'d, D>,
     ticket: &Ticket,
@@ -230,6 +231,7 @@ fn is_free<'d, D: Disk>(container: &mut Container<'d, D>, activity: ActivityId) 
 }
 
 // Commits the second of two attempts, and then the first, which saw something else.
+#[tactic(auto, using(crate::proofs::Facts::done_kept))]
 fn settle<'d, D: Disk>(
     container: &mut Container<'d, D>,
     first: (&Ticket, &Attempt),
@@ -329,6 +331,7 @@ fn prepare_both<'d, D: Disk>(
 }
 
 /// Takes four lines, prepares two deliveries, and looks at what comes of them.
+#[tactic(auto, using(crate::proofs::Facts::two_left))]
 pub fn settle_side_by_side<'d, D: Disk>(
     alloc: Global,
     container: &mut Container<'d, D>,

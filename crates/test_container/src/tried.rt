@@ -1,7 +1,7 @@
 //! Attempts at deliveries that are prepared, over what the container shows.
-ghost use Rattle.std.specs.Prelude.{◌≡◌, IfOk, OnOk};
+ghost use Rattle.std.specs.Prelude.{IfOk, OnOk};
 ghost use Rattle.script_types.specs.ProgramOf.{IsChecked, kept_program};
-ghost use Rattle.rollback_calls.specs.Prepared.{CanDeliver};
+ghost use Rattle.rollback_calls.specs.Deliveries.{Handles};
 ghost use Rattle.slee_container.specs.Claims.{IsAttemptOf};
 ghost use Rattle.tx_attempt.specs.Attempts.{HasAsked, IsDone, IsNeeded};
 
@@ -65,14 +65,15 @@ fn learn<'d, D: Disk>(
     requires needed { IsNeeded (kept_program deployment.now.codes) attempt.old key }
     requires of { IsAttemptOf ticket.now attempt.old }
     ensures asked { OnOk result (HasAsked (kept_program deployment.now.codes) attempt.new) }
-    ensures delivery { attempt.new.delivery ≡ attempt.old.delivery }
     ensures of { OnOk result (IsAttemptOf ticket.now attempt.new) }
 {
     match container.look(&key) {
         Ok(seen) => {
             let asked = asked_of(&key, &seen);
-            attempt.learn(key, seen)?;
-            Ok(asked)
+            match attempt.learn(key, seen) {
+                Ok(()) => Ok(asked),
+                Err(NoMemory) => Err(NoMemory),
+            }
         }
         Err(NoMemory) => {
             mem::forget(key);
@@ -82,7 +83,7 @@ fn learn<'d, D: Disk>(
 }
 
 // Runs an attempt to the key that it needs, and learns what is seen there.
-#[tactic(auto, using(slee_container::proofs::Commits::run_attempt, tx_attempt::proofs::AskingLemmas::same_asked))]
+#[tactic(auto, using(crate::proofs::Facts::can_deliver, slee_container::proofs::Commits::run_attempt, tx_attempt::proofs::AskingLemmas::same_asked))]
 fn ask<'d, D: Disk>(
     container: &Container<'d, D>,
     deployment: &Deployment,
@@ -90,11 +91,10 @@ fn ask<'d, D: Disk>(
     attempt: &mut Attempt,
 ) -> Result<Asked, NoMemory>
     requires checked { IsChecked deployment.now.codes }
-    requires handled { CanDeliver (kept_program deployment.now.codes) attempt.old.delivery }
+    requires handled { Handles (kept_program deployment.now.codes) ticket.now.block ticket.now.event.name }
     requires asked { HasAsked (kept_program deployment.now.codes) attempt.old }
     requires of { IsAttemptOf ticket.now attempt.old }
     ensures asked { OnOk result (HasAsked (kept_program deployment.now.codes) attempt.new) }
-    ensures handled { CanDeliver (kept_program deployment.now.codes) attempt.new.delivery }
     ensures of { OnOk result (IsAttemptOf ticket.now attempt.new) }
 {
     match attempt.run(deployment) {
@@ -105,13 +105,13 @@ fn ask<'d, D: Disk>(
 }
 
 // Runs an attempt that needs nothing more.
-#[tactic(auto, using(slee_container::proofs::Commits::run_attempt))]
+#[tactic(auto, using(crate::proofs::Facts::can_deliver, slee_container::proofs::Commits::run_attempt))]
 fn end(deployment: &Deployment, ticket: &Ticket, attempt: &mut Attempt) -> Result<(), NoMemory>
     requires checked { IsChecked deployment.now.codes }
-    requires handled { CanDeliver (kept_program deployment.now.codes) attempt.old.delivery }
+    requires handled { Handles (kept_program deployment.now.codes) ticket.now.block ticket.now.event.name }
     requires asked { HasAsked (kept_program deployment.now.codes) attempt.old }
     requires of { IsAttemptOf ticket.now attempt.old }
-    ensures of { IsAttemptOf ticket.now attempt.new }
+    ensures of { OnOk result (IsAttemptOf ticket.now attempt.new) }
     ensures done { OnOk result (IsDone (kept_program deployment.now.codes) attempt.new) }
 {
     match attempt.run(deployment) {
@@ -132,7 +132,7 @@ fn run<'d, D: Disk>(
     attempt: &mut Attempt,
 ) -> Result<Asked, NoMemory>
     requires checked { IsChecked deployment.now.codes }
-    requires handled { CanDeliver (kept_program deployment.now.codes) attempt.old.delivery }
+    requires handled { Handles (kept_program deployment.now.codes) ticket.now.block ticket.now.event.name }
     requires asked { HasAsked (kept_program deployment.now.codes) attempt.old }
     requires of { IsAttemptOf ticket.now attempt.old }
     ensures of { OnOk result (IsAttemptOf ticket.now attempt.new) }
@@ -144,6 +144,7 @@ fn run<'d, D: Disk>(
 }
 
 /// The delivery of a ticket, tried to its end over what the container shows, and what it needed to see there.
+#[tactic(auto, using(crate::proofs::Facts::done_first, crate::proofs::Facts::new_asked, crate::proofs::Facts::own_checked, slee_container::proofs::Commits::new_attempt))]
 pub fn tried<'d, D: Disk>(
     alloc: Global,
     container: &Container<'d, D>,
@@ -156,12 +157,14 @@ pub fn tried<'d, D: Disk>(
     if !handles(deployment.codes(), ticket.block, &ticket.event.name) {
         return Err(NoMemory);
     }
-    let mut attempt = Attempt::new(alloc, ticket)?;
-    match run(container, deployment, ticket, &mut attempt) {
-        Ok(asked) => Ok((attempt, asked)),
-        Err(NoMemory) => {
-            mem::forget(attempt);
-            Err(NoMemory)
-        }
+    match Attempt::new(alloc, ticket) {
+        Ok(mut attempt) => match run(container, deployment, ticket, &mut attempt) {
+            Ok(asked) => Ok((attempt, asked)),
+            Err(NoMemory) => {
+                mem::forget(attempt);
+                Err(NoMemory)
+            }
+        },
+        Err(NoMemory) => Err(NoMemory),
     }
 }
