@@ -33,7 +33,7 @@ use Rattle.tx_attempt.specs.declared.attempt.Attempt.{Attempt}
 use Rattle.tx_attempt.specs.declared.ticket.Ticket.{Ticket}
 use Rattle.router_durable.specs.declared.fault.StepFault.{StepFault}
 use Rattle.slee_container.specs.Claims.{IsAttemptOf}
-use Rattle.slee_container.specs.Container.{View, state_of}
+use Rattle.slee_container.specs.Container.{Setup, View, state_of}
 use Rattle.slee_container.specs.Steps.{Commits, Makes, Prepares}
 use Rattle.slee_container.specs.declared.fault.CommitFault.{CommitFault}
 use Rattle.slee_container.specs.declared.fault.CommitFault.TheVariants as refusals
@@ -71,11 +71,11 @@ module _ {D : Type 0} (v w : View D) (before after : DiskState) (left : v.taken 
 
 -- how many lines are left behind the first of two, and behind two of four
 pub one_left : {D : Type 0} (v w : View D) → v.taken + 2 ≤ length v.setup.lines → w.setup ≡ v.setup → w.taken ≡ v.taken + 1 → w.taken < length w.setup.lines
-one_left v w two same taken = subst (λ n. n < length w.setup.lines) (sym taken) (subst (λ s. v.taken + 1 < length s.lines) (sym same) (omega (arith, two)))
+one_left v w two same taken = subst (λ (n : ℕ). n < length w.setup.lines) (sym taken) (subst (λ (s : Setup). v.taken + 1 < length s.lines) (sym same) (omega (arith, two)))
 
 pub two_left : {D : Type 0} (v w : View D) → v.taken ≡ 0 → length v.setup.lines ≡ 4 → w.setup ≡ v.setup → w.taken ≡ v.taken + 2 → w.taken + 2 ≤ length w.setup.lines
 two_left v w none four same taken =
-    subst (λ n. n + 2 ≤ length w.setup.lines) (sym (taken ∙ ap (λ n. n + 2) none)) (subst (λ s. 0 + 2 + 2 ≤ length s.lines) (sym same) (omega (arith, four)))
+    subst (λ (n : ℕ). n + 2 ≤ length w.setup.lines) (sym (taken ∙ ap (λ (n : ℕ). n + 2) none)) (subst (λ (s : Setup). 0 + 2 + 2 ≤ length s.lines) (sym same) (omega (arith, four)))
 
 -- the choice that is next on an activity may be made
 pub initial_next : (s : State) (a : ActivityId) → next s a.0 ≡ Some kindreds.Initial → IsTrue (is_next s (choices.Initial a))
@@ -91,7 +91,7 @@ done_first first parts codes a is done = subst (λ (s : State). IsDone s.program
 
 -- so it stays where the setup does
 pub done_kept : {D : Type 0} (v w : View D) (a : Attempt) → w.setup ≡ v.setup → IsDone v.setup.origin.initial.program a → IsDone w.setup.origin.initial.program a
-done_kept v w a same done = subst (λ s. IsDone s.origin.initial.program a) (sym same) done
+done_kept v w a same done = subst (λ (s : Setup). IsDone s.origin.initial.program a) (sym same) done
 
 -- a new attempt has asked for nothing
 pub new_asked : (program : Program) (t : Ticket) (a : Attempt) → IsNew t a → HasAsked program a
@@ -99,7 +99,7 @@ new_asked program t a new = subst (asked_for (λ answers. lacked_by (delivery_ov
 
 -- the attempt's delivery is one that is handled
 pub can_deliver : (program : Program) (t : Ticket) (a : Attempt) → IsAttemptOf t a → Handles program t.block t.event.name → CanDeliver program a.delivery
-can_deliver program t a of handled = subst (λ n. Handles program n a.delivery.event) (sym of.block) (subst (Handles program t.block) (sym of.event) handled)
+can_deliver program t a of handled = subst (λ (n : ℕ). Handles program n a.delivery.event) (sym of.block) (subst (Handles program t.block) (sym of.event) handled)
 
 -- preparing keeps what a run was given
 pub prepared_setup : {D : Type 0} (v w : View D) (a : ActivityId) (r : Result (Option Ticket) NoMemory) → Prepares v a r w → w.setup ≡ v.setup
