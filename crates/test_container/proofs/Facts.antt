@@ -1,5 +1,5 @@
 -- A deployment that was read is the router's own; lines that are left; what a commit keeps.
-use Rattle.std.proofs.Common.{◌≡◌, ℕ, ◌<◌, ◌≤◌, ◌+◌, ◌^◌, zero, suc, List, [], ◌∷◌, length, slice_get, refl, sym, ap, ◌∙◌, subst, arith, Some, None, Option, Result, Ok, Err, IsTrue}
+use Rattle.std.proofs.Common.{◌≡◌, ℕ, ◌<◌, ◌≤◌, ◌+◌, zero, suc, List, [], ◌∷◌, length, slice_get, refl, sym, ap, ◌∙◌, subst, arith, Some, None, Option, Result, Ok, Err, IsTrue}
 use Rattle.std.specs.Prelude.{IsSome}
 use Rattle.script_types.specs.Program.{Program}
 use Rattle.script_types.specs.ProgramOf.{IsChecked, kept_program}
@@ -12,9 +12,6 @@ use Rattle.deploy_json.specs.Checking.{reading_of, read_as}
 use Rattle.handler_run.specs.Views.{conflict}
 use Rattle.router_core.specs.States.{IsOwn}
 use Rattle.router_durable.specs.Facts.{initial_of}
-use Rattle.deploy_model.specs.Resolving.{deployed_of}
-use Rattle.router_laws_kept.specs.Kept.{IsKeepable}
-use Rattle.router_laws_keepable.proofs.Keepable.{keepable_read}
 use Rattle.router_laws_deployed.proofs.Declared.{declared_rise}
 use Rattle.router_laws_deployed.proofs.Readings.{reading_parts}
 use Rattle.router_state.specs.Look.{look}
@@ -44,9 +41,6 @@ own_read bytes d read checked = record {
   deployed = record { parts = refl; program = refl; checked = checked };
   order = declared_rise bytes d.parts (reading_parts bytes d read);
 }
-
-pub keepable : (bytes : List ℕ) (d : Deployment) → length bytes < 2 ^ 32 → reading_of bytes ≡ Ok (read_as d) → IsKeepable (deployed_of d.parts) (kept_program d.codes)
-keepable bytes d short read = keepable_read bytes d short read
 
 -- the next line
 pub record IsNextLine (lines : List Signal) (n : ℕ) : Type 0 where

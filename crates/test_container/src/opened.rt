@@ -45,7 +45,7 @@ enum Told {
 }
 
 // A container with all lines before it.
-#[tactic(auto, using(crate::proofs::Facts::own_read, crate::proofs::Facts::keepable))]
+#[tactic(auto, using(crate::proofs::Facts::own_read, router_laws_keepable::proofs::Keepable::keepable_read))]
 fn opened<'d>(
     alloc: Global,
     deployment: &'d Deployment,
