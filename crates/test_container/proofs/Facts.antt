@@ -28,10 +28,9 @@ use Rattle.script_laws.specs.Asking.{lacked_by}
 use Rattle.tx_attempt.specs.Attempts.{asked_for, HasAsked, IsDone, IsNew}
 use Rattle.tx_attempt.specs.declared.attempt.Attempt.{Attempt}
 use Rattle.tx_attempt.specs.declared.ticket.Ticket.{Ticket}
-use Rattle.router_durable.specs.declared.fault.StepFault.{StepFault}
 use Rattle.slee_container.specs.Claims.{IsAttemptOf}
 use Rattle.slee_container.specs.Container.{Setup, View, state_of}
-use Rattle.slee_container.specs.Steps.{Commits, Makes, Prepares}
+use Rattle.slee_container.specs.Steps.{Commits, Prepares}
 use Rattle.slee_container.specs.declared.fault.CommitFault.{CommitFault}
 use Rattle.slee_container.specs.declared.fault.CommitFault.TheVariants as refusals
 use Rattle.test_container.specs.Conflicts.{IsConflict}
@@ -54,14 +53,6 @@ next_line (x ∷ xs) (suc n) lt = behind (next_line xs n (omega (arith, lt)))
   where
     behind : IsNextLine xs n → IsNextLine (x ∷ xs) (suc n)
     behind more = record { signal = more.signal; at = more.at }
-
--- what taking the next line does
-module _ {D : Type 0} (v w : View D) (before after : DiskState) (left : v.taken < length v.setup.lines) where
-  pub line_setup : (r : Result ℕ StepFault) → ((signal : Signal) → slice_get v.setup.lines v.taken ≡ Some signal → Makes before after v (choices.Input signal) r w) → w.setup ≡ v.setup
-  line_setup r step = let line = next_line v.setup.lines v.taken left in (step line.signal line.at).setup
-
-  pub line_taken : (n : ℕ) → ((signal : Signal) → slice_get v.setup.lines v.taken ≡ Some signal → Makes before after v (choices.Input signal) (Ok n) w) → w.taken ≡ v.taken + 1
-  line_taken n step = let line = next_line v.setup.lines v.taken left in (step line.signal line.at).taken
 
 -- how many lines are left behind the first of two, and behind two of four
 pub one_left : {D : Type 0} (v w : View D) → v.taken + 2 ≤ length v.setup.lines → w.setup ≡ v.setup → w.taken ≡ v.taken + 1 → w.taken < length w.setup.lines

@@ -21,7 +21,6 @@ pub struct Taken {
 }
 
 // Takes the next line.
-#[tactic(auto, using(crate::proofs::Facts::line_setup, crate::proofs::Facts::line_taken))]
 fn take<'d, D: Disk>(container: &mut Container<'d, D>) -> Result<(), NoMemory>
     requires { container.old.taken < length container.old.setup.lines }
     ensures setup { container.new.setup ≡ container.old.setup }

@@ -83,7 +83,7 @@ fn learn<'d, D: Disk>(
 }
 
 // Runs an attempt to the key that it needs, and learns what is seen there.
-#[tactic(auto, using(crate::proofs::Facts::can_deliver, slee_container::proofs::Commits::run_attempt, tx_attempt::proofs::AskingLemmas::same_asked))]
+#[tactic(auto, using(crate::proofs::Facts::can_deliver, slee_container::proofs::Commits::run_attempt))]
 fn ask<'d, D: Disk>(
     container: &Container<'d, D>,
     deployment: &Deployment,
