@@ -41,7 +41,7 @@ TRIES = 6
 LONGEST = 2_500
 # a record that is of no form
 STRAY = b"\x01" + text(b"\x09")
-KEPT = "/tmp/fuzz_snapshots"
+KEPT = os.path.join(tempfile.gettempdir(), "fuzz_snapshots")
 
 
 def run(program, words, folder, given=b""):
@@ -234,7 +234,8 @@ def play(world, given):
     found = sources(world, program, given.states, dice)
     sizes = sorted(len(it.snapshot) for it in found)
     print(f"{len(found)} states of {sizes[0]} to {sizes[-1]} bytes in {time.perf_counter() - begun:.0f} s", flush=True)
-    print("with " + ", ".join(f"{kind}: {times}" for kind, times in sorted(collections.Counter(kind for it in found for kind in snapshot_rows.kinds(it.state)).items())), flush=True)
+    kinds = collections.Counter(kind for it in found for kind in snapshot_rows.kinds(it.state))
+    print("with " + ", ".join(f"{kind} {times}" for kind, times in sorted(kinds.items())), flush=True)
     seen = collections.Counter()
     for count in range(given.count):
         trial = Trial(program, dice.choice(found), dice)

@@ -15,9 +15,10 @@ COUNTS = ("moment", "inputs", "next_entity", "next_activity", "next_timer", "nex
 # The lists of a state, behind the counts.
 SERVICES, ENTITIES, ACTIVITIES, LINKS, NAMES, TIMERS, ROWS = range(len(COUNTS), len(COUNTS) + 7)
 # The places of what stands in a row.
-FIRST, PARENT, UNTIL = 0, 2, 7
+FIRST, PARENT, ENDING, UNTIL = 0, 2, 2, 7
 NUMBERED = {ENTITIES: "entity", ACTIVITIES: "activity", TIMERS: "timer"}
 KINDS_OF_VALUES = 5
+KINDS_OF_ACTIVITIES = ("external", "null", "of a service", "of a table")
 MANY = 1000
 
 
@@ -89,8 +90,8 @@ class Reader:
         tag = self.number(1, "tag")
         if tag.value >= KINDS_OF_VALUES:
             raise ValueError("a value of no type")
-        what = (self.number, self.text, lambda: self.number(1, "flag"), lambda: self.number(8, "activity"), lambda: self.number(8, "timer"))[tag.value]()
-        return row("value", tag, what)
+        flag, activity, timer = (lambda size=size, role=role: self.number(size, role) for size, role in ((1, "flag"), (8, "activity"), (8, "timer")))
+        return row("value", tag, (self.number, self.text, flag, activity, timer)[tag.value]())
 
     def pairs(self):
         return self.list("pairs", lambda: row("pair", self.text(), self.value()))
@@ -197,8 +198,9 @@ def lists(state, least=0, front=(LIST,)):
 def kinds(state):
     """What a state has any of: rows, options, and kinds of activities."""
     found = {it.name for it in lists(state, 1, (LIST, OPTION))}
-    found |= {f"kind {it.parts[0].value}" for it in parts_of(state, Many) if it.name == "kind"}
-    return found | {"child" for it in state.parts[ENTITIES].parts if it.parts[PARENT].value} | {"ending" for it in state.parts[ACTIVITIES].parts if it.parts[2].value}
+    found |= {KINDS_OF_ACTIVITIES[it.parts[0].value] for it in parts_of(state, Many) if it.name == "kind"}
+    found |= {"child" for it in state.parts[ENTITIES].parts if it.parts[PARENT].value}
+    return found | {"ending" for it in state.parts[ACTIVITIES].parts if it.parts[ENDING].value}
 
 
 def one(dice, found):
