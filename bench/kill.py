@@ -7,6 +7,7 @@
     python3 bench/kill.py --calls 1500     of so many calls, three lines and eight entries each
     python3 bench/kill.py --seed 8         other moments
     python3 bench/kill.py --where FOLDER   with files in this folder, and not in the system's for temporary files
+    python3 bench/kill.py --compact        kills `compact`, and not the run
 
 Each run plays calls of the service of examples/restart in a fresh folder and is killed (SIGKILL) at a random moment of the
 time that an unbroken run takes; `resume` with the same lines goes on and is killed too, up to three times in all, and is then
@@ -16,8 +17,11 @@ left to its end. After each kill
 - what was printed is a front of what the unbroken run prints behind the records from before;
 - `show` ends with 0 and gives what it gives behind so many entries of a run that ends there by its words, and leaves the
   records as they are.
+With `--compact` each run ends by its words after a random number of entries, and `compact` behind it is killed one to three times, at a
+random moment of the time that it takes. After each kill one of the sides counts that were there or that it writes: the records of the
+run, or a snapshot and no records, and none of an older generation; `show` gives what it gave before.
 At the end `resume` has status 0 and prints the rest of the unbroken run's trace, `show` gives that run's end state, and the
-journal has its records. A kill leaves all that the system was given, so that syncs aren't tried here. It ends with 1 at the
+journal has its records (of a compacted one, that text and that state). A kill leaves all that the system was given, so that syncs aren't tried here. It ends with 1 at the
 first wrong run.
 """
 import argparse
@@ -85,6 +89,9 @@ class Unbroken:
                 sys.exit(f"the unbroken run ends with {status}")
             self.records = records_of(folder)
             self.shown[len(self.records)] = run(command, ["show"], b"", folder)
+            begun = time.perf_counter()
+            run(command, ["compact"], b"", folder)
+            self.compact_seconds = time.perf_counter() - begun
         self.entries = re.findall(r"^[0-9]+ (.*\n(?:  .*\n)*)", text, re.M)
         if len(self.entries) != len(self.records) or self.text_behind(0) != text:
             sys.exit("the unbroken run prints other entries than it keeps")
@@ -163,6 +170,41 @@ def trial(whole, chance, seen):
         return end_fault(whole, folder, before, *run(whole.command, [word, "1", ALL], whole.lines, folder))
 
 
+def counting(folder):
+    """The greatest generation of a side that isn't blank, whether it has a snapshot, and its records."""
+    fronts = [front_of(read(folder, name)) for name in ("journal.a", "journal.b") if os.path.exists(os.path.join(folder, name))]
+    generation, _, _, snapshot, rest = max((it for it in fronts if it != "blank"), key=lambda it: it[0])
+    return generation, snapshot > 0, rest
+
+
+def compact_trial(whole, chance, seen):
+    """Kills `compact` up to three times behind a run that ends by its words; answers what is wrong."""
+    entries = chance.randrange(1, len(whole.records) + 1)
+    with fresh(where=whole.where) as folder:
+        run(whole.command, ["play", "1", str(entries)], whole.lines, folder)
+        before = counting(folder)
+        wanted, seconds = whole.shown_behind(entries), whole.compact_seconds * entries / len(whole.records)
+        for _ in range(chance.randrange(1, 4)):
+            moment = chance.random() * seconds * 1.2
+            status, _ = run(whole.command, ["compact"], b"", folder, moment)
+            after = counting(folder)
+            seen["killed" if status is None else "ended before"] += 1
+            seen["with the old side" if after == before else "with the new side"] += 1
+            if status not in (None, 0):
+                return f"compact ends with {status}"
+            if after != before and (after[0] != before[0] + 1 or not after[1] or after[2] != b"\x00"):
+                return f"compact killed after {moment:.4f} s left another side: generation {after[0]}"
+            if status == 0 and after == before:
+                return "compact ended, and the old side counts"
+            if run(whole.command, ["show"], b"", folder) != wanted:
+                return f"compact killed after {moment:.4f} s: another state"
+            before = after
+        status, text = run(whole.command, ["resume", "1", ALL], whole.lines, folder)
+        if (status, text) != (0, whole.text_behind(entries)):
+            return f"resume behind compact ends with {status}, or prints another text"
+        return None if run(whole.command, ["show"], b"", folder) == whole.shown_behind(len(whole.records)) else "another end state"
+
+
 def main():
     here = os.path.dirname(os.path.abspath(__file__))
     words = argparse.ArgumentParser(description=__doc__, formatter_class=argparse.RawDescriptionHelpFormatter)
@@ -171,12 +213,13 @@ def main():
     words.add_argument("--calls", type=int, default=10_000)
     words.add_argument("--seed", type=int, default=7)
     words.add_argument("--where")
+    words.add_argument("--compact", action="store_true")
     given = words.parse_args()
     whole = Unbroken(os.path.abspath(given.cmd), given.calls, given.where)
     print(f"unbroken: {len(whole.records)} entries in {len(whole.flushes) - 1} flushes, {whole.seconds:.2f} s", flush=True)
     chance, seen = random.Random(given.seed), collections.Counter()
     for number in range(given.runs):
-        fault = trial(whole, chance, seen)
+        fault = (compact_trial if given.compact else trial)(whole, chance, seen)
         if fault:
             sys.exit(f"run {number}: {fault}")
     print(f"{given.runs} runs: " + ", ".join(f"{what} {times}" for what, times in seen.items()) + ", and none was wrong")

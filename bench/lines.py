@@ -12,12 +12,13 @@ cd crates/bench_lines && rt run -- 1 < stdin), and in wall time by runs of one e
 lines with 480,000 entries; `alive`, the cost of a step while 10, 1,000 and 10,000 calls are alive; `files`, entries a second over real files
 in the current folder, and how much of that is waiting for the disk; `bare`, playing 180,000 lines and a trial over real files in the current
 folder, beside writing the same bytes of journal and trace there and syncing them; `opening`, the time of `show` as the journal grows; `full`, the memory of opening a journal that has nearly as many bytes as
-a side may have.
+a side may have; `snapshot`, the time and the memory of `compact` where the snapshot has 64 MB, and of opening it again.
 Times are the least of three runs. All but `files` run in a folder in memory where there is one, so that the journal's
 syncs cost nothing there.
 """
 import argparse
 import contextlib
+import json
 import os
 import resource
 import shutil
@@ -265,7 +266,60 @@ def full(command, small):
             print(f"{size:>11} {8 * done:>9} {words[0]:>5} {took:>7.1f} {usage.ru_maxrss:>9}  {last}", flush=True)
 
 
-TABLES = {"starts": starts, "calls": calls, "trial": trial, "reading": reading, "memory": memory, "alive": alive, "files": files, "bare": bare, "opening": opening, "full": full}
+def component(key, **more):
+    return {"key": key, "name": key, "vendor": "bench", "version": "1", **more}
+
+
+# Each call has an entity with fields and a convergence name, an activity with an attribute, an attachment with a mask, a name, a timer, and
+# a row of a profile table.
+INVITED = "self.addr = event.addr; attr(activity, mark) = event.addr; bind event.addr to activity; mask \"timer\" on activity; timer bell on activity at now + 1000; self.bell = bell;"
+HELD = {
+    "events": [component("invite", fields={"addr": "text"})],
+    "profiles": [component("number", attributes={"pin": "int"}, unique=["pin"])],
+    "tables": {"numbers": "number"},
+    "blocks": [
+        component("call", fields={"addr": "text", "n": "int", "bell": "timer"}, attributes={"mark": "text"}, events=[{"event": "invite", "initial": ["address"], "on": INVITED}])
+    ],
+    "services": [component("calls", root="call", active=True)],
+}
+
+
+def held_of(begin, count):
+    """Lines of calls that stay."""
+    numbers = range(begin, begin + count)
+    return b"".join(b"start c%d\nfire c%d invite addr=tel:%d\nprofile-add numbers tel:%d pin=%d\n" % (i, i, i, i, i) for i in numbers)
+
+
+def spent(command, words, folder, given=b""):
+    """Seconds, the processor's seconds, and peak memory in KiB of one run in this folder, whose text is dropped."""
+    begun = time.perf_counter()
+    child = subprocess.Popen([command, *words], stdin=subprocess.PIPE, stdout=subprocess.DEVNULL, cwd=folder)
+    child.stdin.write(given)
+    child.stdin.close()
+    _, status, usage = os.wait4(child.pid, 0)
+    if os.waitstatus_to_exitcode(status) != 0:
+        sys.exit(f"{' '.join(words)} ends with {os.waitstatus_to_exitcode(status)}")
+    return time.perf_counter() - begun, usage.ru_utime + usage.ru_stime, usage.ru_maxrss
+
+
+def snapshot(command, small):
+    runs, once = 4, 5_000 if small else 50_000
+    print(f"snapshot: {runs * once} calls that stay, played in {runs} runs, compacted, opened again, and compacted again")
+    print(f"{'word':>8} {'of bytes':>10} {'s':>7} {'cpu s':>7} {'KiB':>9}")
+    with fresh(where=MEMORY) as folder:
+        with open(os.path.join(folder, "deploy.json"), "w", encoding="utf-8") as f:
+            json.dump(HELD, f)
+        side_a, side_b = (os.path.join(folder, "journal." + name) for name in "ab")
+        more = held_of(runs * once + 1, 1)
+        steps = [(PLAY, held_of(run * once + 1, once), side_a) for run in range(runs)]
+        steps += [(["compact"], b"", side_a), (["show"], b"", side_b), (["resume", *PLAY[1:]], b"", side_b), (["compact"], b"", side_b), (PLAY, more, side_a)]
+        for words, given, side in steps:
+            size = os.path.getsize(side) if os.path.exists(side) else 0
+            took, busy, memory = spent(command, words, folder, given)
+            print(f"{words[0]:>8} {size:>10} {took:>7.2f} {busy:>7.2f} {memory:>9}", flush=True)
+
+
+TABLES = {"starts": starts, "calls": calls, "trial": trial, "reading": reading, "memory": memory, "alive": alive, "files": files, "bare": bare, "opening": opening, "full": full, "snapshot": snapshot}
 
 
 def main():
