@@ -5,7 +5,7 @@ use Rattle.slee_container.proofs.Compacted.{compacts, steady_compacted}
 use Rattle.slee_container.proofs.Turned.{no_entries, run_compacted}
 use Rattle.slee_container.proofs.container.Container.compact.Goals as goal
 
-pub compact-requires-clause-none : goal.compact-requires-clause-new
+pub compact-requires-clause-none : goal.compact-requires-clause-none
 compact-requires-clause-none g c =
     let s = c.self.inside in
     no_entries (setup_over s.core s.lines.now s.skipped s.steps) s.core.history s.taken s.core.stop (ap (λ v. v.setup.steps) c.self.view_is ∙ c.requires.none) c.self.invariant.2
