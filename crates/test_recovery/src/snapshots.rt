@@ -264,6 +264,7 @@ fn expect_fault(rt: &impl Abort, alloc: Global, disk: &MemoryDisk, call: u64) ->
     assert_eq!(rt; ran.code, 7, "at call {call}");
     assert_eq!(rt; text_of(&ran), "status 7 disk-fault\n");
     for (part, fill) in TEARS {
+        assert!(rt; 1 <= call && call <= ran.disk.calls());
         let image = ran.disk.image(call, *part, *fill)?;
         expect_image(
             rt,
