@@ -13,3 +13,4 @@ pub mod DetachLemmas
 pub mod RankLemmas
 pub mod HeldLemmas
 pub mod GrowthLemmas
+pub mod SpreadLemmas

@@ -25,7 +25,7 @@ use Rattle.router_order.proofs.LayLemmas.{inserted}
 use Rattle.router_order.proofs.MoveLemmas.{run_listed}
 use Rattle.router_order.proofs.RunLemmas.{placed_before, placed_by_activity, put_other, put_own, run, run_is}
 
-at_holds : {X : Type 0} (P : X → Type 0) (i : ℕ) (y : X) (xs : List X) → AllByRecursion P xs → slice_get xs i ≡ Some y → P y
+pub at_holds : {X : Type 0} (P : X → Type 0) (i : ℕ) (y : X) (xs : List X) → AllByRecursion P xs → slice_get xs i ≡ Some y → P y
 at_holds P i y [] all at = absurd (cc)
 at_holds P zero y (x ∷ xs) all at = let same : x ≡ y = cc in subst P same all.0
 at_holds P (suc i) y (x ∷ xs) all at = at_holds P i y xs all.1 at
@@ -76,7 +76,7 @@ get_at i [] within = absurd (omega (arith, within))
 get_at zero (x ∷ xs) within = (x, refl)
 get_at (suc i) (x ∷ xs) within = get_at i xs (omega (arith, within))
 
-at_within : {X : Type 0} (i : ℕ) (x : X) (xs : List X) → slice_get xs i ≡ Some x → i < length xs
+pub at_within : {X : Type 0} (i : ℕ) (x : X) (xs : List X) → slice_get xs i ≡ Some x → i < length xs
 at_within i x [] at = absurd (cc)
 at_within zero x (y ∷ ys) at = omega arith
 at_within (suc i) x (y ∷ ys) at = let more = at_within i x ys at in omega (arith, more)

@@ -11,6 +11,7 @@ mod order;
 mod placed;
 mod ready;
 mod received;
+mod spreading;
 mod wants;
 
 pub use next::next_entity;

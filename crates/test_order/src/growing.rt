@@ -8,7 +8,7 @@ use slee_value::{ActivityId, EntityId, Name, NoMemory};
 use std::alloc::Global;
 
 // How many entities the tests make at the most.
-const MANY: u64 = 100;
+const MANY: u64 = 300;
 
 pub const BLOCK: u32 = 4;
 
@@ -54,12 +54,36 @@ pub fn grow(tree: &mut Tree, alloc: Global) -> Result<(), NoMemory> {
     Ok(())
 }
 
-// The roots 1 and 2 of the highest and the lowest priority, and 70 roots between them, each of a higher one than those before it.
-pub fn grow_levels(tree: &mut Tree) -> Result<(), NoMemory> {
+// The roots 1 and 2 of the highest and the lowest priority.
+fn grow_ends(tree: &mut Tree) -> Result<(), NoMemory> {
     add_root(tree, 100)?;
-    add_root(tree, -100)?;
-    for priority in -35..35 {
+    add_root(tree, -100)
+}
+
+// The roots 1 and 2 of the highest and the lowest priority, and 198 roots between them, each of a higher one than those before it.
+pub fn grow_rising(tree: &mut Tree) -> Result<(), NoMemory> {
+    grow_ends(tree)?;
+    for priority in -99..99 {
         add_root(tree, priority)?;
+    }
+    Ok(())
+}
+
+// As above, but each of a lower one than those before it.
+pub fn grow_falling(tree: &mut Tree) -> Result<(), NoMemory> {
+    grow_ends(tree)?;
+    for priority in -98..100 {
+        add_root(tree, -priority)?;
+    }
+    Ok(())
+}
+
+// As above, but each between the two before it.
+pub fn grow_inwards(tree: &mut Tree) -> Result<(), NoMemory> {
+    grow_ends(tree)?;
+    for step in 1..100 {
+        add_root(tree, 100 - step)?;
+        add_root(tree, step - 100)?;
     }
     Ok(())
 }

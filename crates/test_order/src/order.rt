@@ -1,7 +1,8 @@
 //! Who receives an event next: by the plain form, and by the index that is kept.
 
 use crate::growing::{
-    BLOCK, attach_each, forget, grow, grow_levels, list_each, list_on_each, list_up_to,
+    BLOCK, attach_each, forget, grow, grow_falling, grow_inwards, grow_rising, list_each,
+    list_on_each, list_up_to,
 };
 use activity_context::Contexts;
 use entity_tree::Tree;
@@ -18,7 +19,7 @@ const CALL: ActivityId = ActivityId(7);
 const OTHER: ActivityId = ActivityId(3);
 
 // The roots whose priorities lie between those of 1 and 2.
-const BETWEEN: u64 = 70;
+const BETWEEN: u64 = 198;
 
 fn wants<'a>(event: &'a Text, delivered: &'a [EntityId]) -> Wants<'a> {
     Wants {
@@ -125,13 +126,36 @@ fn come_plainly(
 }
 
 // The last root that came stands behind 1, and those before it behind it, down to 2.
-fn levels(alloc: Global) -> Result<Vec<u64>, NoMemory> {
+fn rising(alloc: Global) -> Result<Vec<u64>, NoMemory> {
     let mut all = Vec::new(alloc);
     all.push(1)?;
     for place in 0..BETWEEN {
         all.push(BETWEEN + 2 - place)?;
     }
     all.push(2)?;
+    Ok(all)
+}
+
+// The root that came first behind 2 stands behind 1, and those after it behind it, up to 2.
+fn falling(alloc: Global) -> Result<Vec<u64>, NoMemory> {
+    let mut all = Vec::new(alloc);
+    all.push(1)?;
+    for place in 0..BETWEEN {
+        all.push(place + 3)?;
+    }
+    all.push(2)?;
+    Ok(all)
+}
+
+// The odd ones stand as they came, and then the even ones from the last one down to 2.
+fn inwards(alloc: Global) -> Result<Vec<u64>, NoMemory> {
+    let mut all = Vec::new(alloc);
+    for place in 0..BETWEEN / 2 + 1 {
+        all.push(2 * place + 1)?;
+    }
+    for place in 0..BETWEEN / 2 + 1 {
+        all.push(BETWEEN + 2 - 2 * place)?;
+    }
     Ok(all)
 }
 
@@ -257,16 +281,44 @@ fn a_priority_changes_where_all_room_is_taken(rt: HostRuntime) -> Result<(), Fai
 }
 
 #[test]
-fn ranks_that_run_out_are_given_anew(rt: HostRuntime) -> Result<(), Fail> {
+fn each_attachment_stands_before_the_last_one(rt: HostRuntime) -> Result<(), Fail> {
     let alloc = rt.alloc();
     let mut tree_kept = ManuallyDrop::new(Tree::new(alloc));
     let tree = &mut *tree_kept;
     let mut order_kept = ManuallyDrop::new(Order::new(alloc));
     let order = &mut *order_kept;
     let masks = ManuallyDrop::new(Masks::new(alloc));
-    grow_levels(tree)?;
+    grow_rising(tree)?;
     list_up_to(tree, order, CALL, BETWEEN + 2)?;
-    assert!(rt; come(alloc, tree, order, &masks, CALL, &levels(alloc)?)?);
+    assert!(rt; come(alloc, tree, order, &masks, CALL, &rising(alloc)?)?);
+    Ok(())
+}
+
+#[test]
+fn each_attachment_stands_behind_the_last_one(rt: HostRuntime) -> Result<(), Fail> {
+    let alloc = rt.alloc();
+    let mut tree_kept = ManuallyDrop::new(Tree::new(alloc));
+    let tree = &mut *tree_kept;
+    let mut order_kept = ManuallyDrop::new(Order::new(alloc));
+    let order = &mut *order_kept;
+    let masks = ManuallyDrop::new(Masks::new(alloc));
+    grow_falling(tree)?;
+    list_up_to(tree, order, CALL, BETWEEN + 2)?;
+    assert!(rt; come(alloc, tree, order, &masks, CALL, &falling(alloc)?)?);
+    Ok(())
+}
+
+#[test]
+fn each_attachment_stands_between_the_last_two(rt: HostRuntime) -> Result<(), Fail> {
+    let alloc = rt.alloc();
+    let mut tree_kept = ManuallyDrop::new(Tree::new(alloc));
+    let tree = &mut *tree_kept;
+    let mut order_kept = ManuallyDrop::new(Order::new(alloc));
+    let order = &mut *order_kept;
+    let masks = ManuallyDrop::new(Masks::new(alloc));
+    grow_inwards(tree)?;
+    list_up_to(tree, order, CALL, BETWEEN + 2)?;
+    assert!(rt; come(alloc, tree, order, &masks, CALL, &inwards(alloc)?)?);
     Ok(())
 }
 

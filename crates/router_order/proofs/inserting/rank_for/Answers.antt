@@ -1,6 +1,5 @@
 -- the rank lies between those of the neighbours
-use Rattle.std.proofs.Common.{◌≡◌, ◌<◌, ◌∙◌, List, true, false, arith, ap, subst}
-use Rattle.std.specs.Prelude.{option_map}
+use Rattle.std.proofs.Common.{◌≡◌, ◌<◌, ◌∙◌, List, true, false, subst}
 use Rattle.std.specs.List.{AllByRecursion}
 use Rattle.router_state.specs.declared.rows.Link.{Link}
 use Rattle.router_order.specs.declared.placed.Placed.{Placed}
@@ -8,19 +7,8 @@ use Rattle.router_order.specs.Listed.{IsListing}
 use Rattle.router_order.specs.Placed.{attachments}
 use Rattle.router_order.proofs.RankLemmas.{above_front, below_back, earlier_down, is_earlier, run_ranks, some_follows}
 use Rattle.router_order.proofs.MoveLemmas.{run_listed}
-use Rattle.router_order.proofs.RunLemmas.{run, run_is, run_length, run_short}
+use Rattle.router_order.proofs.RunLemmas.{run, run_is}
 use Rattle.router_order.proofs.inserting.rank_for.Goals as goal
-
-pub place_in-place-requires-clause-listing : goal.place_in-place-requires-clause-listing
-place_in-place-requires-clause-listing c =
-    let a = c.args.link.now.activity.0 in
-    rw c.rows_of-run.ensures (subst (λ (links : List Link). IsListing c.args.tree.now.rows links) (run_is c.args.rows.now.rows a) (run_listed c.args.tree.now.rows (attachments c.args.rows.now.rows) a c.requires))
-
-pub place_in-place-requires-clause-count : goal.place_in-place-requires-clause-count
-place_in-place-requires-clause-count c =
-    let same = run_length c.args.rows.now.rows c.args.link.now.activity.0 in
-    let short = run_short c.args.rows.now.rows c.args.link.now.activity.0 in
-    rw c.rows_of-run.ensures (omega (arith, same, short, c.len-count.ensures))
 
 pub returns-clause-above : goal.returns-clause-above
 returns-clause-above c =
@@ -28,11 +16,9 @@ returns-clause-above c =
     let rows = c.args.rows.now.rows in
     let a = c.args.link.now.activity.0 in
     let test = is_earlier es c.args.link.now in
-    let place = rw c.rows_of-run.ensures at c.place_in-place.ensures in
-    let before = rw (c.rows_of-run.ensures, place) at c.rank_before.ensures in
     let listing = subst (λ (links : List Link). IsListing es links) (run_is rows a) (run_listed es (attachments rows) a c.requires) in
     some_follows _ (λ rank. AllByRecursion (λ (row : Placed). test row ≡ true → row.rank < rank) (run rows a)) _
-    (λ rank above. above_front test rank (run rows a) (run_ranks a rows c.rises.ensures) (earlier_down es c.args.link.now (run rows a) listing) (λ y some at. above y.rank (before y some at)))
+    (λ rank above. above_front test rank (run rows a) (run_ranks a rows c.rises.ensures) (earlier_down es c.args.link.now (run rows a) listing) (λ y some at. above y (c.neighbours-beside.ensures.before y some at)))
     c.rank_between.ensures.above
 
 pub returns-clause-below : goal.returns-clause-below
@@ -41,8 +27,6 @@ returns-clause-below c =
     let rows = c.args.rows.now.rows in
     let a = c.args.link.now.activity.0 in
     let test = is_earlier es c.args.link.now in
-    let place = rw c.rows_of-run.ensures at c.place_in-place.ensures in
-    let high = rw (c.rows_of-run.ensures, place) at c.rank_in.ensures in
     some_follows _ (λ rank. AllByRecursion (λ (row : Placed). test row ≡ false → rank < row.rank) (run rows a)) _
-    (λ rank below. below_back test rank (run rows a) (run_ranks a rows c.rises.ensures) (λ y at. below y.rank (high ∙ ap (option_map (λ (row : Placed). row.rank)) at)))
+    (λ rank below. below_back test rank (run rows a) (run_ranks a rows c.rises.ensures) (λ y at. below y (c.neighbours-beside.ensures.behind ∙ at)))
     c.rank_between.ensures.below
