@@ -5,7 +5,8 @@
     bench/state_changes.py [LISTS [SEED]]   so many random lists of changes that fit, 100 where nothing is said, one compared after the other
 
 The worked cases are those of run_definitions.py: after each of their steps the state is shown, and it is asked what is next. A random
-list is made of changes that fit by the definition; after each some questions are put, and at its end the whole state is shown. What
+list is made of changes that fit by the definition; after each some questions are put, and at its end the whole state is shown, as words and
+as the bytes of a snapshot. What
 evaluates definitions is rundefs (deployments.py says where). Build the program first: cd crates/golden_state && rt run
 """
 import json
@@ -289,6 +290,10 @@ class Played:
         word, _, rest = line.partition(" ")
         if word == "show":
             return bytes(self.world.eval("router_state.specs.Show.show_text")(self.state)).decode()
+        if word == "bytes":
+            return bytes(self.world.eval("router_state.specs.Snapshot.spelled_state")(2, self.state)).hex() + "\n"
+        if word == "snapshot":
+            return bytes(self.world.eval("router_state.specs.Restoring.snapshot_text")(2, self.state)).hex() + "\n"
         if word == "next":
             found = self.world.eval("router_state.specs.Next.next")(self.state, int(rest))
             return (found.args[0].con.name.lower() if found.args else "none") + "\n"
@@ -424,7 +429,7 @@ def row_of_case(world, path, steps):
                 lines += [Spelling(it).line() for it in recorder.between(state, after)]
             state = after
             lines += questions(state)
-        return source, lines
+        return source, [*lines, "bytes"] if lines else lines
     raise run_definitions.Skipped("nothing is played from the first state")
 
 
@@ -450,13 +455,13 @@ def row_of_high_numbers():
     lines += [f"clock {HIGH - 1}", f"release {HIGH - 2}", f"next {HIGH - 2}", f"look next {HIGH - 2}", "least", f"advance {HIGH - 2}", "show"]
     lines += [f"unmask 1 {HIGH - 2} ping", f"look next {HIGH - 2}", f"mark-entity {HIGH - 2} 2", f"look next {HIGH - 2}", "set-priority 2 -128", "show"]
     lines += [f"forget-masks 1 {HIGH - 3}", f"detach 2 {HIGH - 1}", f"pop {HIGH - 3}", f"cancel-all {HIGH - 1}", f"drop {HIGH - 2}", "show"]
-    return ONE_BLOCK, lines
+    return ONE_BLOCK, ["snapshot", *lines, "bytes"]
 
 
 def row_of_each_change():
     """Each change with what it wants, and without: those that can't be made are told. What only doesn't fit is made all the same."""
-    at = lambda *lines: [it for line in lines for it in (line, "show")]
-    lines = ["start external c1", "start null", "start service 1", "start external c1", "create-root 0 0 5", "create-root 9 7 -128", "create-child 1 leg 1 3"]
+    at = lambda *lines: [it for line in lines for it in (line, "show")] + ["bytes"]
+    lines = ["snapshot", "bytes", "start external c1", "start null", "start service 1", "start external c1", "create-root 0 0 5", "create-root 9 7 -128", "create-child 1 leg 1 3"]
     lines += ["create-child 99 leg 1 3", "create-child 3 sub 1 0", "remove 1", "attach 1 3", "attach 1 3", "remove 1", "attach 99 3", "attach 2 88"]
     lines += at("set-field 1 n int:7", "set-field 1 n text:a%20b", "set-field 99 n bool:true", "forget-fields 99", "root 1 3", "root 1 4", "root 3 3", "root 99 3")
     lines += at("set-priority 1 127", "set-priority 99 1", "set-attr 3 b.n int:-1", "set-attr 3 b.n activity:3", "set-attr 88 b.n int:2")
@@ -470,7 +475,7 @@ def row_of_each_change():
     lines += at("add-row 2 b pin=int:2 who=text:y", "add-row 0 b pin=int:2 who=text:y", "add-row 1 a t=bool:true", "update-row 0 a pin=int:2 who=text:z", "update-row 0 a pin=int:1 who=text:z")
     lines += at("update-row 0 c pin=int:9 who=text:z", "update-row 1 a t=int:1", "update-row 7 a t=bool:true", "remove-row 0 c", "remove-row 7 a", "remove-row 0 a", "remove-row 0 a")
     lines += at("detach 1 3", "detach 1 3", "detach 99 88", "drop 88", "drop 3", "remove 4", "remove 3", "remove 3", "remove 1", "remove 99")
-    return GROUND, lines
+    return GROUND, [*lines, "snapshot"]
 
 
 def without_scripts(source):
@@ -660,8 +665,8 @@ class Dice:
                 if self.random.random() < 0.4:
                     lines.append(self.question())
                     said.append(self.played.answer(lines[-1]))
-        lines += ["least", "show"]
-        return lines, "".join(said + [self.played.answer(it) for it in lines[-2:]])
+        ends = ["least", "show", "bytes", "snapshot"]
+        return lines + ends, "".join(said + [self.played.answer(it) for it in ends])
 
 
 def compare(world, count, seed):

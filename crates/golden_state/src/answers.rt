@@ -1,4 +1,4 @@
-//! How choices are printed.
+//! How choices and bytes are printed.
 
 use golden_words::Trouble;
 use router_state::Kindred;
@@ -37,4 +37,12 @@ pub fn put_least(
         }
         None => put_next(None, out),
     }
+}
+
+/// Adds a line of bytes in hexadecimal digits.
+pub fn put_digits(alloc: Global, bytes: &[u8], out: &mut Vec<u8>) -> Result<(), Trouble> {
+    let digits = hex::encode(alloc, bytes)?;
+    out.extend_from_slice(digits.as_bytes())?;
+    out.extend_from_slice(b"\n")?;
+    Ok(())
 }

@@ -2,7 +2,7 @@
 ghost use Rattle.std.specs.Prelude.{◌≡◌, OnOk};
 ghost use Rattle.deploy_model.specs.Resolving.{deployed_of};
 
-use crate::answers::{put_least, put_next};
+use crate::answers::{put_digits, put_least, put_next};
 use crate::seen::put_seen;
 use change_making::make;
 use golden_words::{Trouble, key_of, number_of};
@@ -12,6 +12,7 @@ use router_show::show;
 use router_stores::Stores;
 use slee_descriptor::Deployment;
 use slee_value::ActivityId;
+use snapshot_write::{snapshot_text, write_state};
 use state_words::change_of;
 use std::alloc::Global;
 
@@ -73,6 +74,33 @@ fn answer_look(
     put_seen(alloc, &seen, out)
 }
 
+/// Adds the bytes of the state in hexadecimal digits.
+fn answer_bytes(
+    alloc: Global,
+    deployment: &Deployment,
+    stores: &Stores,
+    out: &mut Vec<u8>,
+) -> Result<(), Trouble>
+    requires { deployed_of deployment.now.parts ≡ stores.now.state.deployment }
+{
+    let mut bytes = Vec::new(alloc);
+    write_state(stores, deployment, &mut bytes)?;
+    put_digits(alloc, &bytes, out)
+}
+
+/// Adds what stands for the state in a journal, in hexadecimal digits.
+fn answer_snapshot(
+    alloc: Global,
+    deployment: &Deployment,
+    stores: &Stores,
+    out: &mut Vec<u8>,
+) -> Result<(), Trouble>
+    requires { deployed_of deployment.now.parts ≡ stores.now.state.deployment }
+{
+    let bytes = snapshot_text(alloc, stores, deployment)?;
+    put_digits(alloc, &bytes, out)
+}
+
 /// Answers a question, if the line is one.
 fn answer(
     alloc: Global,
@@ -92,6 +120,8 @@ fn answer(
             put_next(next(stores, deployment, activity), out)?
         }
         "look" => answer_look(alloc, deployment, stores, rest, out)?,
+        "bytes" => answer_bytes(alloc, deployment, stores, out)?,
+        "snapshot" => answer_snapshot(alloc, deployment, stores, out)?,
         _ => return Ok(false),
     }
     Ok(true)

@@ -1,6 +1,7 @@
 //! Makes changes over the stores of the state, and prints what is asked of them. A row is the parts of a deployment in lines, `begin`, and lines
-//! behind it; an empty line ends it. A line is a change in the words of `state_words`, or a question: `show`; `least` and activities that are
-//! claimed; `next` and an activity; `look` and a key. A change that can't be made is told and left out.
+//! behind it; an empty line ends it. A line is a change in the words of `state_words`, or a question: `show`; `bytes`, those of the state, and
+//! `snapshot`, in hexadecimal digits; `least` and activities that are claimed; `next` and an activity; `look` and a key. A change that can't be
+//! made is told and left out.
 #![tactic(auto)]
 
 mod answers;
