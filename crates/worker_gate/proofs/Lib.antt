@@ -1,0 +1,5 @@
+pub mod HandLemmas
+pub mod MoveLemmas
+pub mod PassingLemmas
+pub mod SharingLemmas
+pub mod WorkLemmas
