@@ -1,5 +1,5 @@
 -- What the parts of a run answer.
-use Rattle.std.proofs.Common.{◌≡◌, ◌≢◌, ◌⊎◌, inl, inr, ℕ, ◌+◌, ◌<◌, ◌≤◌, nat_le, List, [], ◌++◌, length, take, drop, true, false, refl, sym, ◌∙◌, ap, subst, append_assoc, Option, Some, None, Result, Ok, Err, IsOk, IsTrue, IfSome, MatchOption, arith, drop_of_length-le}
+use Rattle.std.proofs.Common.{◌≡◌, ◌≢◌, ◌⊎◌, inl, inr, ℕ, ◌<◌, ◌≤◌, nat_le, List, [], ◌++◌, length, take, drop, true, false, refl, sym, ◌∙◌, ap, subst, append_assoc, Option, Some, None, Result, Ok, Err, IsOk, IsTrue, IfSome, MatchOption, arith, drop_of_length-le}
 use Rattle.std.proofs.lemmas.Bool.{cases_Bool, leb-true}
 use Rattle.std.proofs.KnownBytes.{Appends-trans}
 use Rattle.deploy_model.specs.Resolving.{deployed_of}
@@ -13,7 +13,7 @@ use Rattle.slee_disk.specs.Writes.{Writes}
 use Rattle.slee_disk.proofs.Moments.{clean_told, leaves_then, leaves_what, now_since}
 use Rattle.commit_journal.specs.declared.fault.BeginFault.{BeginFault}
 use Rattle.commit_journal.specs.declared.fault.BeginFault.TheVariants as renewals
-use Rattle.commit_journal.specs.Reading.{Kept, Wrong, recovered}
+use Rattle.commit_journal.specs.Reading.{Kept, recovered}
 use Rattle.router_state.specs.Initial.{initial}
 use Rattle.router_state.specs.Restoring.{snapshot_text}
 use Rattle.router_state.specs.State.{State}
@@ -94,7 +94,6 @@ late_told stood statuses.NoMemory same late early = early
 late_told stood (statuses.BadDeploy fault) same late early = late (subst IsBeforeOpening (same (λ e. cc) (λ e. cc)) early)
 late_told stood (statuses.BadSignals line kind) same late early = late (subst IsBeforeOpening (same (λ e. cc) (λ e. cc)) early)
 late_told stood (statuses.TooLarge what) same late early = late (subst IsBeforeOpening (same (λ e. cc) (λ e. cc)) early)
-late_told stood statuses.NotBuilt same late early = late (subst IsBeforeOpening (same (λ e. cc) (λ e. cc)) early)
 
 pub late_written : (before after : Option (List ℕ)) (text : List ℕ) (stood status : Status) → IsWritten before after text stood status → (IsBeforeOpening stood → ⊥) → IsBeforeOpening status → ⊥
 late_written before after text stood status w late early = late_told stood status (λ up found. sym (w.whole up).0) late early
@@ -641,7 +640,6 @@ early_unended statuses.NoMemory early = tt
 early_unended (statuses.BadDeploy fault) early = tt
 early_unended (statuses.BadSignals line kind) early = tt
 early_unended (statuses.TooLarge what) early = tt
-early_unended statuses.NotBuilt early = tt
 
 -- what a refusal by the sources comes to
 refusal_comes : {Good : Type 0} (o : Option Status) (status : Status) → IsRefusalBy o status → (status ≡ statuses.ReadFault → Good) → (status ≡ statuses.NoMemory → Good)
@@ -702,7 +700,7 @@ early_played mode steps deploy signals before after d stood status early words r
         alone_at_start (base_on nowhere d) steps (lines_of_run mode (base_on nowhere d) (lines_in text)) stood (early_done stood early) (λ n. early_spent stood n early)
         (λ size adding some. early_full stood size adding early)
 
-document_given : (deploy : Option (List ℕ)) (d : Deployed) → IsDeployedFrom deploy d → IsDocument deploy (document_of d)
+pub document_given : (deploy : Option (List ℕ)) (d : Deployed) → IsDeployedFrom deploy d → IsDocument deploy (document_of d)
 document_given deploy d from = record { deployment = d.checked; given = from.given; start = refl; told = from.told }
 
 pub inputs_played : (mode : Mode) (steps : ℕ) (deploy signals before after : Option (List ℕ)) (old new : DiskState) (status : Status) (i : Inputs) → AreInputsFrom deploy signals i
@@ -756,7 +754,6 @@ barred_late (Some bytes) (statuses.Full size adding) late = tt
 barred_late (Some bytes) (statuses.StepsSpent entries) late = tt
 barred_late (Some bytes) statuses.NoMemory late = tt
 barred_late (Some bytes) (statuses.TooLarge what) late = absurd (late tt)
-barred_late (Some bytes) statuses.NotBuilt late = tt
 
 tended_checked : (status : Status) → IsCheckedAt status → status ≢ statuses.Ok → IsTendedAt status
 tended_checked statuses.Ok comes fine = tt
@@ -772,7 +769,6 @@ tended_checked statuses.NoMemory comes fine = tt
 tended_checked (statuses.BadDeploy fault) comes fine = tt
 tended_checked (statuses.BadSignals line kind) comes fine = absurd comes
 tended_checked (statuses.TooLarge what) comes fine = comes
-tended_checked statuses.NotBuilt comes fine = absurd comes
 
 task_alone : (task : Task) (base : State) (generation : ℕ) (status : Status) → status ≢ statuses.Ok → status_line status ≡ task_text task base generation status
 task_alone task base generation statuses.Ok fine = absurd (fine refl)
@@ -788,7 +784,6 @@ task_alone task base generation statuses.NoMemory fine = refl
 task_alone task base generation (statuses.BadDeploy fault) fine = refl
 task_alone task base generation (statuses.BadSignals line kind) fine = refl
 task_alone task base generation (statuses.TooLarge what) fine = refl
-task_alone task base generation statuses.NotBuilt fine = refl
 
 early_done_on : (task : Task) (d : DiskState) (stood : Status) (generation : ℕ) → IsEarly stood → DoneOn task nowhere (base_on nowhere d) generation d d stood
 early_done_on tasks.Show d stood generation early = untouched_shows nowhere d stood early
@@ -898,7 +893,6 @@ early_generated seed count deploy before after stood status early comes barred o
     prints (statuses.BadDeploy fault) early barred = (refl, barred)
     prints (statuses.BadSignals line kind) early barred = (refl, barred)
     prints (statuses.TooLarge what) early barred = (refl, barred)
-    prints statuses.NotBuilt early barred = (refl, barred)
 
 pub lines_generated : (seed count : ℕ) (deploy before after : Option (List ℕ)) (status : Status) (i : Inputs) → IsDeployedFrom deploy i.deployed
     → i.lines ≡ generated seed count (deployed_of i.deployed.checked.parts) → IsLinesOut i.lines before after status → IsGeneratedBy seed count deploy before after status

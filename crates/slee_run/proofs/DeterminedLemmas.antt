@@ -1,5 +1,5 @@
 -- Words, bytes and a journal determine a run.
-use Rattle.std.proofs.Common.{◌≡◌, ◌≢◌, ◌⊎◌, inl, inr, ⊎_elim, ℕ, ◌+◌, ◌<◌, ◌≤◌, nat_le, true, false, List, [], ◌∷◌, ◌++◌, length, length-append, refl, sym, ◌∙◌, ap, subst, arith, append-nil, Option, Some, None, Result, Ok, Err, MatchOption, IsTrue}
+use Rattle.std.proofs.Common.{◌≡◌, ◌≢◌, ◌⊎◌, inl, inr, ⊎_elim, ℕ, ◌+◌, ◌<◌, ◌≤◌, nat_le, true, false, List, [], ◌∷◌, ◌++◌, length, length-append, refl, sym, ◌∙◌, ap, subst, arith, append-nil, Option, Some, None, Result, Ok, Err, MatchOption, IsTrue, option_and_then}
 use Rattle.std.proofs.lemmas.Bool.{cases_Bool, cases_eq, leb-true, leb-false}
 use Rattle.signal_script.specs.declared.signal.Signal.{Signal}
 use Rattle.slee_disk.specs.Disk.{DiskState}
@@ -29,6 +29,8 @@ use Rattle.slee_container.specs.declared.container.Mode.{Mode}
 use Rattle.slee_container.specs.declared.container.Mode.TheVariants as modes
 use Rattle.slee_descriptor.specs.declared.deployment.Deployment.{Deployment}
 use Rattle.slee_run.specs.Determined.{IsRunOver}
+use Rattle.slee_run.specs.Many.{crew_in, crew_of}
+use Rattle.slee_run.proofs.CrewLemmas.{one_worker}
 use Rattle.slee_run.specs.Given.{Document, IsDeployment, IsDocument, deploy_limit, lines_in, refusal_of, refusal_of_deploy}
 use Rattle.slee_run.specs.declared.command.Command.{Command}
 use Rattle.slee_run.specs.declared.command.Command.TheVariants as commands
@@ -39,7 +41,7 @@ use Rattle.slee_run.proofs.RunLemmas.{IsBarredShow, barred_good, counted_read, n
 use Rattle.slee_run.specs.Words.{command_of}
 use Rattle.slee_run.specs.declared.finishing.Report.TheVariants as reports
 use Rattle.slee_run.specs.Checking.{IsBarred, IsCounted, IsFaulty, IsLinesFor, IsTextFor, IsCheckedAt}
-use Rattle.slee_run.specs.Headline.{MayFollow, IsDoneOn, IsFullOn, IsSpentOn, AsksLater, EndsOn, HasNoSide, IsBefore, IsByOneOn, IsTask, IsTendedAt, IsLater, IsRefusedAs, IsTrialOrNone, IsUnread, AddsFirst, IsByOne, IsByFault, Opens, Plays, Tends, command_for, command_of_task, lines_of_run, trial_steps}
+use Rattle.slee_run.specs.Headline.{MayFollow, IsDoneOn, IsFullOn, IsSpentOn, EndsOn, HasNoSide, IsBefore, IsByOneOn, IsTask, IsTendedAt, IsRefusedAs, IsTrialOrNone, IsUnread, AddsFirst, IsByOne, IsByFault, Opens, Plays, Tends, command_for, command_of_task, lines_of_run, trial_steps}
 use Rattle.slee_run.specs.Opening.{journal_limit, found, IsAnswerTo, IsEarly}
 use Rattle.slee_run.specs.Stops.{left_on, size_behind, DoneOn, IsBegun, IsSized, IsUnbegun, IsUnwritten, KeepsJournal, MeetsJournal}
 use Rattle.slee_run.specs.declared.tending.Task.{Task}
@@ -168,7 +170,6 @@ led x old base steps lines history statuses.NoMemory bytes s ends one sized ok a
 led x old base steps lines history (statuses.BadDeploy fault) bytes s ends one sized ok answer fine = absurd ends
 led x old base steps lines history (statuses.BadSignals line kind) bytes s ends one sized ok answer fine = absurd ends
 led x old base steps lines history (statuses.TooLarge what) bytes s ends one sized ok answer fine = absurd ends
-led x old base steps lines history statuses.NotBuilt bytes s ends one sized ok answer fine = absurd ends
 
 whole_is : (h rest k tail : List Entry) → h ++ rest ≡ k ++ tail → rest ≡ [] → tail ≡ [] → h ≡ k
 whole_is h rest k tail same none no_tail = sym (append-nil h) ∙ ap (λ (l : List Entry). h ++ l) (sym none) ∙ same ∙ ap (λ (l : List Entry). k ++ l) no_tail ∙ append-nil k
@@ -275,7 +276,6 @@ early_fault base steps lines history statuses.NoMemory ends early = tt
 early_fault base steps lines history (statuses.BadDeploy fault) ends early = absurd ends
 early_fault base steps lines history (statuses.BadSignals line kind) ends early = absurd ends
 early_fault base steps lines history (statuses.TooLarge what) ends early = absurd ends
-early_fault base steps lines history statuses.NotBuilt ends early = absurd ends
 
 -- ---- deployments
 
@@ -300,7 +300,6 @@ checked_as bytes text (statuses.StepsSpent entries) at is fine = absurd at
 checked_as bytes text statuses.NoMemory at is fine = absurd (fine tt)
 checked_as bytes text (statuses.TooLarge givens.Deploy) at is fine = Large refl is.0 is.1
 checked_as bytes text (statuses.TooLarge givens.Signals) at is fine = absurd at
-checked_as bytes text statuses.NotBuilt at is fine = absurd at
 
 -- the status determines the text
 same_line : (x y : List ℕ) (s t : Status) → s ≡ t → x ≡ status_line s → y ≡ status_line t → (s ≡ t) × (x ≡ y)
@@ -347,7 +346,6 @@ told_wrong base steps lines history statuses.NoMemory w ends answer fine = absur
 told_wrong base steps lines history (statuses.BadDeploy fault) w ends answer fine = absurd ends
 told_wrong base steps lines history (statuses.BadSignals line kind) w ends answer fine = absurd ends
 told_wrong base steps lines history (statuses.TooLarge what) w ends answer fine = absurd ends
-told_wrong base steps lines history statuses.NotBuilt w ends answer fine = absurd ends
 
 -- ---- what a run came to, unless it is by a fault
 
@@ -375,7 +373,6 @@ between statuses.NoMemory reached unended = inl tt
 between (statuses.BadDeploy fault) reached unended = absurd reached
 between (statuses.BadSignals line kind) reached unended = absurd reached
 between (statuses.TooLarge what) reached unended = absurd reached
-between statuses.NotBuilt reached unended = absurd reached
 
 -- the whole report, or the status line alone
 data Prints (report : Report) (acked : List Entry) (ended : Status) (text : List ℕ) : Type 0 where
@@ -465,7 +462,6 @@ task_wrong statuses.NoMemory w at good answer fine = absurd (fine tt)
 task_wrong (statuses.BadDeploy fault) w at good answer fine = absurd good
 task_wrong (statuses.BadSignals line kind) w at good answer fine = absurd at
 task_wrong (statuses.TooLarge what) w at good answer fine = absurd good
-task_wrong statuses.NotBuilt w at good answer fine = absurd at
 
 task_fine : (status : Status) (s : State) → IsTendedAt status → IsBarredShow status → IsAnswerTo (Ok s) status → (IsByFault status → ⊥) → (status ≡ statuses.Ok) ⊎ HasNoRoom status
 task_fine statuses.Ok s at good answer fine = inl refl
@@ -481,7 +477,6 @@ task_fine statuses.NoMemory s at good answer fine = absurd (fine tt)
 task_fine (statuses.BadDeploy fault) s at good answer fine = absurd good
 task_fine (statuses.BadSignals line kind) s at good answer fine = absurd at
 task_fine (statuses.TooLarge what) s at good answer fine = absurd good
-task_fine statuses.NotBuilt s at good answer fine = absurd at
 
 said_text : (task : Task) (a b : State) (m n : ℕ) (w : Wrong) → task_text task a m (said w) ≡ task_text task b n (said w)
 said_text task a b m n (WrongAt side at kind) = refl
@@ -502,7 +497,6 @@ early_task statuses.NoMemory at good early = tt
 early_task (statuses.BadDeploy fault) at good early = absurd good
 early_task (statuses.BadSignals line kind) at good early = absurd at
 early_task (statuses.TooLarge what) at good early = absurd good
-early_task statuses.NotBuilt at good early = absurd at
 
 -- where a task has no room, a side that is written anew has none
 task_unwritten : (task : Task) (x : Document) (base : State) (generation : ℕ) (old new : DiskState) (status : Status) → DoneOn task x base generation old new status → IsTrue old.told → found x old ≡ Ok base
@@ -566,7 +560,6 @@ task_refused bytes refusal (statuses.BadDeploy fault) is at barred early fine = 
 task_refused bytes refusal (statuses.BadSignals line kind) is at barred early fine = absurd at
 task_refused bytes refusal (statuses.TooLarge givens.Deploy) is at barred early fine = one_some (statuses.TooLarge givens.Deploy) refusal (sym (large_deploy bytes barred) ∙ is)
 task_refused bytes refusal (statuses.TooLarge givens.Signals) is at barred early fine = absurd at
-task_refused bytes refusal statuses.NotBuilt is at barred early fine = absurd at
 
 -- ---- what the words ask
 
@@ -576,26 +569,19 @@ data Asked (c : Command) : Type 0 where
   Check : c ≡ commands.Check → Asked c
   Gen : (seed count : ℕ) → c ≡ commands.Gen seed count → Asked c
   Trial : (seed count : ℕ) → c ≡ commands.Trial seed count → Asked c
-  Later : IsLater c → Asked c
 
-by_workers : (mode : Mode) (workers steps : ℕ) (c : ℕ → Command) → ((n : ℕ) → (n ≢ 1) → IsLater (c n)) → c 1 ≡ command_for mode steps → Asked (c workers)
-by_workers mode workers steps c later one = elim (cases_eq workers 1) [
-  | inl is ↦ Play mode steps (ap c is ∙ one)
-  | inr more ↦ Later (later workers more)
-]
-
-asked : (c : Command) → Asked c
-asked commands.Check = Check refl
-asked commands.Show = Tend tasks.Show refl
-asked commands.Compact = Tend tasks.Compact refl
-asked (commands.Gen seed count) = Gen seed count refl
-asked (commands.Trial seed count) = Trial seed count refl
-asked (commands.Play workers steps) = by_workers modes.AllNew workers steps (λ n. commands.Play n steps) (λ n more. more) refl
-asked (commands.Resume workers steps) = by_workers modes.SkipTaken workers steps (λ n. commands.Resume n steps) (λ n more. more) refl
+asked : (c : Command) → crew_of c ≡ None → Asked c
+asked commands.Check one = Check refl
+asked commands.Show one = Tend tasks.Show refl
+asked commands.Compact one = Tend tasks.Compact refl
+asked (commands.Gen seed count) one = Gen seed count refl
+asked (commands.Trial seed count) one = Trial seed count refl
+asked (commands.Play workers steps) one = Play modes.AllNew steps (ap (λ (n : ℕ). commands.Play n steps) (one_worker modes.AllNew workers steps one))
+asked (commands.Resume workers steps) one = Play modes.SkipTaken steps (ap (λ (n : ℕ). commands.Resume n steps) (one_worker modes.SkipTaken workers steps one))
 
 plays_open : (words : List (List ℕ)) (mode : Mode) (steps : ℕ) → Plays words mode steps → Opens words
-plays_open words modes.AllNew steps plays = record { command = commands.Play 1 steps; asks = plays; opening = refl }
-plays_open words modes.SkipTaken steps plays = record { command = commands.Resume 1 steps; asks = plays; opening = refl }
+plays_open words modes.AllNew steps plays = record { command = commands.Play 1 steps; asks = plays; opening = tt }
+plays_open words modes.SkipTaken steps plays = record { command = commands.Resume 1 steps; asks = plays; opening = tt }
 
 -- ---- one deployment
 
@@ -623,7 +609,6 @@ generated_as bytes text seed count (statuses.StepsSpent entries) at is fine = ab
 generated_as bytes text seed count statuses.NoMemory at is fine = absurd (fine tt)
 generated_as bytes text seed count (statuses.TooLarge givens.Deploy) at is fine = Over refl is.0 is.1
 generated_as bytes text seed count (statuses.TooLarge givens.Signals) at is fine = absurd at
-generated_as bytes text seed count statuses.NotBuilt at is fine = absurd at
 
 one_generated : (bytes x y : List ℕ) (seed count : ℕ) (s t : Status) → Generated bytes x seed count s → Generated bytes y seed count t → (s ≡ t) × (x ≡ y)
 one_generated bytes x y seed count s t (Given d is prints a) (Given e also writes b) =
@@ -745,7 +730,6 @@ module _ (old one other : DiskState) (words : List (List ℕ)) (deploy bytes : L
   bad_task task (statuses.BadDeploy fault) a b m n up = refl
   bad_task task (statuses.BadSignals line kind) a b m n up = refl
   bad_task task (statuses.TooLarge what) a b m n up = refl
-  bad_task task statuses.NotBuilt a b m n up = refl
 
   -- both do the task over one journal
   task_found : (opens : Opens words) (task : Task) → Tends words task → (x : Document) → first.over.document ≡ x → second.over.document ≡ x → (r : Result State Wrong) → found x old ≡ r
@@ -784,11 +768,6 @@ module _ (old one other : DiskState) (words : List (List ℕ)) (deploy bytes : L
       task_found opens task tends first.over.document refl (documents opens (early_task p.ended x.comes good) (early_task q.ended y.comes better)) (found first.over.document old) refl x.none y.none x.comes y.comes good better
 
   by_asked : (c : Command) → command_of words ≡ Some c → Asked c → (p.stood ≡ q.stood) × (p.history ≡ q.history) × (p.text ≡ q.text)
-  by_asked c is (Later later) =
-      let asks : AsksLater words = record { command = c; asks = is; later = later } in
-      let x = first.over.run.later asks in
-      let y = second.over.run.later asks in
-      (first.stands ∙ x.same ∙ sym y.same ∙ sym second.stands, x.none ∙ sym y.none, x.alone ∙ sym y.alone)
   by_asked c is (Check checks) =
       let asks : command_of words ≡ Some commands.Check = is ∙ ap (λ (d : Command). Some d) checks in
       let x = first.over.run.checks asks in
@@ -822,14 +801,14 @@ module _ (old one other : DiskState) (words : List (List ℕ)) (deploy bytes : L
       equal reports.Summary (first.over.bare opens told) (second.over.bare opens told)
       (trial_same opens (no_task words (commands.Trial seed count) asks (λ e. cc) (λ e. cc)) seed count (refusal_of_deploy deploy) x.comes y.comes) x.prints y.prints
 
-  by_command : (o : Option Command) → command_of words ≡ o → (p.stood ≡ q.stood) × (p.history ≡ q.history) × (p.text ≡ q.text)
-  by_command None is =
+  by_command : (o : Option Command) → command_of words ≡ o → option_and_then crew_of o ≡ None → (p.stood ≡ q.stood) × (p.history ≡ q.history) × (p.text ≡ q.text)
+  by_command None is one =
       let x = first.over.run.bad is in
       let y = second.over.run.bad is in
       (first.stands ∙ x.same ∙ sym y.same ∙ sym second.stands, x.none ∙ sym y.none, x.alone ∙ sym y.alone)
-  by_command (Some c) is = by_asked c is (asked c)
+  by_command (Some c) is one = by_asked c is (asked c one)
 
-pub determined : (old one other : DiskState) (words : List (List ℕ)) (deploy bytes : List ℕ) (p q : Outcome) → IsTrue old.told → IsRunOver words deploy bytes old one p → IsRunOver words deploy bytes old other q
+pub determined : (old one other : DiskState) (words : List (List ℕ)) (deploy bytes : List ℕ) (p q : Outcome) → crew_in words ≡ None → IsTrue old.told → IsRunOver words deploy bytes old one p → IsRunOver words deploy bytes old other q
     → (IsByFault p.stood → ⊥) → (IsByFault q.stood → ⊥) → (p.stood ≡ q.stood) × (p.history ≡ q.history) × (p.text ≡ q.text)
-determined old one other words deploy bytes p q told first second fine good =
-    by_command old one other words deploy bytes p q told (fine_run words deploy bytes old one p first fine) (fine_run words deploy bytes old other q second good) (command_of words) refl
+determined old one other words deploy bytes p q alone told first second fine good =
+    by_command old one other words deploy bytes p q told (fine_run words deploy bytes old one p first fine) (fine_run words deploy bytes old other q second good) (command_of words) refl alone

@@ -1,12 +1,12 @@
 -- What a run leaves on its disk, by what its container keeps.
-use Rattle.std.proofs.Common.{◌≡◌, ◌≢◌, ◌⊎◌, inl, inr, ℕ, ◌+◌, ◌<◌, ◌≤◌, List, [], ◌∷◌, ◌++◌, length, length-append, take, drop, true, false, refl, sym, ◌∙◌, ap, subst, append-nil, Option, Some, None, Result, Ok, Err, IsOk, IsTrue, arith}
+use Rattle.std.proofs.Common.{◌≡◌, ◌≢◌, ◌⊎◌, inl, inr, ℕ, ◌≤◌, List, [], ◌∷◌, ◌++◌, length, length-append, take, drop, true, false, refl, sym, ◌∙◌, ap, subst, append-nil, Option, Some, None, Result, Ok, Err, IsOk, IsTrue, arith}
 use Rattle.std.proofs.lemmas.Bool.{cases_Bool}
 use Rattle.std.proofs.lemmas.List.{take_all, take-append-drop, length-take-le}
 use mathlib.Core.List.{IsPrefix}
 use Rattle.slee_disk.specs.Causes.{Rose}
 use Rattle.slee_disk.specs.Sides.{Sides}
-use Rattle.slee_disk.specs.Disk.{DiskState, LeavesOnly, is_clean}
-use Rattle.slee_disk.proofs.Moments.{leaves_start, now_since, tells, clean_of, clean_told, clean_settled, clean_only}
+use Rattle.slee_disk.specs.Disk.{DiskState, is_clean}
+use Rattle.slee_disk.proofs.Moments.{leaves_start, now_since, clean_told, clean_only}
 use Rattle.commit_journal.specs.declared.format.Format.{Format}
 use Rattle.commit_journal.specs.declared.format.Format.TheVariants.{One, Two}
 use Rattle.commit_journal.specs.declared.stage.Stage.TheVariants.{Found}
@@ -30,7 +30,7 @@ use Rattle.slee_container.specs.Container.{Setup, View, held_in, IsKept}
 use Rattle.slee_run.specs.Given.{Document}
 use Rattle.slee_run.specs.Headline.{IsHistory}
 use Rattle.slee_run.specs.Opening.{journal_limit, found, IsAnswerTo, IsEarly, IsOpened, IsUntouchedAt, IsGood}
-use Rattle.slee_run.specs.Stops.{left_on, records_behind, size_behind, RestartsAfter, RestartsAsFound, RestartsSomewhere, IsBegun, IsSettled, IsKeptNow, IsSized, IsUnbegun, IsUnopened, IsUnwritten, MeetsJournal, KeepsJournal, ShowsJournal, CompactsJournal}
+use Rattle.slee_run.specs.Stops.{left_on, records_behind, size_behind, RestartsAfter, RestartsSomewhere, IsBegun, IsSettled, IsKeptNow, IsUnbegun, IsUnopened, MeetsJournal, KeepsJournal, ShowsJournal, CompactsJournal}
 use Rattle.slee_run.specs.Playing.{stop_of, status_after}
 use Rattle.slee_run.specs.Answers.{status_of}
 use Rattle.slee_run.specs.declared.playing.End.{End}
@@ -98,7 +98,6 @@ early_answer bytes statuses.NoMemory early = tt
 early_answer bytes (statuses.BadDeploy fault) early = tt
 early_answer bytes (statuses.BadSignals line kind) early = tt
 early_answer bytes (statuses.TooLarge what) early = tt
-early_answer bytes statuses.NotBuilt early = tt
 
 early_untouched : (d : DiskState) (status : Status) → IsEarly status → IsUntouchedAt status d d
 early_untouched d statuses.Ok early = absurd early
@@ -114,7 +113,6 @@ early_untouched d statuses.NoMemory early = tt
 early_untouched d (statuses.BadDeploy fault) early = still d
 early_untouched d (statuses.BadSignals line kind) early = still d
 early_untouched d (statuses.TooLarge what) early = still d
-early_untouched d statuses.NotBuilt early = still d
 
 early_full : (status : Status) → IsEarly status → (size adding : ℕ) → status ≡ statuses.Full size adding → ⊥
 early_full status early size adding full = subst IsEarly full early
@@ -136,7 +134,6 @@ early_ended statuses.NoMemory early good more = more refl
 early_ended (statuses.BadDeploy fault) early good more = good
 early_ended (statuses.BadSignals line kind) early good more = good
 early_ended (statuses.TooLarge what) early good more = good
-early_ended statuses.NotBuilt early good more = good
 
 early_up : (status : Status) → IsEarly status → status ≢ statuses.DiskFault
 early_up status early is = subst IsEarly is early

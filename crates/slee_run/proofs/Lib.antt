@@ -17,3 +17,9 @@ pub mod DeterminedLemmas
 pub mod TopLemmas
 pub mod TwiceLemmas
 pub mod OrderlyLemmas
+pub mod ToldLemmas
+pub mod SharedLemmas
+pub mod RestLemmas
+pub mod CrewLemmas
+pub mod ManyLemmas
+pub mod TogetherLemmas

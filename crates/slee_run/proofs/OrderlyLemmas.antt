@@ -9,13 +9,13 @@ use Rattle.router_laws_restarts.proofs.OrderlyRuns.{orderly_none, restarted_orde
 use Rattle.router_laws_restarts.specs.Orderly.{IsOrderly}
 use Rattle.router_durable.specs.Recovery.{restart}
 use Rattle.commit_journal.specs.Reading.{Wrong}
-use Rattle.slee_run.specs.Given.{Document, IsDocument, deploy_limit, start_of}
+use Rattle.slee_run.specs.Given.{Document, IsDocument, deploy_limit}
 use Rattle.slee_run.specs.Headline.{IsBefore, IsLegalRun, Opens}
 use Rattle.slee_run.specs.Opening.{IsOpened, found}
 use Rattle.slee_run.specs.Orderly.{IsOrderlyRun}
 use Rattle.slee_run.specs.declared.status.Status.{Status}
 
-none_orderly : (s : State) (h : List Entry) → h ≡ [] → IsOrderly s h
+pub none_orderly : (s : State) (h : List Entry) → h ≡ [] → IsOrderly s h
 none_orderly s h none = subst (λ (x : List Entry). IsOrderly s x) (sym none) (orderly_none s)
 
 short : (n : ℕ) → n ≤ deploy_limit → n < 2 ^ 63
@@ -26,7 +26,7 @@ found_orderly deploy x disk s h document is legal =
     (restarted_ordered x.bytes document.deployment disk.seen s h (short (length x.bytes) document.given.within) document.given.read
     (subst (λ (start : State). restart start x.bytes disk.seen ≡ Ok s) document.start is) legal).orderly
 
-opened_orderly : (deploy : Option (List ℕ)) (x : Document) (disk : DiskState) (s : State) (h : List Entry) (status : Status) → IsDocument deploy x → Legal s h → IsOpened (found x disk) s h status → IsOrderly s h
+pub opened_orderly : (deploy : Option (List ℕ)) (x : Document) (disk : DiskState) (s : State) (h : List Entry) (status : Status) → IsDocument deploy x → Legal s h → IsOpened (found x disk) s h status → IsOrderly s h
 opened_orderly deploy x disk s h status document legal opened = by (found x disk) refl
   where
     by : (r : Result State Wrong) → found x disk ≡ r → IsOrderly s h

@@ -15,7 +15,7 @@ use Rattle.slee_run.specs.Words.{command_of}
 use Rattle.slee_run.specs.Status.{status_line}
 use Rattle.slee_run.specs.Text.{task_text}
 use Rattle.slee_run.specs.Given.{Document, IsDocument, deploy_limit, refusal_of, refusal_of_deploy, unread}
-use Rattle.slee_run.specs.Headline.{command_for, command_of_task, Plays, Tends, Tries, Opens, IsLater, IsOpening, IsOfDeployment, EndsOn, ComesOn, IsBefore, IsByOneFrom, IsTask, IsTrial, IsTrialOrNone, IsUnread, IsTendedAt, IsWritten, IsLegalRun, IsComplete, IsCompleteTask, IsCompleteTrial, IsWholeCheck, trial_steps}
+use Rattle.slee_run.specs.Headline.{command_for, command_of_task, Plays, Tends, Tries, Opens, IsOpening, IsOfDeployment, EndsOn, ComesOn, IsBefore, IsByOneFrom, IsTask, IsTrial, IsTrialOrNone, IsUnread, IsTendedAt, IsWritten, IsLegalRun, IsComplete, IsCompleteTask, IsCompleteTrial, IsWholeCheck, trial_steps}
 use Rattle.slee_run.specs.Stops.{DoneOn}
 use Rattle.slee_run.specs.Opening.{found, IsAnswerTo, IsEarly, IsGood}
 use Rattle.slee_run.specs.Answers.{Outcome, IsCheckedBy, IsFormOf, IsGeneratedBy, IsPlayedFrom, IsTaskBy, IsTriedBy}
@@ -66,24 +66,8 @@ no_play words c mode steps asks one two plays = by (plays_kind mode steps)
     by (inl is) = one (other words c (command_for mode steps) asks plays ∙ is)
     by (inr is) = two (other words c (command_for mode steps) asks plays ∙ is)
 
-no_later : (words : List (List ℕ)) (c : Command) → command_of words ≡ Some c → (IsLater c → ⊥) → (d : Command) → command_of words ≡ Some d → IsLater d → ⊥
-no_later words c asks now d asks_too later = now (subst IsLater (sym (one_command (command_of words) c d asks asks_too)) later)
-
-pub plays_now : (mode : Mode) (steps : ℕ) → IsLater (command_for mode steps) → ⊥
-plays_now modes.AllNew steps later = later refl
-plays_now modes.SkipTaken steps later = later refl
-
 no_opening : (words : List (List ℕ)) (c : Command) → command_of words ≡ Some c → (IsOpening c → ⊥) → Opens words → ⊥
 no_opening words c asks closed opens = closed (subst IsOpening (sym (one_command (command_of words) c opens.command asks opens.asks)) opens.opening)
-
-later_closed : (c : Command) → IsLater c → IsOpening c → ⊥
-later_closed commands.Check later opening = later
-later_closed (commands.Play workers steps) later opening = later opening
-later_closed (commands.Resume workers steps) later opening = later opening
-later_closed commands.Show later opening = later
-later_closed commands.Compact later opening = later
-later_closed (commands.Gen seed count) later opening = later
-later_closed (commands.Trial seed count) later opening = later
 
 -- the words ask for one thing
 pub task_kind : (task : Task) → (Kind (command_of_task task) ≡ 3) ⊎ (Kind (command_of_task task) ≡ 4)
@@ -101,16 +85,6 @@ pub task_apart : (task : Task) → (Kind (command_of_task task) ≡ 1 → ⊥) �
 task_apart tasks.Show = (λ e. cc, λ e. cc)
 task_apart tasks.Compact = (λ e. cc, λ e. cc)
 
-pub task_now : (task : Task) → IsLater (command_of_task task) → ⊥
-task_now tasks.Show later = later
-task_now tasks.Compact later = later
-
-later_plays : (words : List (List ℕ)) (c : Command) (mode : Mode) (steps : ℕ) → command_of words ≡ Some c → IsLater c → Plays words mode steps → ⊥
-later_plays words c mode steps asks later plays = plays_now mode steps (subst IsLater (one_command (command_of words) c (command_for mode steps) asks plays) later)
-
-later_other : (words : List (List ℕ)) (c d : Command) → command_of words ≡ Some c → IsLater c → (IsLater d → ⊥) → command_of words ≡ Some d → ⊥
-later_other words c d asks later now asks_too = now (subst IsLater (one_command (command_of words) c d asks asks_too) later)
-
 -- the words are of no form
 pub run_of_bad : (words : List (List ℕ)) (deploy signals before after : Option (List ℕ)) (d : DiskState) (status : Status) → command_of words ≡ None
     → IsWritten before after (status_line statuses.BadWords) statuses.BadWords status → IsLegalRun words deploy signals before after d d status
@@ -126,7 +100,6 @@ run_of_bad words deploy signals before after d status none out = record {
   run = record {
     legal = no_history (base_on nowhere d) statuses.BadWords;
     bad = λ e. record { same = refl; none = refl; alone = refl };
-    later = λ asks. absurd (no_command (command_of words) asks.command none asks.asks);
     plays = λ mode steps is. absurd (no_command (command_of words) (command_for mode steps) none is);
     tends = λ task is. absurd (no_command (command_of words) (command_of_task task) none is);
     checks = λ is. absurd (no_command (command_of words) commands.Check none is);
@@ -143,41 +116,6 @@ run_of_bad words deploy signals before after d status none out = record {
     done = λ task is. absurd (no_command (command_of words) (command_of_task task) none is);
   };
   bare = λ opens. absurd (no_command (command_of words) opens.command none opens.asks);
-  output = out;
-}
-
--- they ask what isn't built
-pub run_of_later : (words : List (List ℕ)) (deploy signals before after : Option (List ℕ)) (d : DiskState) (status : Status) (c : Command) → command_of words ≡ Some c → IsFormOf c forms.Later
-    → IsWritten before after (status_line statuses.NotBuilt) statuses.NotBuilt status → IsLegalRun words deploy signals before after d d status
-run_of_later words deploy signals before after d status c asks later out = record {
-  document = nowhere;
-  base = base_on nowhere d;
-  generation = 0;
-  history = [];
-  acked = [];
-  text = status_line statuses.NotBuilt;
-  ended = statuses.NotBuilt;
-  stood = statuses.NotBuilt;
-  run = record {
-    legal = no_history (base_on nowhere d) statuses.NotBuilt;
-    bad = λ none. absurd (no_command (command_of words) c none asks);
-    later = λ e. record { same = refl; none = refl; alone = refl };
-    plays = λ mode steps is. absurd (later_plays words c mode steps asks later is);
-    tends = λ task is. absurd (later_other words c (command_of_task task) asks later (task_now task) is);
-    checks = λ is. absurd (later_other words c commands.Check asks later (λ e. e) is);
-    generates = λ seed count is. absurd (later_other words c (commands.Gen seed count) asks later (λ e. e) is);
-    tries = λ seed count is. absurd (later_other words c (commands.Trial seed count) asks later (λ e. e) is);
-    alone = λ mode steps is. absurd (later_plays words c mode steps asks later is);
-    same = λ more. refl;
-    unwritten = λ is. cc;
-  };
-  given = λ opens. absurd (no_opening words c asks (later_closed c later) opens);
-  journal = record {
-    met = λ opens. absurd (no_opening words c asks (later_closed c later) opens);
-    keeps = λ opens other. absurd (no_opening words c asks (later_closed c later) opens);
-    done = λ task is. absurd (later_other words c (command_of_task task) asks later (task_now task) is);
-  };
-  bare = λ opens. absurd (no_opening words c asks (later_closed c later) opens);
   output = out;
 }
 
@@ -208,7 +146,6 @@ run_of_play words deploy signals before after old new status c run asks plays p 
   run = record {
     legal = p.played.legal;
     bad = λ none. absurd (no_command (command_of words) c none asks);
-    later = λ asked. absurd (no_later words (command_for run.mode run.steps) asked_play (plays_now run.mode run.steps) asked.command asked.asks asked.later);
     plays = λ mode steps is. record {
       few = (from mode steps is).few;
       comes = (from mode steps is).comes;
@@ -262,7 +199,6 @@ run_of_task words deploy signals before after old new status c task asks asked p
   run = record {
     legal = no_history p.base p.stood;
     bad = λ none. absurd (no_command (command_of words) c none asks);
-    later = λ other. absurd (no_later words (command_of_task task) asked_task (task_now task) other.command other.asks other.later);
     plays = λ mode steps is. absurd (not_play mode steps is);
     tends = λ other is. subst (λ (t : Task). IsTask t p.base p.generation deploy [] (task_text task p.base p.generation p.stood) p.stood) (same_task other is)
         (record { comes = p.comes; none = refl; barred = p.barred; prints = refl });
@@ -310,7 +246,6 @@ run_of_check words deploy signals before after d status c asks checks p = record
   run = record {
     legal = no_history (base_on nowhere d) p.stood;
     bad = λ none. absurd (no_command (command_of words) c none asks);
-    later = λ asked. absurd (no_later words commands.Check asked_check (λ e. e) asked.command asked.asks asked.later);
     plays = λ mode steps is. absurd (no_play words commands.Check mode steps asked_check (λ e. cc) (λ e. cc) is);
     tends = λ task is. absurd (no_task words commands.Check asked_check (λ e. cc) (λ e. cc) task is);
     checks = λ is. p.check;
@@ -351,7 +286,6 @@ run_of_gen words deploy signals before after d status c seeded asks gens p = rec
   run = record {
     legal = no_history (base_on nowhere d) p.stood;
     bad = λ none. absurd (no_command (command_of words) c none asks);
-    later = λ asked. absurd (no_later words (commands.Gen seeded.seed seeded.count) asked_gen (λ e. e) asked.command asked.asks asked.later);
     plays = λ mode steps is. absurd (no_play words (commands.Gen seeded.seed seeded.count) mode steps asked_gen (λ e. cc) (λ e. cc) is);
     tends = λ task is. absurd (no_task words (commands.Gen seeded.seed seeded.count) asked_gen (λ e. cc) (λ e. cc) task is);
     checks = λ is. absurd (let never : 5 ≡ 0 = other words (commands.Gen seeded.seed seeded.count) commands.Check asked_gen is in cc);
@@ -394,7 +328,6 @@ run_of_trial words deploy signals before after old new status c seeded asks trie
   run = record {
     legal = p.played.legal;
     bad = λ none. absurd (no_command (command_of words) c none asks);
-    later = λ asked. absurd (no_later words (commands.Trial seeded.seed seeded.count) asked_trial (λ e. e) asked.command asked.asks asked.later);
     plays = λ mode steps is. absurd (no_play words (commands.Trial seeded.seed seeded.count) mode steps asked_trial (λ e. cc) (λ e. cc) is);
     tends = λ task is. absurd (no_task words (commands.Trial seeded.seed seeded.count) asked_trial (λ e. cc) (λ e. cc) task is);
     checks = λ is. absurd (let never : 6 ≡ 0 = other words (commands.Trial seeded.seed seeded.count) commands.Check asked_trial is in cc);
@@ -430,7 +363,7 @@ run_of_trial words deploy signals before after old new status c seeded asks trie
 no_fault : (bytes : Result State Wrong) (wrong : Wrong) → IsOk bytes → bytes ≡ Err wrong → ⊥
 no_fault bytes wrong ok is = let never : false ≡ true = subst IsOk is ok in cc
 
-good : (base : State) (steps : ℕ) (lines : List Signal) (history : List Entry) (bytes : Result State Wrong) (ended : Status) → EndsOn base steps lines history ended → IsOk bytes → IsAnswerTo bytes ended
+pub good : (base : State) (steps : ℕ) (lines : List Signal) (history : List Entry) (bytes : Result State Wrong) (ended : Status) → EndsOn base steps lines history ended → IsOk bytes → IsAnswerTo bytes ended
     → ended ≢ statuses.ReadFault → ended ≢ statuses.DiskFault → IsGood ended
 good base steps lines history bytes statuses.Ok comes ok answer reads keeps = tt
 good base steps lines history bytes statuses.BadWords comes ok answer reads keeps = absurd comes
@@ -445,10 +378,9 @@ good base steps lines history bytes statuses.NoMemory comes ok answer reads keep
 good base steps lines history bytes (statuses.BadDeploy fault) comes ok answer reads keeps = absurd comes
 good base steps lines history bytes (statuses.BadSignals line kind) comes ok answer reads keeps = absurd comes
 good base steps lines history bytes (statuses.TooLarge what) comes ok answer reads keeps = absurd comes
-good base steps lines history bytes statuses.NotBuilt comes ok answer reads keeps = absurd comes
 
 -- before the journal is opened only memory stops a run on good sources
-good_early : (base : State) (steps : ℕ) (lines : List Signal) (history : List Entry) (ended : Status) → EndsOn base steps lines history ended → IsEarly ended → ended ≢ statuses.ReadFault → IsGood ended
+pub good_early : (base : State) (steps : ℕ) (lines : List Signal) (history : List Entry) (ended : Status) → EndsOn base steps lines history ended → IsEarly ended → ended ≢ statuses.ReadFault → IsGood ended
 good_early base steps lines history statuses.Ok comes early reads = tt
 good_early base steps lines history statuses.BadWords comes early reads = absurd comes
 good_early base steps lines history statuses.ReadFault comes early reads = absurd (reads refl)
@@ -462,7 +394,6 @@ good_early base steps lines history statuses.NoMemory comes early reads = tt
 good_early base steps lines history (statuses.BadDeploy fault) comes early reads = absurd comes
 good_early base steps lines history (statuses.BadSignals line kind) comes early reads = absurd comes
 good_early base steps lines history (statuses.TooLarge what) comes early reads = absurd comes
-good_early base steps lines history statuses.NotBuilt comes early reads = absurd comes
 
 good_unread : (ended : Status) → IsUnread ended → ended ≢ statuses.ReadFault → IsGood ended
 good_unread ended (inl is) reads = absurd (reads is)
@@ -481,15 +412,15 @@ good_met bytes words signals before after old new status r opens x is told ok st
         (subst (λ (y : Document). IsOk (found y old)) (one_document bytes x r.document is document) ok) ((r.journal.met opens).opened told).answer reads keeps
 
 -- memory ran out
-abbrev is_memory : Status → Type 0
+abbrev pub is_memory : Status → Type 0
 is_memory stood = stood ≡ statuses.NoMemory
 
 -- the status that stood is good where the one that the run came to is
-good_stood : (ended stood : Status) → (stood ≢ statuses.NoMemory → stood ≡ ended) → (stood ≢ statuses.NoMemory → IsGood ended) → is_memory stood ⊎ (stood ≢ statuses.NoMemory) → IsGood stood
+pub good_stood : (ended stood : Status) → (stood ≢ statuses.NoMemory → stood ≡ ended) → (stood ≢ statuses.NoMemory → IsGood ended) → is_memory stood ⊎ (stood ≢ statuses.NoMemory) → IsGood stood
 good_stood ended stood same good (inl out) = subst IsGood (sym out) tt
 good_stood ended stood same good (inr other) = subst IsGood (sym (same other)) (good other)
 
-memory_or : (stood : Status) → is_memory stood ⊎ (stood ≢ statuses.NoMemory)
+pub memory_or : (stood : Status) → is_memory stood ⊎ (stood ≢ statuses.NoMemory)
 memory_or statuses.Ok = inr (λ e. cc)
 memory_or statuses.BadWords = inr (λ e. cc)
 memory_or statuses.ReadFault = inr (λ e. cc)
@@ -503,13 +434,12 @@ memory_or statuses.NoMemory = inl refl
 memory_or (statuses.BadDeploy fault) = inr (λ e. cc)
 memory_or (statuses.BadSignals line kind) = inr (λ e. cc)
 memory_or (statuses.TooLarge what) = inr (λ e. cc)
-memory_or statuses.NotBuilt = inr (λ e. cc)
 
 plays_open : (words : List (List ℕ)) (mode : Mode) (steps : ℕ) → Plays words mode steps → Opens words
-plays_open words modes.AllNew steps plays = record { command = commands.Play 1 steps; asks = plays; opening = refl }
-plays_open words modes.SkipTaken steps plays = record { command = commands.Resume 1 steps; asks = plays; opening = refl }
+plays_open words modes.AllNew steps plays = record { command = commands.Play 1 steps; asks = plays; opening = tt }
+plays_open words modes.SkipTaken steps plays = record { command = commands.Resume 1 steps; asks = plays; opening = tt }
 
-ends_given : {Good : Type 0} (o : Option Status) (bad : Status → Type 0) → MatchOption o Good bad → o ≡ None → Good
+pub ends_given : {Good : Type 0} (o : Option Status) (bad : Status → Type 0) → MatchOption o Good bad → o ≡ None → Good
 ends_given None bad comes is = comes
 ends_given (Some refusal) bad comes is = absurd (cc)
 
@@ -561,7 +491,6 @@ IsBarredShow statuses.NoMemory = Unit {0}
 IsBarredShow (statuses.BadDeploy fault) = ⊥
 IsBarredShow (statuses.BadSignals line kind) = Unit {0}
 IsBarredShow (statuses.TooLarge what) = ⊥
-IsBarredShow statuses.NotBuilt = Unit {0}
 
 task_good : (bytes : Result State Wrong) (stood : Status) → IsTendedAt stood → IsOk bytes → IsAnswerTo bytes stood → stood ≢ statuses.ReadFault → stood ≢ statuses.DiskFault → IsBarredShow stood → IsGood stood
 task_good bytes statuses.Ok comes ok answer reads keeps good = tt
@@ -577,7 +506,6 @@ task_good bytes statuses.NoMemory comes ok answer reads keeps good = tt
 task_good bytes (statuses.BadDeploy fault) comes ok answer reads keeps good = absurd good
 task_good bytes (statuses.BadSignals line kind) comes ok answer reads keeps good = absurd comes
 task_good bytes (statuses.TooLarge what) comes ok answer reads keeps good = absurd good
-task_good bytes statuses.NotBuilt comes ok answer reads keeps good = absurd comes
 
 -- the same where the journal wasn't opened
 task_early : (stood : Status) → IsTendedAt stood → IsEarly stood → stood ≢ statuses.ReadFault → IsBarredShow stood → IsGood stood
@@ -594,7 +522,6 @@ task_early statuses.NoMemory comes early reads good = tt
 task_early (statuses.BadDeploy fault) comes early reads good = absurd good
 task_early (statuses.BadSignals line kind) comes early reads good = absurd comes
 task_early (statuses.TooLarge what) comes early reads good = absurd good
-task_early statuses.NotBuilt comes early reads good = absurd comes
 
 -- bytes that give no refusal bar nothing
 not_faulty : (reading : Result Reading ReadFault) (fault : ReadFault) → counts_read reading ≡ Err fault → unread reading ≡ None → ⊥
@@ -620,7 +547,6 @@ barred_good bytes (statuses.BadDeploy fault) barred none =
     absurd (not_faulty (reading_of bytes) fault (counted_read bytes fault barred.first) (sym (within_deploy bytes barred.within) ∙ none))
 barred_good bytes (statuses.BadSignals line kind) barred none = tt
 barred_good bytes (statuses.TooLarge what) barred none = let never : ◌≡◌ {A = Option Status} (Some (statuses.TooLarge givens.Deploy)) None = sym (large_deploy bytes barred) ∙ none in absurd (cc)
-barred_good bytes statuses.NotBuilt barred none = tt
 
 pub tends_open : (words : List (List ℕ)) (task : Task) → Tends words task → Opens words
 tends_open words tasks.Show tends = record { command = commands.Show; asks = tends; opening = tt }
@@ -693,7 +619,6 @@ answer bytes text (statuses.StepsSpent entries) comes is reads = absurd comes
 answer bytes text statuses.NoMemory comes is reads = memory_answer bytes
 answer bytes text (statuses.TooLarge givens.Deploy) comes is reads = large_answer bytes is.1
 answer bytes text (statuses.TooLarge givens.Signals) comes is reads = absurd comes
-answer bytes text statuses.NotBuilt comes is reads = absurd comes
 
 -- and so do generated lines
 pub read_counts : (bytes : List ℕ) (fault : ReadFault) (reading : Reading) → reading_of bytes ≡ Ok reading → counts_in bytes ≡ Err fault → ⊥
@@ -718,7 +643,6 @@ lines_answer bytes text seed count (statuses.StepsSpent entries) comes is reads 
 lines_answer bytes text seed count statuses.NoMemory comes is reads = memory_answer bytes
 lines_answer bytes text seed count (statuses.TooLarge givens.Deploy) comes is reads = large_answer bytes is.1
 lines_answer bytes text seed count (statuses.TooLarge givens.Signals) comes is reads = absurd comes
-lines_answer bytes text seed count statuses.NotBuilt comes is reads = absurd comes
 
 pub check_whole : (words : List (List ℕ)) (deploy signals before after : Option (List ℕ)) (old new : DiskState) (status : Status) (Faulted : Type 0) → IsLegalRun words deploy signals before after old new status
     → (status ≡ statuses.ReadFault → Faulted) → (status ≡ statuses.WriteFault → Faulted) → IsWholeCheck words deploy Faulted status

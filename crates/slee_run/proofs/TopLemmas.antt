@@ -1,5 +1,5 @@
 -- What the top call answers besides the run.
-use Rattle.std.proofs.Common.{◌≡◌, ◌≢◌, ◌⊎◌, ◌<◌, ◌^◌, ◌&&◌, Bool, true, false, nat_le, arith, inl, inr, ℕ, List, refl, sym, ◌∙◌, ap, subst, Option, Some}
+use Rattle.std.proofs.Common.{◌≡◌, ◌≢◌, ◌⊎◌, ◌<◌, ◌^◌, ◌&&◌, Bool, true, false, nat_le, arith, inl, inr, ℕ, List, refl, sym, ◌∙◌, ap, subst, is_some, Option, Some}
 use Rattle.std.proofs.lemmas.Bool.{leb-true}
 use Rattle.slee_disk.specs.Disk.{DiskState}
 use Rattle.slee_container.specs.declared.container.Mode.{Mode}
@@ -17,7 +17,7 @@ use Rattle.slee_run.specs.declared.status.Status.{Status}
 use Rattle.slee_run.specs.declared.status.Status.TheVariants as statuses
 use Rattle.slee_run.specs.declared.tending.Task.{Task}
 use Rattle.slee_run.specs.declared.tending.Task.TheVariants as tasks
-use Rattle.slee_run.proofs.RunLemmas.{no_play, plays_now, task_now, tends_open}
+use Rattle.slee_run.proofs.RunLemmas.{no_play, tends_open}
 
 -- a fault of reading is one of four
 pub of_four : (A B C E : Type 0) → A ⊎ B → A ⊎ (B ⊎ (C ⊎ E))
@@ -76,20 +76,8 @@ module _ (words : List (List ℕ)) (c : Command) (asks : command_of words ≡ So
   pub trial_never : (s : Seeded) → IsFormOf c (forms.Trial s) → (mode : Mode) (steps : ℕ) → Plays words mode steps → ⊥
   trial_never s is mode steps = no_play words (commands.Trial s.seed s.count) mode steps (asked (commands.Trial s.seed s.count) is) (λ e. cc) (λ e. cc)
 
-  pub check_reads : c ≡ commands.Check → Reads words
-  check_reads is = record { command = commands.Check; asks = asked commands.Check is; now = λ later. later }
-
-  pub task_reads : (task : Task) → c ≡ command_of_task task → Reads words
-  task_reads task is = record { command = command_of_task task; asks = asked (command_of_task task) is; now = task_now task }
-
-  pub gen_reads : (s : Seeded) → IsFormOf c (forms.Gen s) → Reads words
-  gen_reads s is = record { command = commands.Gen s.seed s.count; asks = asked (commands.Gen s.seed s.count) is; now = λ later. later }
-
-  pub trial_reads : (s : Seeded) → IsFormOf c (forms.Trial s) → Reads words
-  trial_reads s is = record { command = commands.Trial s.seed s.count; asks = asked (commands.Trial s.seed s.count) is; now = λ later. later }
-
-  pub play_reads : (run : Run) → IsFormOf c (forms.Play run) → Reads words
-  play_reads run is = record { command = command_for run.mode run.steps; asks = asked (command_for run.mode run.steps) is.0; now = plays_now run.mode run.steps }
+  pub reads : Reads words
+  reads = ap is_some asks
 
   pub task_opens : (task : Task) → c ≡ command_of_task task → Opens words
   task_opens task is = tends_open words task (asked (command_of_task task) is)
@@ -101,5 +89,5 @@ module _ (words : List (List ℕ)) (c : Command) (asks : command_of words ≡ So
   play_opens run is = by run.mode (asked (command_for run.mode run.steps) is.0)
     where
       by : (mode : Mode) → command_of words ≡ Some (command_for mode run.steps) → Opens words
-      by modes.AllNew e = record { command = commands.Play 1 run.steps; asks = e; opening = refl }
-      by modes.SkipTaken e = record { command = commands.Resume 1 run.steps; asks = e; opening = refl }
+      by modes.AllNew e = record { command = commands.Play 1 run.steps; asks = e; opening = tt }
+      by modes.SkipTaken e = record { command = commands.Resume 1 run.steps; asks = e; opening = tt }

@@ -64,8 +64,8 @@ blank_rest a b d first second rest =
 -- ---- what one unbroken run leaves
 
 opens_by : (mode : Mode) (steps : ℕ) (words : List (List ℕ)) → Plays words mode steps → Opens words
-opens_by modes.AllNew steps words plays = record { command = command_for modes.AllNew steps; asks = plays; opening = refl }
-opens_by modes.SkipTaken steps words plays = record { command = command_for modes.SkipTaken steps; asks = plays; opening = refl }
+opens_by modes.AllNew steps words plays = record { command = command_for modes.AllNew steps; asks = plays; opening = tt }
+opens_by modes.SkipTaken steps words plays = record { command = command_for modes.SkipTaken steps; asks = plays; opening = tt }
 
 -- what is said of a run without an entry that was refused early doesn't depend on where it would have begun
 early_ends : (base other : State) (steps : ℕ) (lines more : List Signal) (status : Status) → IsEarly status → status ≢ statuses.NoMemory → EndsOn base steps lines [] status → EndsOn other steps more [] status
@@ -82,7 +82,6 @@ early_ends base other steps lines more statuses.NoMemory early found ends = absu
 early_ends base other steps lines more (statuses.BadDeploy fault) early found ends = ends
 early_ends base other steps lines more (statuses.BadSignals line kind) early found ends = ends
 early_ends base other steps lines more (statuses.TooLarge what) early found ends = ends
-early_ends base other steps lines more statuses.NotBuilt early found ends = ends
 
 early_comes : (base other : State) (mode : Mode) (steps : ℕ) (deploy lines : List ℕ) (status : Status) → IsEarly status → status ≢ statuses.NoMemory
     → ComesOn base mode steps deploy lines [] status → ComesOn other mode steps deploy lines [] status

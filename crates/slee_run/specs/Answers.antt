@@ -30,7 +30,7 @@ use Rattle.slee_run.specs.Status.{status_line}
 use Rattle.slee_run.specs.Text.{IsReported, IsTextOf, lines_text, task_text}
 use Rattle.slee_run.specs.Opening.{IsBeforeOpening, journal_limit}
 use Rattle.slee_run.specs.Checking.{IsBarred, IsCheck, IsGenerated}
-use Rattle.slee_run.specs.Headline.{command_for, command_of_task, lines_of_run, trial_steps, IsBareText, IsLater, IsBefore, IsHistory, IsRefusedAs, IsTendedAt, IsTrialOrNone, EndsOn, ComesOn, IsByOne, IsByOneFrom, IsWritten}
+use Rattle.slee_run.specs.Headline.{command_for, command_of_task, lines_of_run, trial_steps, IsBareText, IsBefore, IsHistory, IsRefusedAs, IsTendedAt, IsTrialOrNone, EndsOn, ComesOn, IsByOne, IsByOneFrom, IsWritten}
 use Rattle.slee_run.specs.Stops.{DoneOn, KeepsJournal, MeetsJournal}
 use Rattle.slee_run.specs.declared.finishing.Report.{Report}
 use Rattle.slee_run.specs.declared.finishing.Report.TheVariants as reports
@@ -262,11 +262,10 @@ abbrev pub DoesTask : {D : Type 0} → (D → DiskState) → Task → View D →
 DoesTask disk_of tasks.Show old new before after status = ShowsState old new before after status
 DoesTask disk_of tasks.Compact old new before after status = CompactsState disk_of old new before after status
 
--- what a command asks of this program
+-- what a command asks of one worker
 abbrev pub IsFormOf : Command → Form → Type 0
 IsFormOf command forms.Check = command ≡ commands.Check
 IsFormOf command (forms.Play run) = (command ≡ command_for run.mode run.steps) × (run.report ≡ reports.Trace)
 IsFormOf command (forms.Tend task) = command ≡ command_of_task task
 IsFormOf command (forms.Gen seeded) = command ≡ commands.Gen seeded.seed seeded.count
 IsFormOf command (forms.Trial seeded) = command ≡ commands.Trial seeded.seed seeded.count
-IsFormOf command forms.Later = IsLater command

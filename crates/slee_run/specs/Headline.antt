@@ -1,5 +1,5 @@
 -- What a run is: a legal history of the signal lines, its text, and a status with its cause.
-use Rattle.std.specs.Prelude.{◌≡◌, ◌≢◌, ◌⊎◌, ℕ, ◌+◌, ◌<◌, ◌≤◌, ◌==◌, Bool, true, false, IsTrue, IsOk, List, [], ◌∷◌, ◌++◌, drop, length, Some, None, IfSome, MatchOption}
+use Rattle.std.specs.Prelude.{◌≡◌, ◌≢◌, ◌⊎◌, ℕ, ◌+◌, ◌<◌, ◌≤◌, ◌==◌, Bool, true, false, IsTrue, IsOk, List, [], ◌∷◌, ◌++◌, drop, length, Some, None, IfSome, IsSome, MatchOption}
 use mathlib.Core.List.{IsPrefix}
 use Rattle.std.specs.Io.KnownBytes.{Appends}
 use Rattle.std.specs.declared.option.Option.{Option}
@@ -69,27 +69,11 @@ Generates words seed count = command_of words ≡ Some (commands.Gen seed count)
 abbrev pub Tries : List (List ℕ) → ℕ → ℕ → Type 0
 Tries words seed count = command_of words ≡ Some (commands.Trial seed count)
 
--- the command isn't built yet: several workers
-abbrev pub IsLater : Command → Type 0
-IsLater commands.Check = ⊥
-IsLater (commands.Play workers steps) = workers ≢ 1
-IsLater (commands.Resume workers steps) = workers ≢ 1
-IsLater commands.Show = ⊥
-IsLater commands.Compact = ⊥
-IsLater (commands.Gen seed count) = ⊥
-IsLater (commands.Trial seed count) = ⊥
-
--- the words ask what isn't built yet
-pub record AsksLater (words : List (List ℕ)) : Type 0 where
-  pub command : Command
-  pub asks : command_of words ≡ Some command
-  pub later : IsLater command
-
 -- the command opens the journal
 abbrev pub IsOpening : Command → Type 0
 IsOpening commands.Check = ⊥
-IsOpening (commands.Play workers steps) = workers ≡ 1
-IsOpening (commands.Resume workers steps) = workers ≡ 1
+IsOpening (commands.Play workers steps) = Unit {0}
+IsOpening (commands.Resume workers steps) = Unit {0}
 IsOpening commands.Show = Unit {0}
 IsOpening commands.Compact = Unit {0}
 IsOpening (commands.Gen seed count) = ⊥
@@ -101,11 +85,9 @@ pub record Opens (words : List (List ℕ)) : Type 0 where
   pub asks : command_of words ≡ Some command
   pub opening : IsOpening command
 
--- the words ask for something that is read of the deployment
-pub record Reads (words : List (List ℕ)) : Type 0 where
-  pub command : Command
-  pub asks : command_of words ≡ Some command
-  pub now : IsLater command → ⊥
+-- the words ask for something: each command reads the deployment
+abbrev pub Reads : List (List ℕ) → Type 0
+Reads words = IsSome (command_of words)
 
 -- the most entries of a trial
 abbrev pub trial_steps : ℕ
@@ -174,7 +156,6 @@ EndsOn base steps lines history statuses.NoMemory = IsPrefix (inputs_of history)
 EndsOn base steps lines history (statuses.BadDeploy fault) = ⊥
 EndsOn base steps lines history (statuses.BadSignals line kind) = ⊥
 EndsOn base steps lines history (statuses.TooLarge what) = ⊥
-EndsOn base steps lines history statuses.NotBuilt = ⊥
 
 -- the bytes weren't read, or memory ran out before they were understood
 abbrev pub IsUnread : Status → Type 0
@@ -268,7 +249,6 @@ pub record IsTask (task : Task) (base : State) (generation : ℕ) (deploy : Opti
 pub record IsRun (base : State) (generation : ℕ) (words : List (List ℕ)) (deploy signals : Option (List ℕ)) (history acked : List Entry) (ended stood : Status) (text : List ℕ) : Type 0 where
   pub legal : IsHistory base history acked ended
   pub bad : command_of words ≡ None → IsRefusal history text statuses.BadWords ended
-  pub later : AsksLater words → IsRefusal history text statuses.NotBuilt ended
   pub plays : (mode : Mode) (steps : ℕ) → Plays words mode steps → IsPlay base mode steps deploy signals history acked ended stood text
   pub tends : (task : Task) → Tends words task → IsTask task base generation deploy history text ended
   pub checks : Checks words → IsCheck deploy history text ended

@@ -78,7 +78,6 @@ row_of (statuses.Full size adding) = record { code = 10; line = codes "status 10
 row_of (statuses.StepsSpent entries) = record { code = 11; line = codes "status 11 steps-spent " ++ (decimal entries ++ codes "\n"); time = Ending; tended = false; checked = false; faulty = false }
 row_of statuses.NoMemory = record { code = 12; line = codes "status 12 no-memory\n"; time = WantOfMemory; tended = true; checked = true; faulty = true }
 row_of (statuses.TooLarge what) = record { code = 13; line = codes "status 13 too-large " ++ (given_word what ++ codes "\n"); time = Early; tended = is_deploy what; checked = is_deploy what; faulty = false }
-row_of statuses.NotBuilt = record { code = 14; line = codes "status 14 not-built\n"; time = Early; tended = false; checked = false; faulty = false }
 
 abbrev pub code_of : Status → ℕ
 code_of status = (row_of status).code

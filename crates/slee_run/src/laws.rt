@@ -1,9 +1,10 @@
 //! Words and commands, and what words and lines determine.
-ghost use Rattle.std.specs.Prelude.{◌≡◌, ℕ, List, true, Some, IsTrue};
+ghost use Rattle.std.specs.Prelude.{◌≡◌, ℕ, List, true, Some, None, IsTrue};
 ghost use Rattle.slee_run.specs.declared.command.Command.{Command};
 ghost use Rattle.slee_run.specs.Answers.{Outcome};
 ghost use Rattle.slee_run.specs.Headline.{IsByFault};
 ghost use Rattle.slee_run.specs.Determined.{IsRunOver};
+ghost use Rattle.slee_run.specs.Many.{crew_in};
 ghost use Rattle.slee_run.specs.Words.{command_of, spelled, is_in_range};
 
 use slee_disk::Disk;
@@ -22,9 +23,9 @@ pub fn spelled_is_command()
 {}
 
 /// The words, the bytes of the sources and the journal determine the status, the history and the text, but for faults of the
-/// outside and want of memory. Two runs found the one disk, and left the others.
+/// outside and want of memory, and where the words ask for several workers. Two runs found the one disk, and left the others.
 pub fn run_is_determined<D: Disk>(found: &D, one: &D, other: &D)
-    ensures { (words : List (List ℕ)) (deploy bytes : List ℕ) (p q : Outcome) → IsTrue (D.disk found.now).told
+    ensures { (words : List (List ℕ)) (deploy bytes : List ℕ) (p q : Outcome) → crew_in words ≡ None → IsTrue (D.disk found.now).told
         → IsRunOver words deploy bytes (D.disk found.now) (D.disk one.now) p → IsRunOver words deploy bytes (D.disk found.now) (D.disk other.now) q
         → (IsByFault p.stood → ⊥) → (IsByFault q.stood → ⊥) → (p.stood ≡ q.stood) × (p.history ≡ q.history) × (p.text ≡ q.text) }
 {}

@@ -144,7 +144,6 @@ pub fn write_status<K: Sink>(out: &mut K, status: &Status) -> Result<(), Failed>
         Status::TooLarge {
             what: Given::Signals,
         } => { write_whole(out, b"status 13 too-large signals\n") }
-        Status::NotBuilt => write_whole(out, b"status 14 not-built\n"),
     }
 }
 

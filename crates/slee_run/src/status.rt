@@ -57,8 +57,6 @@ pub enum Status {
     TooLarge {
         what: Given,
     },
-    /// The words ask for several workers, which aren't built yet.
-    NotBuilt,
 }
 
 impl Status {
@@ -83,7 +81,6 @@ impl Status {
             Status::StepsSpent { .. } => 11,
             Status::NoMemory => 12,
             Status::TooLarge { .. } => 13,
-            Status::NotBuilt => 14,
         }
     }
 }

@@ -1,11 +1,12 @@
 //! The top call.
-ghost use Rattle.std.specs.Prelude.{◌≡◌, ◌⊎◌, ◌+◌, ◌<◌, ◌^◌, ℕ, true};
+ghost use Rattle.std.specs.Prelude.{◌≡◌, ◌⊎◌, ◌+◌, ◌<◌, ◌^◌, ℕ, true, None};
 ghost use Rattle.std.specs.Io.KnownBytes.{IsAtEnd};
 ghost use Rattle.slee_disk.specs.Causes.{Rose};
 ghost use Rattle.slee_disk.specs.Taken.{ConsumesSome};
 ghost use Rattle.slee_container.specs.declared.container.Mode.{Mode as Lines};
 ghost use Rattle.slee_run.specs.Words.{is_in_range, texts};
 ghost use Rattle.slee_run.specs.Given.{deploy_limit, signals_limit};
+ghost use Rattle.slee_run.specs.Many.{crew_in, crew_of};
 ghost use Rattle.slee_run.specs.Headline.{IsComplete, IsCompleteTask, IsCompleteTrial, IsLegalRun, IsWholeCheck, Opens, Plays, Reads};
 ghost use Rattle.slee_run.specs.Opening.{IsBeforeOpening};
 ghost use Rattle.slee_run.specs.Orderly.{IsOrderlyRun};
@@ -37,6 +38,9 @@ pub fn run_one<S: Source, T: Source, K: Sink, D: Disk>(
     disk: D,
     selectors: &Selectors,
 ) -> (Status, D)
+    // The words don't ask for several workers.
+    requires { crew_in (texts words.now) ≡ None }
+
     // One legal history on the signals, the run of one worker, which keeps all laws of runs, its text and its journal, or what is
     // said of a deployment; each status with its cause.
     ensures headline { IsOrderlyRun (texts words.now) (S.left deploy.old) (T.left signals.old) (K.contents out.old) (K.contents out.new) (D.disk disk) (D.disk result.1) result.0 }
@@ -85,6 +89,7 @@ fn answer<S: Source, T: Source, K: Sink, D: Disk>(
     disk: D,
     selectors: &Selectors,
 ) -> (Status, D)
+    requires { crew_in (texts words.now) ≡ None }
     ensures headline { IsLegalRun (texts words.now) (S.left deploy.old) (T.left signals.old) (K.contents out.old) (K.contents out.new) (D.disk disk) (D.disk result.1) result.0 }
     ensures read { result.0 ≡ Status.ReadFault → Rose (S.faults deploy.old) (S.faults deploy.new) ⊎ Rose (T.faults signals.old) (T.faults signals.new) }
     ensures write { result.0 ≡ Status.WriteFault → Rose (K.faults out.old) (K.faults out.new) }
@@ -108,14 +113,13 @@ fn answer<S: Source, T: Source, K: Sink, D: Disk>(
         Form::Tend(task) => tend(alloc, deploy, out, disk, task, selectors),
         Form::Gen(seeded) => (write_generated(alloc, deploy, out, seeded), disk),
         Form::Trial(seeded) => try_generated(alloc, deploy, out, disk, seeded, selectors),
-        Form::Later => (refuse(out, Status::NotBuilt), disk),
     }
 }
 
-/// What a command asks of this program.
+/// What a command asks of one worker.
 enum Form {
     Check,
-    /// One worker plays.
+    /// Lines are played.
     Play(Run),
     /// A task is done with the journal.
     Tend(Task),
@@ -123,8 +127,6 @@ enum Form {
     Gen(Seeded),
     /// Lines are generated and played.
     Trial(Seeded),
-    /// Several workers play, which isn't built yet.
-    Later,
 }
 
 /// A run of one worker that writes its trace.
@@ -151,17 +153,17 @@ fn seeded_by(seed: u64, count: u64) -> Seeded
 }
 
 fn form_of(command: Command) -> Form
-    requires { is_in_range command ≡ true }
+    requires range { is_in_range command ≡ true }
+    requires one { crew_of command ≡ None }
     ensures { IsFormOf command result }
 {
     match command {
         Command::Check => Form::Check,
-        Command::Play { workers: 1, steps } => Form::Play(run_of(Mode::AllNew, steps)),
-        Command::Resume { workers: 1, steps } => Form::Play(run_of(Mode::SkipTaken, steps)),
+        Command::Play { workers: _, steps } => Form::Play(run_of(Mode::AllNew, steps)),
+        Command::Resume { workers: _, steps } => Form::Play(run_of(Mode::SkipTaken, steps)),
         Command::Show => Form::Tend(Task::Show),
         Command::Compact => Form::Tend(Task::Compact),
         Command::Gen { seed, count } => Form::Gen(seeded_by(seed, count)),
         Command::Trial { seed, count } => Form::Trial(seeded_by(seed, count)),
-        _ => Form::Later,
     }
 }

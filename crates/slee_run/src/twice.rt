@@ -1,10 +1,11 @@
 //! Two runs over one disk, one after the other: what the promises of the top call say of both.
-ghost use Rattle.std.specs.Prelude.{ℕ, Some, IfOk};
+ghost use Rattle.std.specs.Prelude.{◌≡◌, ℕ, Some, None, IfOk};
 ghost use Rattle.slee_container.specs.declared.container.Mode.{Mode as Lines};
 ghost use Rattle.slee_descriptor.specs.declared.deployment.Deployment.{Deployment as Served};
 ghost use Rattle.slee_disk.specs.MemoryDisk.{state_of};
 ghost use Rattle.slee_run.specs.Given.{IsDeployment};
 ghost use Rattle.slee_run.specs.Headline.{Plays};
+ghost use Rattle.slee_run.specs.Many.{crew_in};
 ghost use Rattle.slee_run.specs.Orderly.{IsOrderlyRun};
 ghost use Rattle.slee_run.specs.Words.{texts};
 ghost use Rattle.slee_run.specs.Twice.{IsUnbroken, IsOneHistory};
@@ -27,7 +28,7 @@ pub struct Twice {
 }
 
 /// Plays one list of lines for a deployment on a new disk in memory, and then another on what the first has left there, with the
-/// same words.
+/// same words, which ask for one worker.
 pub fn play_twice(
     alloc: Global,
     words: &[&str],
@@ -37,6 +38,7 @@ pub fn play_twice(
     out: &mut MemorySink,
     selectors: &Selectors,
 ) -> Result<Twice, NoMemory>
+    requires { crew_in (texts words.now) ≡ None }
     ensures { IfOk result (λ twice. (mode : Lines) (steps : ℕ) (d : Served) → Plays (texts words.now) mode steps → IsDeployment deploy.now d → IsUnbroken twice.first → IsUnbroken twice.second
         → IsOneHistory mode steps deploy.now lines more out.old.held out.new.held d (state_of twice.disk) twice.first twice.second) }
 {
@@ -62,6 +64,7 @@ fn play(
     disk: MemoryDisk,
     selectors: &Selectors,
 ) -> (Status, MemoryDisk)
+    requires { crew_in (texts words.now) ≡ None }
     ensures { IsOrderlyRun (texts words.now) (Some deploy) (Some lines) (Some out.old.held) (Some out.new.held) (state_of disk) (state_of result.1) result.0 }
 {
     let mut deploy = MemorySource::new(deploy, PIECE, Blob::new(alloc));

@@ -1,7 +1,7 @@
 //! Calls of the prepaid service: without credit, with credit, none at all, and in a few entries.
 use crate::playing::{PLAY, SHOW, Step, play};
-use crate::prepaid::PREPAID;
 use std::test::Fail;
+use test_run::prepaid::PREPAID;
 use test_run::running::Wanted;
 
 const WITHOUT_CREDIT: &[Step] = &[

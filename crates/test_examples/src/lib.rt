@@ -10,8 +10,6 @@ mod orders;
 #[cfg(test)]
 mod playing;
 #[cfg(test)]
-mod prepaid;
-#[cfg(test)]
 mod profiles;
 #[cfg(test)]
 mod rollbacks;

@@ -1,11 +1,11 @@
 //! A stop within any disk call of a call of the prepaid service: what was kept is shown, and the rest is taken.
 use crate::playing::{PLAY, RESUME, SHOW};
-use crate::prepaid::PREPAID;
 use slee_disk::MemoryDisk;
 use slee_value::NoMemory;
 use std::alloc::Global;
 use std::process::Abort;
 use std::test::Fail;
+use test_run::prepaid::PREPAID;
 use test_run::running::{Ran, empty_disk, run_deployed, text_of};
 
 const CALL: &str = "start c1\nfire c1 invite addr=tel:5551\nend c1\n";

@@ -1,7 +1,7 @@
 //! Generated lines of the prepaid service, and their trial.
 use crate::playing::{Step, play};
-use crate::prepaid::PREPAID;
 use std::test::Fail;
+use test_run::prepaid::PREPAID;
 use test_run::running::Wanted;
 
 const GENERATED: &[Step] = &[

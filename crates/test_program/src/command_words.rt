@@ -16,11 +16,6 @@ const BAD_WORDS: Wanted = Wanted {
     printed: "status 2 bad-words\n",
 };
 
-const NOT_BUILT: Wanted = Wanted {
-    code: 14,
-    printed: "status 14 not-built\n",
-};
-
 fn expect_each(
     rt: &impl Abort,
     alloc: Global,
@@ -109,16 +104,4 @@ const OUT_OF_RANGE: &[&[&str]] = &[
 #[test]
 fn numbers_out_of_range_are_refused(rt: HostRuntime) -> Result<(), Fail> {
     expect_each(&rt, rt.alloc(), OUT_OF_RANGE, BAD_WORDS)
-}
-
-const OF_LATER_FORMS: &[&[&str]] = &[
-    &["play", "2", "1"],
-    &["play", "64", "1000000"],
-    &["resume", "2", "1"],
-    &["resume", "64", "1000000"],
-];
-
-#[test]
-fn words_of_later_forms_are_not_built(rt: HostRuntime) -> Result<(), Fail> {
-    expect_each(&rt, rt.alloc(), OF_LATER_FORMS, NOT_BUILT)
 }

@@ -214,7 +214,6 @@ const REFUSED: &[(&[&str], &str, &[u8], u8)] = &[
     (&[], "start c1\n", b"", 2),
     (&["play", "0", "5"], "start c1\n", b"", 2),
     (&["show", "now"], "", b"", 2),
-    (&["resume", "2", "5"], "start c1\n", b"", 14),
     (PLAY, "start c1\nclock five\n", b"", 5),
     (&["resume", "1", "5"], "start c1\n", &[1], 3),
     (PLAY, "start c1\n", &[1], 3),

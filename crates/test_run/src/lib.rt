@@ -2,4 +2,5 @@
 #![tactic(auto)]
 
 pub mod one_call;
+pub mod prepaid;
 pub mod running;

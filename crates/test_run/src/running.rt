@@ -1,10 +1,17 @@
 //! One run of the program over objects in memory. Its functions are short, since each is proved with all that it drops.
+ghost use Rattle.std.specs.Prelude.{◌≡◌, None};
+ghost use Rattle.slee_run.specs.Many.{crew_in};
+ghost use Rattle.slee_run.specs.Words.{texts};
+
 use crate::one_call::SERVICE;
 use initial_select::{SelectRule, Selector, Selectors, custom_name};
 use slee_disk::{MemoryDisk, MemorySink, MemorySource};
-use slee_run::run_one;
+use slee_run::{crew_in, run_one};
 use slee_value::{Blob, NoMemory};
 use std::alloc::Global;
+
+/// In place of a status: the words ask for several workers, which these tests don't run.
+const OF_SEVERAL: u8 = 255;
 
 /// What a run printed, the status that it ended with, and the disk that it left.
 #[derive(Drop)]
@@ -82,8 +89,10 @@ impl Drop for Given {
 }
 
 impl Given {
-    /// Runs words on it, with these selectors.
-    fn run(self, alloc: Global, words: &[&str], selectors: &Selectors) -> Ran {
+    /// Runs words of one worker on it, with these selectors.
+    fn run(self, alloc: Global, words: &[&str], selectors: &Selectors) -> Ran
+        requires { crew_in (texts words.now) ≡ None }
+    {
         let Self {
             mut deploy,
             mut signals,
@@ -101,6 +110,21 @@ impl Given {
         );
         Ran {
             code: status.code(),
+            out,
+            disk,
+        }
+    }
+
+    /// Doesn't run words that ask for several workers.
+    fn refuse(self) -> Ran {
+        let Self {
+            deploy: _,
+            signals: _,
+            out,
+            disk,
+        } = self;
+        Ran {
+            code: OF_SEVERAL,
             out,
             disk,
         }
@@ -145,7 +169,10 @@ fn run_given(alloc: Global, words: &[&str], given: Given) -> Result<Ran, NoMemor
         Selector::new(SelectRule::Scheme, scheme),
         Selector::new(SelectRule::Screened, screened),
     );
-    Ok(given.run(alloc, words, &selectors))
+    match crew_in(words) {
+        None => Ok(given.run(alloc, words, &selectors)),
+        Some(_) => Ok(given.refuse()),
+    }
 }
 
 /// Which reads of the lines and which writes of the text fail: the k-th where the k-th is 1.

@@ -1,4 +1,3 @@
-use Rattle.std.proofs.Common.{refl}
 use Rattle.slee_run.proofs.OwnLemmas.{keepable_own, own_read}
 use Rattle.slee_run.proofs.opening.open_journal.Goals as goal
 

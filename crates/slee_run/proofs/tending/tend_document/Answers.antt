@@ -1,4 +1,4 @@
-use Rattle.std.proofs.Common.{◌∙◌, ap, sym}
+use Rattle.std.proofs.Common.{ap}
 use Rattle.router_durable.specs.Core.{is_down}
 use Rattle.slee_run.proofs.AnswerLemmas.{opened_task, refused_task, unopened_unwritten}
 use Rattle.slee_run.proofs.tending.tend_document.Goals as goal

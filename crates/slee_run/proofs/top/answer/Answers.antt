@@ -1,15 +1,12 @@
 use Rattle.std.proofs.Common.{inl, sym}
 use Rattle.slee_run.specs.Words.{texts}
-use Rattle.slee_run.proofs.RunLemmas.{run_of_bad, run_of_later, run_of_play, run_of_task, run_of_check, run_of_gen, run_of_trial}
-use Rattle.slee_run.proofs.TopLemmas.{refused, check_comes, gen_comes, task_comes, play_asked, check_never, task_never, gen_never, trial_never, check_reads, task_reads, gen_reads, trial_reads, play_reads, task_opens, trial_opens, play_opens}
+use Rattle.slee_run.proofs.RunLemmas.{run_of_bad, run_of_play, run_of_task, run_of_check, run_of_gen, run_of_trial}
+use Rattle.slee_run.proofs.CrewLemmas.{one_asked}
+use Rattle.slee_run.proofs.TopLemmas.{refused, check_comes, gen_comes, task_comes, play_asked, check_never, task_never, gen_never, trial_never, reads, task_opens, trial_opens, play_opens}
 use Rattle.slee_run.proofs.top.answer.Goals as goal
 
 pub returns-in-None-clause-headline : goal.returns-in-None-clause-headline
 returns-in-None-clause-headline g c = run_of_bad _ _ _ _ _ (g.D.Disk.disk c.args.disk) _ (sym c.in-None.ensures.command) c.refuse.ensures.output
-
-pub returns-in-Later-clause-headline : goal.returns-in-Later-clause-headline
-returns-in-Later-clause-headline g c =
-    run_of_later _ _ _ _ _ (g.D.Disk.disk c.args.disk) _ c.in-Some.command (sym c.in-Some.ensures.command) c.in-Later.ensures c.refuse-in-Later.ensures.output
 
 pub returns-in-Check-clause-headline : goal.returns-in-Check-clause-headline
 returns-in-Check-clause-headline g c =
@@ -52,27 +49,6 @@ returns-in-None-clause-end g c = λ mode steps plays is. absurd (refused _ _ _ _
 pub returns-in-None-clause-end_of_deploy : goal.returns-in-None-clause-end_of_deploy
 returns-in-None-clause-end_of_deploy g c = λ reads is. absurd (refused _ _ _ _ _ _ c.refuse.ensures.output (λ e. cc) (λ e. cc) is)
 
-pub returns-in-Later-clause-read : goal.returns-in-Later-clause-read
-returns-in-Later-clause-read g c = λ is. absurd (refused _ _ _ _ _ _ c.refuse-in-Later.ensures.output (λ e. cc) (λ e. cc) is)
-
-pub returns-in-Later-clause-disk : goal.returns-in-Later-clause-disk
-returns-in-Later-clause-disk g c = λ is. absurd (refused _ _ _ _ _ _ c.refuse-in-Later.ensures.output (λ e. cc) (λ e. cc) is)
-
-pub returns-in-Later-clause-too_large : goal.returns-in-Later-clause-too_large
-returns-in-Later-clause-too_large g c = λ is. absurd (refused _ _ _ _ _ _ c.refuse-in-Later.ensures.output (λ e. cc) (λ e. cc) is)
-
-pub returns-in-Later-clause-deploy_too_large : goal.returns-in-Later-clause-deploy_too_large
-returns-in-Later-clause-deploy_too_large g c = λ is. absurd (refused _ _ _ _ _ _ c.refuse-in-Later.ensures.output (λ e. cc) (λ e. cc) is)
-
-pub returns-in-Later-clause-write : goal.returns-in-Later-clause-write
-returns-in-Later-clause-write g c = λ is. c.refuse-in-Later.ensures.write (λ e. cc) is
-
-pub returns-in-Later-clause-end : goal.returns-in-Later-clause-end
-returns-in-Later-clause-end g c = λ mode steps plays is. absurd (refused _ _ _ _ _ _ c.refuse-in-Later.ensures.output (λ e. cc) (λ e. cc) is)
-
-pub returns-in-Later-clause-end_of_deploy : goal.returns-in-Later-clause-end_of_deploy
-returns-in-Later-clause-end_of_deploy g c = λ reads is. absurd (refused _ _ _ _ _ _ c.refuse-in-Later.ensures.output (λ e. cc) (λ e. cc) is)
-
 pub returns-in-Check-clause-read : goal.returns-in-Check-clause-read
 returns-in-Check-clause-read g c = λ is. inl (c.check.ensures.read is)
 
@@ -86,7 +62,7 @@ pub returns-in-Check-clause-end_of_deploy : goal.returns-in-Check-clause-end_of_
 returns-in-Check-clause-end_of_deploy g c = λ reads is. c.check.ensures.end is
 
 pub returns-in-Check-clause-deploy_unread : goal.returns-in-Check-clause-deploy_unread
-returns-in-Check-clause-deploy_unread g c = λ none. absurd (none (check_reads (texts c.args.words.now) c.in-Some.command (sym c.in-Some.ensures.command) c.in-Check.ensures))
+returns-in-Check-clause-deploy_unread g c = λ none. absurd (none (reads (texts c.args.words.now) c.in-Some.command (sym c.in-Some.ensures.command)))
 
 pub returns-in-Check-clause-disk : goal.returns-in-Check-clause-disk
 returns-in-Check-clause-disk g c = λ is. absurd (check_comes _ _ _ _ _ c.check.ensures.checked (λ e. cc) is)
@@ -104,7 +80,7 @@ pub returns-in-Gen-clause-end_of_deploy : goal.returns-in-Gen-clause-end_of_depl
 returns-in-Gen-clause-end_of_deploy g c = λ reads is. c.write_generated.ensures.end is
 
 pub returns-in-Gen-clause-deploy_unread : goal.returns-in-Gen-clause-deploy_unread
-returns-in-Gen-clause-deploy_unread g c = λ none. absurd (none (gen_reads (texts c.args.words.now) c.in-Some.command (sym c.in-Some.ensures.command) c.in-Gen.seeded c.in-Gen.ensures))
+returns-in-Gen-clause-deploy_unread g c = λ none. absurd (none (reads (texts c.args.words.now) c.in-Some.command (sym c.in-Some.ensures.command)))
 
 pub returns-in-Gen-clause-disk : goal.returns-in-Gen-clause-disk
 returns-in-Gen-clause-disk g c = λ is. absurd (gen_comes _ _ _ _ _ _ _ c.write_generated.ensures.generated (λ e. cc) is)
@@ -122,7 +98,7 @@ pub returns-in-Tend-clause-end_of_deploy : goal.returns-in-Tend-clause-end_of_de
 returns-in-Tend-clause-end_of_deploy g c = λ reads is. c.tend.ensures.end is
 
 pub returns-in-Tend-clause-deploy_unread : goal.returns-in-Tend-clause-deploy_unread
-returns-in-Tend-clause-deploy_unread g c = λ none. absurd (none (task_reads (texts c.args.words.now) c.in-Some.command (sym c.in-Some.ensures.command) c.in-Tend.task c.in-Tend.ensures))
+returns-in-Tend-clause-deploy_unread g c = λ none. absurd (none (reads (texts c.args.words.now) c.in-Some.command (sym c.in-Some.ensures.command)))
 
 pub returns-in-Tend-clause-idle : goal.returns-in-Tend-clause-idle
 returns-in-Tend-clause-idle g c = λ none. absurd (none (task_opens (texts c.args.words.now) c.in-Some.command (sym c.in-Some.ensures.command) c.in-Tend.task c.in-Tend.ensures))
@@ -140,7 +116,7 @@ pub returns-in-Trial-clause-end_of_deploy : goal.returns-in-Trial-clause-end_of_
 returns-in-Trial-clause-end_of_deploy g c = λ reads is. c.try_generated.ensures.end is
 
 pub returns-in-Trial-clause-deploy_unread : goal.returns-in-Trial-clause-deploy_unread
-returns-in-Trial-clause-deploy_unread g c = λ none. absurd (none (trial_reads (texts c.args.words.now) c.in-Some.command (sym c.in-Some.ensures.command) c.in-Trial.seeded c.in-Trial.ensures))
+returns-in-Trial-clause-deploy_unread g c = λ none. absurd (none (reads (texts c.args.words.now) c.in-Some.command (sym c.in-Some.ensures.command)))
 
 pub returns-in-Trial-clause-idle : goal.returns-in-Trial-clause-idle
 returns-in-Trial-clause-idle g c = λ none. absurd (none (trial_opens (texts c.args.words.now) c.in-Some.command (sym c.in-Some.ensures.command) c.in-Trial.seeded c.in-Trial.ensures))
@@ -155,13 +131,16 @@ pub returns-in-Play-clause-end_of_deploy : goal.returns-in-Play-clause-end_of_de
 returns-in-Play-clause-end_of_deploy g c = λ reads is. (c.play_sources.ensures.end is).0
 
 pub returns-in-Play-clause-deploy_unread : goal.returns-in-Play-clause-deploy_unread
-returns-in-Play-clause-deploy_unread g c = λ none. absurd (none (play_reads (texts c.args.words.now) c.in-Some.command (sym c.in-Some.ensures.command) c.in-Play.run' c.in-Play.ensures))
+returns-in-Play-clause-deploy_unread g c = λ none. absurd (none (reads (texts c.args.words.now) c.in-Some.command (sym c.in-Some.ensures.command)))
 
 pub returns-in-Play-clause-idle : goal.returns-in-Play-clause-idle
 returns-in-Play-clause-idle g c = λ none. absurd (none (play_opens (texts c.args.words.now) c.in-Some.command (sym c.in-Some.ensures.command) c.in-Play.run' c.in-Play.ensures))
 
-pub form_of-requires : goal.form_of-requires
-form_of-requires g c = c.in-Some.ensures.in_range
+pub form_of-requires-clause-range : goal.form_of-requires-clause-range
+form_of-requires-clause-range g c = c.in-Some.ensures.in_range
+
+pub form_of-requires-clause-one : goal.form_of-requires-clause-one
+form_of-requires-clause-one g c = one_asked (texts c.args.words.now) c.in-Some.command (sym c.in-Some.ensures.command) c.requires
 
 pub play_sources-requires : goal.play_sources-requires
 play_sources-requires g c = c.in-Play.ensures.1

@@ -22,3 +22,6 @@ returns-clause-complete_task g c =
 pub returns-clause-checked : goal.returns-clause-checked
 returns-clause-checked g c =
     check_whole _ _ _ _ _ _ _ _ _ c.answer.ensures.headline (λ is. of_four _ _ _ _ (c.answer.ensures.read is)) (λ is. inr (inr (inl (c.answer.ensures.write is))))
+
+pub answer-requires : goal.answer-requires
+answer-requires g c = c.requires
