@@ -1,7 +1,7 @@
 #!/usr/bin/env python3
 """Runs the built program where the system refuses it: a folder that can't be written, a full disk, a full standard
 output, a standard input that can't be read, standard streams that are closed, a journal that another program has open or that
-is too long, and calls that signals interrupt (by `strace`, where it is there). Outside the gate.
+is too long, calls that signals interrupt, and each call in turn that fails (both by `strace`, where it is there). Outside the gate.
 
     python3 bench/host_faults.py                  with ./slee
     python3 bench/host_faults.py --cmd PROGRAM    with another program
@@ -25,7 +25,8 @@ import sys
 import tempfile
 import time
 
-from lines import CALLS, deploy, fresh
+from fail_alloc import COMPACT, CREDIT, PLAY, RESUME, SHOW, Row, fault_of_other, fault_of_played
+from lines import CALLS, PREPAID, deploy, fresh
 
 CALL = b"start c1\nfire c1 invite addr=tel:5551\nend c1\n"
 MANY = b"".join(b"start c%d\n" % i for i in range(1, 20_001))
@@ -72,7 +73,7 @@ def flushed(lines):
 def shown_in_copy(command, folder):
     """What `show` gives over a copy of the journal, in a folder that can be written."""
     with fresh() as copy:
-        for name in ("journal.a", "journal.b"):
+        for name in ("deploy.json", "journal.a", "journal.b"):
             if os.path.exists(os.path.join(folder, name)):
                 shutil.copy(os.path.join(folder, name), copy)
         return run(command, ["show"], b"", copy)
@@ -324,6 +325,71 @@ def interrupted_calls(command):
             say(f"interrupted {call}, {times} times", statuses[-1], f"statuses {statuses}, printed {text!r}" if wrong else None)
 
 
+def fault_of_failing(row, status, text, whole, states, shown):
+    """What is wrong about a run in which one call failed, and about what it left."""
+    if status == 3:
+        return None if (text, shown) == ("status 3 read-fault\n", states[0]) else "another text, or something was kept"
+    if status not in (0, 6, 7):
+        return "another status"
+    entries = entries_of(text) if row.is_played() else 0
+    right = states[entries:] if status in (6, 7) else states[entries : entries + 1]
+    fault = fault_of_played(status, text, whole) if row.is_played() else fault_of_other(status, text, whole, 0)
+    return fault or (None if shown in right else f"show ends with {shown[0]}, or gives another state")
+
+
+def failing_once(command, row, lines, call, number):
+    """The status, the text and what `show` gives of a run whose call of this number fails, and what it gives behind `resume` with
+    these lines; None where it makes no such call."""
+    with row.folder() as folder:
+        row.begin(command, folder)
+        if row.before:
+            with open(os.path.join(folder, "journal.a"), "ab") as f:
+                f.write(b"left behind by a stop, and cut off by the next run")
+        status, text, calls = traced(command, row.words, row.lines, folder, call, "-e", f"inject={call}:error=EIO:when={number}")
+        shown = shown_in_copy(command, folder)
+        run(command, RESUME, lines, folder)
+        ended = run(command, SHOW, b"", folder)
+    return (status, text, shown, ended) if any("(INJECTED)" in line for line in calls) else None
+
+
+def failing_calls(command):
+    """Each call of each kind fails in turn with EIO: while a journal is begun, while it is found with something behind its end, and while it
+    is compacted. What is left is shown, and a later run comes to the end that it comes to without a fault."""
+    if shutil.which("strace") is None:
+        print("failing calls: skipped, strace isn't here")
+        return
+    rows = (
+        (Row("a call", CALLS, [], RESUME, CALL), CALL),
+        (Row("a call that goes on", CALLS, [(["play", "1", "2"], CALL)], RESUME, CALL), CALL),
+        (Row("a call with credit", PREPAID, [], RESUME, CREDIT), CREDIT),
+        (Row("compacting it", PREPAID, [(PLAY, CREDIT)], COMPACT), CREDIT),
+    )
+    for row, lines in rows:
+        with row.folder() as folder:
+            row.begin(command, folder)
+            before = run(command, SHOW, b"", folder)
+            whole = run(command, row.words, row.lines, folder)[1]
+            end = run(command, SHOW, b"", folder)
+        states = row.states(command, whole) if row.is_played() else [before]
+        for call in CALLED:
+            fail_each(command, row, lines, call, whole, states, end)
+
+
+def fail_each(command, row, lines, call, whole, states, end):
+    """The same for one kind of call."""
+    with row.folder() as folder:
+        number = len(traced(command, ["--version"], b"", folder, call)[2]) + 1
+    statuses, wrong = [], []
+    while answer := failing_once(command, row, lines, call, number):
+        status, text, shown, ended = answer
+        fault = fault_of_failing(row, status, text, whole, states, shown)
+        fault = fault or (None if ended == end else f"a later run comes to another end: {ended}")
+        wrong += [f"{number}: {fault}, printed {text[-100:]!r}"] if fault else []
+        statuses.append(status)
+        number += 1
+    say(f"failing {call} of {row.name}, {len(statuses)} in turn, statuses {statuses}", 0, "; ".join(wrong))
+
+
 def main():
     here = os.path.dirname(os.path.abspath(__file__))
     parser = argparse.ArgumentParser()
@@ -338,6 +404,7 @@ def main():
     written_meanwhile(command)
     long_file(command)
     interrupted_calls(command)
+    failing_calls(command)
     read_only_folder(command)
     full_disk(command)
     if WRONG:

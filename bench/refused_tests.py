@@ -8,7 +8,8 @@
 The test `want_of_memory::a_refused_allocation_leaves_a_front_of_the_call` of test_recovery plays a call over objects in memory. With
 an allocation refused the run has to end with 12 or with the row's own text (with 6 or 7 where the growth of the sink or of the
 disk was refused), and what any stop in any call of its disk leaves has to be shown as the state behind some of the
-call's entries. The test says so itself, so it has to pass; of test_recovery it alone is run.
+call's entries. `want_of_memory::what_is_kept_at_want_of_memory_is_printed` of test_faults plays it too: at 12 the trace of all that is kept has
+to be out. These tests say so themselves, so they have to pass; of their crates they alone are run.
 
 A test of another crate has to pass, or to end with want of memory: another answer in its place fails here. The tests over
 sinks and disks in memory may also stop where such an object answered a fault of its own, as it does when it can't grow.
@@ -23,8 +24,11 @@ import tempfile
 from fail_alloc import library
 
 TOP = os.path.dirname(os.path.dirname(os.path.abspath(__file__)))
-CRATES = ("test_recovery", "test_values", "test_lines", "test_disks")
-WHOLE_CALL = "want_of_memory::a_refused_allocation_leaves_a_front_of_the_call"
+CRATES = ("test_recovery", "test_faults", "test_values", "test_lines", "test_disks")
+WHOLE_CALLS = {
+    "test_recovery": "want_of_memory::a_refused_allocation_leaves_a_front_of_the_call",
+    "test_faults": "want_of_memory::what_is_kept_at_want_of_memory_is_printed",
+}
 # How want of memory is told: by the crates of this repository, and by the library.
 NO_MEMORY = ("NoMemory", "OutOfMemory", "AllocError", "AllocFailed")
 # Tests over objects in memory that answer a fault where they can't grow.
@@ -48,8 +52,8 @@ def tests_of(crate):
     if not os.path.exists(built):
         print(f"the tests of {crate} are built first", file=sys.stderr)
         subprocess.run(["rt", "test"], cwd=folder, stdout=subprocess.DEVNULL, check=True)
-    if crate == "test_recovery":
-        return built, [WHOLE_CALL]
+    if crate in WHOLE_CALLS:
+        return built, [WHOLE_CALLS[crate]]
     _, text = run(built, ["--list"], {})
     return built, [line[: -len(": test")] for line in text.split("\n") if line.endswith(": test")]
 
@@ -61,7 +65,7 @@ def is_well(test, status, text):
     stopped = "test stopped at" in text
     failed = "the test failed" in text
     told = any(it in text for it in NO_MEMORY) or (stopped and test in OVER_OBJECTS)
-    return test != WHOLE_CALL and (stopped or failed) and told
+    return test not in WHOLE_CALLS.values() and (stopped or failed) and told
 
 
 def chosen(count, most):
