@@ -8,10 +8,10 @@ usage: slee WORDS
 
   check      reads the deployment, deploy.json, and prints how many events,
              profiles, tables, blocks and services it has, and a status line
-  play 1 S   plays the signal lines of standard input with one worker, in at most
-             S entries (1 to 1000000), and prints the trace, the usage totals and
-             a status line
-  resume 1 S as play, but behind as many lines as the journal has taken
+  play W S   plays the signal lines of standard input with W workers (1 to 64), in
+             at most S entries (1 to 1000000), and prints the trace, the usage
+             totals and a status line
+  resume W S as play, but behind as many lines as the journal has taken
   show       prints the state that the journal has, and a status line
   compact    writes a snapshot of that state to the other side of the journal, in
              place of its records, and prints that side's generation and a status
@@ -22,9 +22,6 @@ usage: slee WORDS
              plays generated lines, and prints a summary and a status line
   --help     prints this text
   --version  prints the version
-
-These forms are known and not built yet: play W S and resume W S with W workers
-(2 to 64).
 
 Signal lines, each ended by a newline, at most 4096 bytes long, 16777216 in all:
   start NAME                       an external activity of this name starts
@@ -48,7 +45,7 @@ The journal is two files of the folder where it runs, journal.a and journal.b.
 They are made where they are missing. Each entry is kept there, and synced,
 before it counts; a later run goes on from the state that they have. No other
 file is written, and deploy.json alone is read besides. check and gen leave the
-journal alone. So do statuses 2, 3, 4, 5, 13 and 14; 8 and 9 leave it as it is.
+journal alone. So do statuses 2, 3, 4, 5 and 13; 8 and 9 leave it as it is.
 
 Statuses, printed last but by --help and --version, and the exit status:
   0 ok             all lines were taken, and no choice is left; or the deployment
@@ -84,7 +81,6 @@ Statuses, printed last but by --help and --version, and the exit status:
   13 too-large WHAT
                    deploy.json has more than 1048576 bytes (deploy), or standard
                    input gave more than 16777216 (signals)
-  14 not-built     the words ask what isn't built yet
 
 example:
   printf 'start c1\\nfire c1 invite addr=tel:5551\\nend c1\\n' | slee play 1 100

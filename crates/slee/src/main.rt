@@ -2,21 +2,28 @@
 #![tactic(auto)]
 
 mod help;
+mod kept;
+mod telling;
 
 use help::{HELP, VERSION};
 use initial_select::{SelectRule, Selector, Selectors, custom_name};
+use kept::KeepingSource;
 use slee_disk::{HostDisk, HostSink, HostSource, LateFile, write_whole};
-use slee_run::{Status, run_one};
+use slee_run::{Status, run};
 use slee_value::NoMemory;
 use std::fs::File;
 use std::process::ExitCode;
+use std::sync::Wait;
+use std::thread::Threads;
 use std::{env, io};
+use telling::explain;
+use worker_gate::OpenGate;
 
 fn main(rt: HostRuntime) -> ExitCode {
     let status = match words_of(&rt) {
-        Ok(words) => start(&rt, words.as_slice()),
+        Ok(words) => start(&rt, &rt, words.as_slice()),
         Err(error) if error.kind() == io::ErrorKind::OutOfMemory => Status::NoMemory,
-        Err(_) => refuse(&rt),
+        Err(_) => refuse(&rt, &rt),
     };
     ExitCode::from(status.code())
 }
@@ -31,19 +38,20 @@ fn words_of(rt: &HostRuntime) -> io::Result<Vec<String>> {
 }
 
 /// Words that are no text are of no form.
-fn refuse(rt: &HostRuntime) -> Status {
-    match run(rt, &[]) {
+fn refuse<R: Threads + Wait + Sync>(rt: &HostRuntime, threads: &R) -> Status {
+    match run_selecting(rt, threads, &[]) {
         Ok(status) => status,
         Err(NoMemory) => Status::NoMemory,
     }
 }
 
-/// Does what the words say. Where no memory is found to begin with, nothing is printed.
-fn start(rt: &HostRuntime, words: &[String]) -> Status {
+/// Does what the words say, with threads by the handle that only `main` has. Where no memory is found to begin with, nothing is
+/// printed.
+fn start<R: Threads + Wait + Sync>(rt: &HostRuntime, threads: &R, words: &[String]) -> Status {
     match words {
         [word] if word.as_str() == "--help" => print(rt, HELP),
         [word] if word.as_str() == "--version" => print(rt, VERSION),
-        _ => match run_words(rt, words) {
+        _ => match run_words(rt, threads, words) {
             Ok(status) => status,
             Err(NoMemory) => Status::NoMemory,
         },
@@ -58,16 +66,24 @@ fn print(rt: &HostRuntime, text: &str) -> Status {
     }
 }
 
-fn run_words(rt: &HostRuntime, words: &[String]) -> Result<Status, NoMemory> {
+fn run_words<R: Threads + Wait + Sync>(
+    rt: &HostRuntime,
+    threads: &R,
+    words: &[String],
+) -> Result<Status, NoMemory> {
     let mut list = Vec::new(rt.alloc());
     for word in words {
         list.push(word.as_str())?;
     }
-    run(rt, list.as_slice())
+    run_selecting(rt, threads, list.as_slice())
 }
 
 /// Calls the top call with a selector of each rule: a closure that answers what the rule gives.
-fn run(rt: &HostRuntime, words: &[&str]) -> Result<Status, NoMemory> {
+fn run_selecting<R: Threads + Wait + Sync>(
+    rt: &HostRuntime,
+    threads: &R,
+    words: &[&str],
+) -> Result<Status, NoMemory> {
     let alloc = rt.alloc();
     let whole = Box::new(alloc, move |text: &[u8]| {
         custom_name(alloc, SelectRule::Whole, text)
@@ -87,22 +103,29 @@ fn run(rt: &HostRuntime, words: &[&str]) -> Result<Status, NoMemory> {
         Selector::new(SelectRule::Scheme, scheme),
         Selector::new(SelectRule::Screened, screened),
     );
-    Ok(run_on_files(rt, words, &selectors))
+    Ok(run_on_files(rt, threads, words, &selectors))
 }
 
 /// Calls the top call on the files of this folder. The system gives the place of a standard stream that is closed to the
 /// next file that is opened: a folder takes it, which can be neither read nor written, and so no file of the journal does.
-fn run_on_files(rt: &HostRuntime, words: &[&str], selectors: &Selectors) -> Status {
+fn run_on_files<R: Threads + Wait + Sync>(
+    rt: &HostRuntime,
+    threads: &R,
+    words: &[&str],
+    selectors: &Selectors,
+) -> Status {
     let _places = (
         File::open(rt, "/"),
         File::open(rt, "/"),
         File::open(rt, "/"),
     );
-    let mut deploy = HostSource::new(LateFile::new(rt, "deploy.json"));
+    let file = HostSource::new(LateFile::new(rt, "deploy.json"));
+    let mut deploy = KeepingSource::new(rt.alloc(), file);
     let mut signals = HostSource::new(rt.reader());
     let mut out = HostSink::new(io::writer(rt));
     let disk = HostDisk::new(rt, ".", "journal.a", "journal.b");
-    let (status, _disk) = run_one(
+    let (status, _disk) = run(
+        threads,
         rt.alloc(),
         words,
         &mut deploy,
@@ -110,6 +133,8 @@ fn run_on_files(rt: &HostRuntime, words: &[&str], selectors: &Selectors) -> Stat
         &mut out,
         disk,
         selectors,
+        &OpenGate,
     );
+    explain(rt, &status, deploy.given());
     status
 }
