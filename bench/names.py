@@ -4,15 +4,17 @@
     bench/names.py
 
 In README.md, docs, bench, examples, .ci/run and the program's words: each path (crates/.., trials/.., bench/.., docs/.., examples/..,
-CRATE/specs/FILE, CRATE.specs.FILE, CRATE/src/FILE.rt) is there; each name in backticks that has an underscore is a crate, a wrong body, a file or a word of
-the sources; and each crate with a row in docs/ARCHITECTURE.md, but in the gate's table, has one row. Every crate has its row there and
-its line in crates.txt, under the same headings, and each folder of trials/ is a crate's. (What wrong bodies cite is looked at by
-`bench/trials.py --texts`.)
+CRATE/specs/FILE, CRATE.specs.FILE, CRATE/src/FILE.rt) is there, one of a crate in apart/ as in a copy that has it among its crates; each
+name in backticks that has an underscore is a crate, a wrong body, a file or a word of the sources; and each crate with a row in
+docs/ARCHITECTURE.md, but in the gate's table, has one row. Every crate has its row there and its line in crates.txt, or in apart/lines,
+under the same headings, and each folder of trials/ is a crate's. (What wrong bodies cite is looked at by `bench/trials.py --texts`.)
 """
 import glob
 import os
 import re
 import sys
+
+import apart
 
 TOP = os.path.dirname(os.path.dirname(os.path.abspath(__file__)))
 MARKED = re.compile(r"<!-- made by (\S+): begin -->.*?<!-- made by \1: end -->", re.S)
@@ -30,8 +32,18 @@ def files(*patterns):
     return sorted(path for path in found if os.path.isfile(os.path.join(TOP, path)))
 
 
-def crates():
+def of_the_gate():
     return set(os.listdir(os.path.join(TOP, "crates")))
+
+
+def crates():
+    return of_the_gate() | set(apart.names())
+
+
+def is_there(path):
+    """Whether a path names something, or would in a copy with the crates of apart/."""
+    kept = re.sub(r"^crates/", "apart/", path)
+    return any(os.path.exists(os.path.join(TOP, it)) for it in (path, kept, kept + ".txt"))
 
 
 def outside():
@@ -42,7 +54,7 @@ def outside():
 
 def words_of_sources():
     words = set()
-    for path in files("crates/*/src/**/*.rt", "crates/*/specs/**/*.antt", "crates/*/proofs/**/*.antt", "bench/*.py"):
+    for path in files(*(f"{it}/*/{part}" for it in ("crates", "apart") for part in ("src/**/*.rt*", "specs/**/*.antt*", "proofs/**/*.antt*")), "bench/*.py"):
         words |= set(re.findall(r"[A-Za-z_]\w*", read(path)))
     return words
 
@@ -60,17 +72,17 @@ def wrong_paths(name, text):
         whole = path.rstrip(".")
         if re.search(r"\b[A-Z]{3,}\b", re.sub(r"[A-Z]+\.md|README", "", whole)) or "out/" in whole:
             continue
-        if not (os.path.exists(os.path.join(TOP, whole))):
+        if not is_there(whole):
             yield f"{name}: no {path}"
     for crate, kind, rest in re.findall(r"(?<![\w/])([a-z]\w*)/(specs|src)(?:/([\w/]+(?:\.rt)?))?", text):
         folder = f"crates/{crate}/{kind}"
         if crate in ("crates", "CRATE"):
             continue
         suffix = "" if kind == "src" else ".antt"
-        if not os.path.isdir(os.path.join(TOP, folder)) or (rest and not os.path.exists(os.path.join(TOP, folder, rest + suffix))):
+        if not is_there(folder) or (rest and not is_there(f"{folder}/{rest}{suffix}")):
             yield f"{name}: no {crate}/{kind}/{rest}"
     for crate, file in re.findall(r"\b([a-z]\w*)\.specs\.([A-Z]\w*)", text):
-        if crate not in outside() and not os.path.exists(os.path.join(TOP, "crates", crate, "specs", file + ".antt")):
+        if crate not in outside() and not is_there(f"crates/{crate}/specs/{file}.antt"):
             yield f"{name}: no {crate}.specs.{file}"
     for program in re.findall(r"[\"']((?:golden|bench)_\w+)[\"']", text):
         if program not in crates():
@@ -95,10 +107,12 @@ def wrong_rows():
             yield f"docs/ARCHITECTURE.md: {crate} has {rows.count(crate)} rows"
     for crate in sorted(crates() ^ set(rows)):
         yield f"docs/ARCHITECTURE.md: {crate} " + ("has no row" if crate in crates() else "is no crate")
-    lines = [line.split(":")[0] for line in read("crates.txt").split("\n") if ":" in line.split("#")[0]]
-    for crate in sorted(crates() ^ set(lines)):
-        yield f"crates.txt: {crate} " + ("has no line" if crate in crates() else "is no crate")
-    headings = [line[2:].split(":")[0].split(",")[0] for line in read("crates.txt").split("\n")[1:] if line.startswith("# ")]
+    for page_of, there in (("crates.txt", of_the_gate()), ("apart/lines", set(apart.names()))):
+        lines = [line.split(":")[0] for line in read(page_of).split("\n") if ":" in line.split("#")[0]]
+        for crate in sorted(there ^ set(lines)):
+            yield f"{page_of}: {crate} " + ("has no line" if crate in there else "is no crate")
+    listed = read("crates.txt").split("\n")[1:] + read("apart/lines").split("\n")
+    headings = [line[2:].split(":")[0].split(",")[0] for line in listed if line.startswith("# ")]
     for heading in headings:
         if not re.search(rf"^### {re.escape(heading)}", page, re.M | re.I):
             yield f"docs/ARCHITECTURE.md: no heading {heading}"

@@ -17,8 +17,7 @@ import re
 import sys
 
 TOP = os.path.dirname(os.path.dirname(os.path.abspath(__file__)))
-LEFT_OUT = ("test_", "golden_", "bench_")
-WORDS_OF_TESTS = ("state_words", "change_making")
+LEFT_OUT = ("test_",)
 SHORT_CUT = "None says that the general way is taken, which gives the same"
 FILE_FAULT = "nothing is said of a file that fails; the disk over it counts the fault"
 BUILT = re.compile(r"\w+: &mut (?:Vec<|String\b|Draft\b|Changes\b|Locals<|Fields\b|MemorySink\b)")
@@ -40,7 +39,7 @@ OF_OK = re.compile(r"\b(?:IfOk|OnOk|IfSome|OnSome) result\b *")
 def crates():
     with open(f"{TOP}/crates.txt", encoding="utf-8") as file:
         found = re.findall(r"^(\w+):", file.read(), re.M)
-    return [it for it in found if not it.startswith(LEFT_OUT) and it not in WORDS_OF_TESTS]
+    return [it for it in found if not it.startswith(LEFT_OUT)]
 
 
 def signature(lines, at):

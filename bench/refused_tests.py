@@ -1,5 +1,6 @@
 #!/usr/bin/env python3
-"""Refuses each allocation of each test in turn, in the crates of tests as they are built. Outside the gate.
+"""Refuses each allocation of each test in turn, in the crates of tests as they are built. Outside the gate, in a copy that
+bench/apart.py --put makes, since these crates stand in apart/.
 
     python3 bench/refused_tests.py                 all of them; a crate's tests are built by `rt test` if they aren't there
     python3 bench/refused_tests.py test_disks       the tests of these crates
