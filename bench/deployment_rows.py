@@ -4,11 +4,11 @@
     python3 bench/deployment_rows.py             do the definitions of deploy_model say the same? Without the tool that
                                                  evaluates definitions (deployments.py says where it is looked for) nothing is run
     python3 bench/deployment_rows.py --program   does the built program golden_parts? (cd crates/golden_parts && rt run < stdin)
-    python3 bench/deployment_rows.py --write     writes what the gate runs that program on, and what it has to print
+    python3 bench/deployment_rows.py --write     writes what that program is run on when it is proved, and what it has to print
 
 The rows are: deployments one by one; one good deployment with each fault that parts can have, in the order of the walk, alone and
-together with the next one behind it (with every later one where the gate doesn't run); lists of thousands of items; and questions
-by key. The gate runs all but the pairs that don't stand side by side and most of the long lists.
+together with the next one behind it (with every later one by --program alone); lists of thousands of items; and questions
+by key. --write leaves out the pairs that don't stand side by side and most of the long lists.
 """
 import copy
 import json
@@ -314,7 +314,7 @@ ASKED = [
         ("handlers timer", "[1, 4, 7, 10]"), ("blocks b11", "Some(11)"), ("blocks b12", "None")]),
 ]
 
-# How long the lists are that the gate builds, and those that it doesn't.
+# How long the lists are that --write has, and those that it leaves out.
 LONG_LIST, LONGER_LISTS = 1_000, (1_000, 5_000)
 
 KIND = {"int": "Int", "text": "Text", "bool": "Bool", "activity": "Activity", "timer": "Timer"}
@@ -414,7 +414,7 @@ def row_and_answer(d, wanted, asked=()):
     return line, [told(wanted) if wanted else counts(d), *(f"  {question}: {reply}" for question, reply in asked)]
 
 
-def of_the_gate():
+def rows_kept():
     rows = [row_and_answer(d, wanted) for _, d, wanted in [*ROWS, *alone_and_in_pairs()]]
     asked = [row_and_answer(d, None, questions) for _, d, questions in ASKED]
     long = [row_and_answer(d, wanted) for name, d, wanted in many(LONG_LIST) if name in ("as many tables", "a key at both ends of blocks")]
@@ -422,7 +422,7 @@ def of_the_gate():
 
 
 def write():
-    for name, text in zip(("stdin", "stdout"), texts(of_the_gate())):
+    for name, text in zip(("stdin", "stdout"), texts(rows_kept())):
         with open(os.path.join(CRATE, name), "w", encoding="utf-8") as f:
             f.write(text)
 
@@ -433,7 +433,7 @@ def texts(rows):
 
 
 def run_program():
-    rows = [*of_the_gate(), *(row_and_answer(d, wanted) for _, d, wanted in [*other_pairs(), *long_lists(LONGER_LISTS)])]
+    rows = [*rows_kept(), *(row_and_answer(d, wanted) for _, d, wanted in [*other_pairs(), *long_lists(LONGER_LISTS)])]
     given, wanted = texts(rows)
     done = subprocess.run([os.path.join(CRATE, "out", "golden_parts")], input=given, capture_output=True, text=True, check=False)
     differ = 0

@@ -23,7 +23,7 @@ FOLDER = os.path.join(TOP, "crates", "golden_state")
 PROGRAM = os.path.join(FOLDER, "out", "golden_state")
 CHANGE = "router_state.change.Change"
 LISTS_AT_ONCE = 50
-# a case with a longer text isn't a row of the gate
+# a case with a longer text isn't a row that --write keeps
 LONG_ROW = 6_000
 LAST_MOMENT = 4 * 10**15
 HIGH = 2**62

@@ -31,7 +31,7 @@ TOP = deployments.TOP
 FOLDER = os.path.join(TOP, "crates", "golden_steps")
 PROGRAM = os.path.join(FOLDER, "out", "golden_steps")
 KINDS = {"Initial": "initial", "Deliver": "deliver", "Finish": "finish"}
-# a case with a longer text isn't a row of the gate
+# a case with a longer text isn't a row that --write keeps
 LONG_ROW = 6_000
 ROW_STEPS = 60
 LAST_STEPS = 10
